@@ -13,7 +13,7 @@ use Rattle.law_program.specs.PlayedCalls.NewFiles.{NewFilesPlayMap}
 use Rattle.law_program.specs.PlayedCalls.Scripts.{IsPlayOfMap, SessionOp, op_line}
 use Rattle.fkv_runs.specs.Pieces.{ArePieces}
 use Rattle.fkv_runs.specs.declared.pieces.Piece.{Piece}
-use Rattle.fkv_cli.specs.Output.{Devices, IsOutputOf, IsPlayed, IsRunInNewFile, IsRunOfScript, IsRunOfShape, IsRunOfStore, IsRunOfText, mode_of, script_limit}
+use Rattle.fkv_cli.specs.Output.{Devices, IsOutputOf, IsPlayed, IsRunInNewFile, IsRunOfScript, IsRunOfShape, IsRunOfStore, IsRunOfText, mode_of, path_in, script_limit}
 use Rattle.fkv.specs.Replies.{IsScriptOf, PrintsMapOfFileScript}
 use Rattle.fkv.proofs.Replies.{not_2, not_3, zero_is_4}
 use Rattle.fkv.proofs.ScriptFits.{AreFitting, fitting}
@@ -22,15 +22,15 @@ is_there : {A B : Type 0} (f : A → B) (its : Option A) → is_some its ≡ is_
 is_there f None = refl
 is_there f (Some x) = refl
 
-module _ {M F : Type 0} (devices : Devices M F) (plays : NewFilesPlayMap devices.file) (options : Options) (sizes : Sizes) (ops : List SessionOp) (bytes : List ℕ) (script : IsScriptOf mode.File bytes sizes ops) (text : List ℕ) where
-  in_new_file : (shape : Shape) (pieces : List Piece) → ArePieces false (map op_line ops) pieces → IsRunInNewFile devices.file shape pieces 0 text → IsPlayOfMap empty ops text
+module _ {M F : Type 0} (devices : Devices M F) (plays : NewFilesPlayMap devices.file.engine) (options : Options) (sizes : Sizes) (ops : List SessionOp) (bytes : List ℕ) (script : IsScriptOf mode.File bytes sizes ops) (text : List ℕ) where
+  in_new_file : (shape : Shape) (pieces : List Piece) → ArePieces false (map op_line ops) pieces → IsRunInNewFile devices.file (path_in options.file) shape pieces 0 text → IsPlayOfMap empty ops text
   in_new_file shape pieces are its = by_end its.life.played
     where
       numbers : AreFitting ops
       numbers = fitting mode.File (take script_limit bytes) ops (record { opening = Some (opening.Shape sizes); lines = map op_line ops }) script refl
 
-      by_end : IsPlayed devices.file pieces its.life.player 0 text → IsPlayOfMap empty ops text
-      by_end (inl run) = plays shape its.opened its.life.device [] false its.life.player pieces ops text its.is_new its.life.begins are numbers.fit numbers.few run.1
+      by_end : IsPlayed devices.file.engine pieces its.life.player 0 text → IsPlayOfMap empty ops text
+      by_end (inl run) = plays shape its.opened its.device [] false its.life.player pieces ops text its.is_new its.life.begins are numbers.fit numbers.few run.1
       by_end (inr off) = absurd (zero_is_4 off.0)
 
   of_store : (shape : Shape) (pieces : List Piece) (in_file : Bool) → in_file ≡ true → ArePieces false (map op_line ops) pieces → IsRunOfStore devices options (Some shape) pieces 0 text in_file → IsPlayOfMap empty ops text
@@ -51,7 +51,7 @@ module _ {M F : Type 0} (devices : Devices M F) (plays : NewFilesPlayMap devices
       = ap (λ (x : Bool). script_of (mode_of x) (take script_limit bytes)) file ∙ script in
       of_script file seed (subst (λ (x : Result ScriptText LineFault). IsRunOfText devices options x 0 text) said its)
 
-prints_map : {M F : Type 0} (devices : Devices M F) → NewFilesPlayMap devices.file → (words : List (List ℕ)) (known : Option (List ℕ)) (text : List ℕ) → IsOutputOf devices words known 0 text → PrintsMapOfFileScript words known text
+prints_map : {M F : Type 0} (devices : Devices M F) → NewFilesPlayMap devices.file.engine → (words : List (List ℕ)) (known : Option (List ℕ)) (text : List ℕ) → IsOutputOf devices words known 0 text → PrintsMapOfFileScript words known text
 prints_map devices plays words known text (inl refused) plain bytes sizes ops is script = absurd (not_2 refused.answers)
 prints_map devices plays words known text (inr its) plain bytes sizes ops is script =
     of_text devices plays its.options sizes ops bytes script text (is_there string_bytes its.options.file ∙ ap is_some its.asked.file ∙ plain.0) (its.asked.seed ∙ plain.1)
@@ -59,6 +59,6 @@ prints_map devices plays words known text (inr its) plain bytes sizes ops is scr
 
 -- so it is of what a run with status 0 has written
 pub writes_file_map : {M F : Type 0} (devices : Devices M F) (words : List (List ℕ)) (known : Option (List ℕ)) (status : ℕ) (a b : Option (List ℕ)) → (status ≢ 4 → Writes (IsOutputOf devices words known status) a b)
-    → NewFilesPlayMap devices.file → status ≡ 0 → Writes (PrintsMapOfFileScript words known) a b
+    → NewFilesPlayMap devices.file.engine → status ≡ 0 → Writes (PrintsMapOfFileScript words known) a b
 writes_file_map devices words known status a b whole plays e =
     let h = whole (λ f. zero_is_4 (sym e ∙ f)) in (h.0, prints_map devices plays words known h.0 (subst (λ (n : ℕ). IsOutputOf devices words known n h.0) e h.1), h.2)

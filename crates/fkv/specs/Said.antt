@@ -3,7 +3,7 @@ pub use Rattle.clap.specs.Walk.{texts}
 pub use Rattle.fkv.specs.AllLives.{ReportsOfAllLives}
 pub use Rattle.fkv.specs.Lives.{PrintsInLives}
 pub use Rattle.fkv.specs.Replies.{PrintsMapOfFileScript, PrintsMapOfScript, ReplyLineByLine}
-pub use Rattle.fkv_cli.specs.Output.{IsOutputOf}
+pub use Rattle.fkv_cli.specs.Output.{IsOutputOf, places_of}
 pub use Rattle.fkv_playing.specs.InTurn.{Writes}
 pub use Rattle.fkv_playing.specs.Players.{EngineStep}
 pub use Rattle.fkv_runs.specs.Beginnings.{BreaksOff}

@@ -2,8 +2,8 @@
 ghost use Rattle.std.specs.Prelude.{◌≡◌, ◌≢◌};
 ghost use Rattle.fkv.specs.Said as said;
 
-use fkv_disk::{Device, FileDisk, Fuse, MemDisk};
-use fkv_files::Lockable;
+use fkv_disk::{Device, Fuse, MemDisk};
+use fkv_files::StorePlaces;
 use fkv_playing::Breaks;
 use fkv_runs::Crashes;
 use law_program::{
@@ -13,13 +13,12 @@ use law_program::{
 };
 use std::alloc::Global;
 use std::io::{Read, Write};
-use std::rt::Files;
 
 /// Runs the program, as `fkv_cli::run` does. With status 0, a script of operations alone for a new store, in memory (`replies`) or in a
 /// file (`file_replies`), of which none is interleaved with another, prints what the plain map says: each reply is the map's on the
 /// operations so far, and each read gives its key's value. An operation that has to wait, or is refused, says so and leaves the map. Each
 /// line of an operation is answered so in every other script without a seed, by the map of the history so far, in a life
-/// that shows the world (`lines`, `file_lines`). The life of a new store is such a one as it begins (`law_new_files`).
+/// that shows the world (`lines`, `file_lines`). So over a file a life goes on by each line as in memory, if the devices of files are honest (`each_file_line`). The life of a new store is such a one as it begins (`law_new_files`).
 /// In memory a life goes on by each line of a call too, by the keeper's and by each finish, and shows the device behind it (`each_line`).
 /// What a poll has finished is as the history says, a read as at its call, and just the commits finish that turns tell as finished. Each life begins so, the first one and each behind a crash (`lives`). A line by which
 /// a call of the device is to fail, or a crash to strike, leaves it (`armed`). So the pieces of a script that are played in memory go on,
@@ -28,8 +27,8 @@ use std::rt::Files;
 /// one current commit keeps of such a life, and no image of a crash is refused but by the device (`kept`). Take a script for a new store in memory, with a seed or without.
 /// Each of its crashes reports what its points keep of all lives before. If the words ask for checks, each of these reports ends in the line that says that the
 /// recovered store equals the replay (`all_lives`). A script's lines are few, and so are the calls that begin in its lives.
-pub fn run<H: Files, R: Read + Drop, W: Write, E: Write>(
-    rt: &H,
+pub fn run<S: StorePlaces, R: Read + Drop, W: Write, E: Write>(
+    places: &S,
     alloc: Global,
     words: &[&str],
     input: R,
@@ -37,9 +36,9 @@ pub fn run<H: Files, R: Read + Drop, W: Write, E: Write>(
     complaints: &mut E,
 ) -> u8
 where
-    H::File: Lockable,
-    ensures whole { result ≢ 4 → said.Writes (said.IsOutputOf (record { memory = said.medium_of ⟦<Fuse<MemDisk> as Device>⟧.honest ⟦<Fuse<MemDisk> as Device>⟧.seen ⟦<Fuse<MemDisk> as Device>⟧.may_leave ⟦<Fuse<MemDisk> as Device>⟧.failed ⟦<Fuse<MemDisk> as Device>⟧.refuses ⟦<Fuse<MemDisk> as Breaks>⟧.broken ⟦<Fuse<MemDisk> as Crashes>⟧.image ⟦<Fuse<MemDisk> as Crashes>⟧.armed; file = said.EngineStep ⟦<FileDisk<H::File> as Device>⟧.honest ⟦<FileDisk<H::File> as Device>⟧.seen ⟦<FileDisk<H::File> as Device>⟧.may_leave ⟦<FileDisk<H::File> as Device>⟧.failed ⟦<FileDisk<H::File> as Device>⟧.refuses ⟦<FileDisk<H::File> as Breaks>⟧.broken }) (said.texts words.now) (R.remaining input) result) (W.contents output.old) (W.contents output.new) }
-    ensures part { result ≡ 4 → said.BreaksOff (said.IsOutputOf (record { memory = said.medium_of ⟦<Fuse<MemDisk> as Device>⟧.honest ⟦<Fuse<MemDisk> as Device>⟧.seen ⟦<Fuse<MemDisk> as Device>⟧.may_leave ⟦<Fuse<MemDisk> as Device>⟧.failed ⟦<Fuse<MemDisk> as Device>⟧.refuses ⟦<Fuse<MemDisk> as Breaks>⟧.broken ⟦<Fuse<MemDisk> as Crashes>⟧.image ⟦<Fuse<MemDisk> as Crashes>⟧.armed; file = said.EngineStep ⟦<FileDisk<H::File> as Device>⟧.honest ⟦<FileDisk<H::File> as Device>⟧.seen ⟦<FileDisk<H::File> as Device>⟧.may_leave ⟦<FileDisk<H::File> as Device>⟧.failed ⟦<FileDisk<H::File> as Device>⟧.refuses ⟦<FileDisk<H::File> as Breaks>⟧.broken }) (said.texts words.now) (R.remaining input) 4) (W.contents output.old) (W.contents output.new) }
+    S::Disk: Breaks,
+    ensures whole { result ≢ 4 → said.Writes (said.IsOutputOf (record { memory = said.medium_of ⟦<Fuse<MemDisk> as Device>⟧.honest ⟦<Fuse<MemDisk> as Device>⟧.seen ⟦<Fuse<MemDisk> as Device>⟧.may_leave ⟦<Fuse<MemDisk> as Device>⟧.failed ⟦<Fuse<MemDisk> as Device>⟧.refuses ⟦<Fuse<MemDisk> as Breaks>⟧.broken ⟦<Fuse<MemDisk> as Crashes>⟧.image ⟦<Fuse<MemDisk> as Crashes>⟧.armed; file = said.places_of S.Disk.honest S.Disk.seen S.Disk.may_leave S.Disk.failed S.Disk.refuses S.Disk.broken (S.is_opened places.now) (S.is_made places.now) }) (said.texts words.now) (R.remaining input) result) (W.contents output.old) (W.contents output.new) }
+    ensures part { result ≡ 4 → said.BreaksOff (said.IsOutputOf (record { memory = said.medium_of ⟦<Fuse<MemDisk> as Device>⟧.honest ⟦<Fuse<MemDisk> as Device>⟧.seen ⟦<Fuse<MemDisk> as Device>⟧.may_leave ⟦<Fuse<MemDisk> as Device>⟧.failed ⟦<Fuse<MemDisk> as Device>⟧.refuses ⟦<Fuse<MemDisk> as Breaks>⟧.broken ⟦<Fuse<MemDisk> as Crashes>⟧.image ⟦<Fuse<MemDisk> as Crashes>⟧.armed; file = said.places_of S.Disk.honest S.Disk.seen S.Disk.may_leave S.Disk.failed S.Disk.refuses S.Disk.broken (S.is_opened places.now) (S.is_made places.now) }) (said.texts words.now) (R.remaining input) 4) (W.contents output.old) (W.contents output.new) }
     ensures replies { result ≡ 0 → said.Writes (said.PrintsMapOfScript (said.texts words.now) (R.remaining input)) (W.contents output.old) (W.contents output.new) }
     ensures file_replies { result ≡ 0 → said.Writes (said.PrintsMapOfFileScript (said.texts words.now) (R.remaining input)) (W.contents output.old) (W.contents output.new) }
     ensures lines { said.ReplyLineByLine (said.EngineStep ⟦<Fuse<MemDisk> as Device>⟧.honest ⟦<Fuse<MemDisk> as Device>⟧.seen ⟦<Fuse<MemDisk> as Device>⟧.may_leave ⟦<Fuse<MemDisk> as Device>⟧.failed ⟦<Fuse<MemDisk> as Device>⟧.refuses ⟦<Fuse<MemDisk> as Breaks>⟧.broken) }
@@ -50,10 +49,11 @@ where
     ensures runs { (settings : said.Settings) → said.RunsGoOn ⟦<Fuse<MemDisk> as Device>⟧.seen ⟦<Fuse<MemDisk> as Device>⟧.may_leave (said.medium_of ⟦<Fuse<MemDisk> as Device>⟧.honest ⟦<Fuse<MemDisk> as Device>⟧.seen ⟦<Fuse<MemDisk> as Device>⟧.may_leave ⟦<Fuse<MemDisk> as Device>⟧.failed ⟦<Fuse<MemDisk> as Device>⟧.refuses ⟦<Fuse<MemDisk> as Breaks>⟧.broken ⟦<Fuse<MemDisk> as Crashes>⟧.image ⟦<Fuse<MemDisk> as Crashes>⟧.armed) settings }
     ensures in_lives { result ≢ 4 → said.Writes (said.PrintsInLives ⟦<Fuse<MemDisk> as Device>⟧.seen ⟦<Fuse<MemDisk> as Device>⟧.may_leave (said.medium_of ⟦<Fuse<MemDisk> as Device>⟧.honest ⟦<Fuse<MemDisk> as Device>⟧.seen ⟦<Fuse<MemDisk> as Device>⟧.may_leave ⟦<Fuse<MemDisk> as Device>⟧.failed ⟦<Fuse<MemDisk> as Device>⟧.refuses ⟦<Fuse<MemDisk> as Breaks>⟧.broken ⟦<Fuse<MemDisk> as Crashes>⟧.image ⟦<Fuse<MemDisk> as Crashes>⟧.armed) (said.texts words.now) (R.remaining input) result) (W.contents output.old) (W.contents output.new) }
     ensures all_lives { result ≢ 4 → said.Writes (said.ReportsOfAllLives ⟦<Fuse<MemDisk> as Device>⟧.seen ⟦<Fuse<MemDisk> as Device>⟧.may_leave (said.medium_of ⟦<Fuse<MemDisk> as Device>⟧.honest ⟦<Fuse<MemDisk> as Device>⟧.seen ⟦<Fuse<MemDisk> as Device>⟧.may_leave ⟦<Fuse<MemDisk> as Device>⟧.failed ⟦<Fuse<MemDisk> as Device>⟧.refuses ⟦<Fuse<MemDisk> as Breaks>⟧.broken ⟦<Fuse<MemDisk> as Crashes>⟧.image ⟦<Fuse<MemDisk> as Crashes>⟧.armed) (said.texts words.now) (R.remaining input) result) (W.contents output.old) (W.contents output.new) }
-    ensures file_lines { said.ReplyLineByLine (said.EngineStep ⟦<FileDisk<H::File> as Device>⟧.honest ⟦<FileDisk<H::File> as Device>⟧.seen ⟦<FileDisk<H::File> as Device>⟧.may_leave ⟦<FileDisk<H::File> as Device>⟧.failed ⟦<FileDisk<H::File> as Device>⟧.refuses ⟦<FileDisk<H::File> as Breaks>⟧.broken) }
+    ensures file_lines { said.ReplyLineByLine (said.EngineStep S.Disk.honest S.Disk.seen S.Disk.may_leave S.Disk.failed S.Disk.refuses S.Disk.broken) }
+    ensures each_file_line { ((device : S.Disk) → S.Disk.honest device) → said.EachLineGoesOn S.Disk.seen S.Disk.may_leave (said.EngineStep S.Disk.honest S.Disk.seen S.Disk.may_leave S.Disk.failed S.Disk.refuses S.Disk.broken) }
 {
-    law_played_scripts::<Fuse<MemDisk>, FileDisk<H::File>>();
-    law_new_files::<Fuse<MemDisk>, FileDisk<H::File>>();
+    law_played_scripts::<Fuse<MemDisk>, S::Disk>();
+    law_new_files::<Fuse<MemDisk>, S::Disk>();
     law_played_calls::<Fuse<MemDisk>>();
     law_each_line::<Fuse<MemDisk>>();
     law_each_life::<Fuse<MemDisk>>();
@@ -63,6 +63,7 @@ where
     law_all_lives::<Fuse<MemDisk>>();
     law_arming_shown::<MemDisk>();
     law_arming_noted::<MemDisk>();
-    law_played_calls::<FileDisk<H::File>>();
-    fkv_cli::run(rt, alloc, words, input, output, complaints)
+    law_played_calls::<S::Disk>();
+    law_each_line::<S::Disk>();
+    fkv_cli::run(places, alloc, words, input, output, complaints)
 }

@@ -1,4 +1,5 @@
 mod Appending
 mod Endings
+mod Finding
 mod Outputs
 mod Words

@@ -1,12 +1,9 @@
 -- What is written for a script.
-use Rattle.std.proofs.Common.{◌≡◌, ◌∙◌, ◌⊎◌, inl, inr, ℕ, Bool, List, Option, Some, None, sym, ap, subst, Result, IfOk, OnErr, is_some}
+use Rattle.std.proofs.Common.{◌≡◌, ◌∙◌, ◌⊎◌, inl, inr, ℕ, Bool, List, Option, Some, None, sym, ap, subst, Global, String, string_bytes, Result, IfOk, OnErr, is_some}
 use Rattle.std.proofs.lemmas.Result.{IfOk-weaker, on_err_weaker}
 use Rattle.fkv_base.specs.declared.faults.Fault.{Fault}
 use Rattle.fkv_base.specs.declared.faults.Fault.TheVariants.{BadShape, Device, Memory}
 use Rattle.fkv_base.specs.declared.shapes.Shape.{Shape}
-use Rattle.fkv_runs.specs.Below.fkv_core.Worlds.{WorldModel}
-use Rattle.fkv_runs.specs.Below.fkv_core.Event.{Event}
-use Rattle.fkv_runs.specs.Below.fkv_core.TheTold.{Told}
 use Rattle.fkv_lines.specs.declared.scripts.Line.{Line}
 use Rattle.fkv_lines.specs.declared.scripts.Opening as openings
 use Rattle.fkv_lines.specs.declared.scripts.Opening.TheVariants as opening
@@ -18,7 +15,7 @@ use Rattle.fkv_runs.specs.Pieces.{ArePieces}
 use Rattle.fkv_runs.specs.declared.pieces.Piece.{Piece}
 use Rattle.fkv_runs.proofs.Shown.{breaks_weaker}
 use Rattle.fkv_cli.proofs.Appending.{writes_weaker}
-use Rattle.fkv_cli.specs.Output.{AreSizes, Devices, HasSizes, IsRunInFile, IsRunInMemory, IsRunInNewFile, IsRunOfOldStore, IsRunOfScript, IsRunOfShape, IsRunOfStore, Refuses}
+use Rattle.fkv_cli.specs.Output.{AreSizes, Devices, HasSizes, IsRunInFile, IsRunInMemory, IsRunInNewFile, IsRunOfOldStore, IsRunOfScript, IsRunOfShape, IsRunOfStore, Places, Refuses, RefusesOld, path_in}
 
 -- the pieces, as what was called says it, and as it is asked
 pub pieces_said : (flag wanted : Bool) (lines its : List Line) (pieces listed : List Piece) → flag ≡ wanted → lines ≡ its → listed ≡ pieces → ArePieces flag lines pieces → ArePieces wanted its listed
@@ -87,11 +84,11 @@ shape_breaks devices options said first sizes fault lines pieces a b result e f 
 -- a script that opens a store
 pub opening_breaks : {E M F : Type 0} (devices : Devices M F) (options : Options) (said : Option openings.Opening) (first : openings.Opening) (lines : List Line) (pieces : List Piece)
     (a b : Option (List ℕ)) (result : Result ℕ E) → said ≡ Some first → first ≡ opening.Open → ArePieces (is_some options.seed) lines pieces
-    → OnErr result (BreaksOff (λ text. IsRunOfOldStore devices.file pieces 4 text (is_some options.file)) a b)
+    → OnErr result (BreaksOff (λ text. IsRunOfOldStore devices.file (path_in options.file) pieces 4 text (is_some options.file)) a b)
     → OnErr result (BreaksOff (IsRunOfScript devices options said lines 4) a b)
 opening_breaks devices options said first lines pieces a b result e f are h =
     on_err_weaker result
-    (breaks_weaker (λ text. IsRunOfOldStore devices.file pieces 4 text (is_some options.file)) (IsRunOfScript devices options said lines 4) a b
+    (breaks_weaker (λ text. IsRunOfOldStore devices.file (path_in options.file) pieces 4 text (is_some options.file)) (IsRunOfScript devices options said lines 4) a b
     (λ text. opened_run devices options said opening.Open lines pieces 4 text (e ∙ ap Some f) are))
     h
 
@@ -109,27 +106,35 @@ new_breaks_in_memory {E} {M} {F} {S} devices options shape pieces file a b resul
     subst (λ (o : Option S). OnErr result (BreaksOff (λ text. IsRunOfStore devices options (Some shape) pieces 4 text (is_some o)) a b)) (sym e) h
 
 -- a new store in a file
-pub new_in_file : {E M F S : Type 0} (devices : Devices M F) (options : Options) (shape : Shape) (pieces : List Piece) (file : Option S) (path : S) (a b : Option (List ℕ)) (result : Result ℕ E) → file ≡ Some path
-    → IfOk result (λ status. Writes (λ text. IsRunInNewFile devices.file shape pieces status text ⊎ Refuses Device 3 status text) a b)
-    → IfOk result (λ status. Writes (λ text. IsRunOfStore devices options (Some shape) pieces status text (is_some file)) a b)
-new_in_file {E} {M} {F} {S} devices options shape pieces file path a b result e h =
-    subst (λ (o : Option S). IfOk result (λ status. Writes (λ text. IsRunOfStore devices options (Some shape) pieces status text (is_some o)) a b)) (sym e) h
+module _ {E M F : Type 0} (devices : Devices M F) (options : Options) (path : String Global) (its : List ℕ) (there : options.file ≡ Some path) (said : its ≡ string_bytes path) (pieces : List Piece) (a b : Option (List ℕ)) (result : Result ℕ E) where
+  same : its ≡ path_in options.file
+  same = said ∙ sym (ap path_in there)
 
-pub new_breaks_in_file : {E M F S : Type 0} (devices : Devices M F) (options : Options) (shape : Shape) (pieces : List Piece) (file : Option S) (path : S) (a b : Option (List ℕ)) (result : Result ℕ E) → file ≡ Some path
-    → OnErr result (BreaksOff (λ text. IsRunInNewFile devices.file shape pieces 4 text ⊎ Refuses Device 3 4 text) a b)
-    → OnErr result (BreaksOff (λ text. IsRunOfStore devices options (Some shape) pieces 4 text (is_some file)) a b)
-new_breaks_in_file {E} {M} {F} {S} devices options shape pieces file path a b result e h =
-    subst (λ (o : Option S). OnErr result (BreaksOff (λ text. IsRunOfStore devices options (Some shape) pieces 4 text (is_some o)) a b)) (sym e) h
+  pub new_in_file : (shape : Shape) → IfOk result (λ status. Writes (λ text. IsRunInNewFile devices.file its shape pieces status text ⊎ Refuses Device 3 status text) a b)
+      → IfOk result (λ status. Writes (λ text. IsRunOfStore devices options (Some shape) pieces status text (is_some options.file)) a b)
+  new_in_file shape h =
+      subst (λ (o : Option (String Global)). IfOk result (λ status. Writes (λ text. IsRunOfStore devices options (Some shape) pieces status text (is_some o)) a b)) (sym there)
+      (subst (λ (p : List ℕ). IfOk result (λ status. Writes (λ text. IsRunInNewFile devices.file p shape pieces status text ⊎ Refuses Device 3 status text) a b)) same h)
+
+  pub new_breaks_in_file : (shape : Shape) → OnErr result (BreaksOff (λ text. IsRunInNewFile devices.file its shape pieces 4 text ⊎ Refuses Device 3 4 text) a b)
+      → OnErr result (BreaksOff (λ text. IsRunOfStore devices options (Some shape) pieces 4 text (is_some options.file)) a b)
+  new_breaks_in_file shape h =
+      subst (λ (o : Option (String Global)). OnErr result (BreaksOff (λ text. IsRunOfStore devices options (Some shape) pieces 4 text (is_some o)) a b)) (sym there)
+      (subst (λ (p : List ℕ). OnErr result (BreaksOff (λ text. IsRunInNewFile devices.file p shape pieces 4 text ⊎ Refuses Device 3 4 text) a b)) same h)
 
 -- the store that a file holds
-pub old_in_file : {E F S : Type 0} (engine : Event → WorldModel F → WorldModel F → Option Told → Bool → Type 0) (pieces : List Piece) (file : Option S) (path : S) (a b : Option (List ℕ)) (result : Result ℕ E) → file ≡ Some path
-    → IfOk result (λ status. Writes (λ text. IsRunInFile engine pieces status text ⊎ ((fault : Fault) × Refuses fault 3 status text)) a b)
-    → IfOk result (λ status. Writes (λ text. IsRunOfOldStore engine pieces status text (is_some file)) a b)
-old_in_file {E} {F} {S} engine pieces file path a b result e h =
-    subst (λ (o : Option S). IfOk result (λ status. Writes (λ text. IsRunOfOldStore engine pieces status text (is_some o)) a b)) (sym e) h
+module _ {E F : Type 0} (places : Places F) (options : Options) (path : String Global) (its : List ℕ) (there : options.file ≡ Some path) (said : its ≡ string_bytes path) (pieces : List Piece) (a b : Option (List ℕ)) (result : Result ℕ E) where
+  its_path : its ≡ path_in options.file
+  its_path = said ∙ sym (ap path_in there)
 
-pub old_breaks_in_file : {E F S : Type 0} (engine : Event → WorldModel F → WorldModel F → Option Told → Bool → Type 0) (pieces : List Piece) (file : Option S) (path : S) (a b : Option (List ℕ)) (result : Result ℕ E) → file ≡ Some path
-    → OnErr result (BreaksOff (λ text. IsRunInFile engine pieces 4 text ⊎ ((fault : Fault) × Refuses fault 3 4 text)) a b)
-    → OnErr result (BreaksOff (λ text. IsRunOfOldStore engine pieces 4 text (is_some file)) a b)
-old_breaks_in_file {E} {F} {S} engine pieces file path a b result e h =
-    subst (λ (o : Option S). OnErr result (BreaksOff (λ text. IsRunOfOldStore engine pieces 4 text (is_some o)) a b)) (sym e) h
+  pub old_in_file : IfOk result (λ status. Writes (λ text. IsRunInFile places its pieces status text ⊎ RefusesOld places its status text) a b)
+      → IfOk result (λ status. Writes (λ text. IsRunOfOldStore places (path_in options.file) pieces status text (is_some options.file)) a b)
+  old_in_file h =
+      subst (λ (o : Option (String Global)). IfOk result (λ status. Writes (λ text. IsRunOfOldStore places (path_in options.file) pieces status text (is_some o)) a b)) (sym there)
+      (subst (λ (p : List ℕ). IfOk result (λ status. Writes (λ text. IsRunInFile places p pieces status text ⊎ RefusesOld places p status text) a b)) its_path h)
+
+  pub old_breaks_in_file : OnErr result (BreaksOff (λ text. IsRunInFile places its pieces 4 text ⊎ RefusesOld places its 4 text) a b)
+      → OnErr result (BreaksOff (λ text. IsRunOfOldStore places (path_in options.file) pieces 4 text (is_some options.file)) a b)
+  old_breaks_in_file h =
+      subst (λ (o : Option (String Global)). OnErr result (BreaksOff (λ text. IsRunOfOldStore places (path_in options.file) pieces 4 text (is_some o)) a b)) (sym there)
+      (subst (λ (p : List ℕ). OnErr result (BreaksOff (λ text. IsRunInFile places p pieces 4 text ⊎ RefusesOld places p 4 text) a b)) its_path h)

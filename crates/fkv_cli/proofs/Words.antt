@@ -30,7 +30,7 @@ use Rattle.fkv_runs.specs.declared.pieces.Piece.{Piece}
 use Rattle.fkv_texts.specs.Lines.{line_of}
 use Rattle.fkv_runs.proofs.Shown.{appends_kept, breaks_weaker, text_breaks}
 use Rattle.fkv_cli.proofs.Appending.{writes_broken, writes_kept, writes_weaker}
-use Rattle.fkv_cli.specs.Output.{AreUnreadWords, Devices, IsLifeInFile, IsOutputOf, IsPlayed, AreLives, IsRunInFile, IsRunInMemory, IsRunInNewFile, IsRunOfOldStore, IsRunOfScript, IsRunOfShape, IsRunOfStore, IsRunOfText, Refuses, line_fault_text, mode_of, script_limit, settings_of}
+use Rattle.fkv_cli.specs.Output.{AreLives, AreUnreadWords, Devices, IsLifeInFile, IsOutputOf, IsPlayed, IsRunInFile, IsRunInMemory, IsRunInNewFile, IsRunOfOldStore, IsRunOfScript, IsRunOfShape, IsRunOfStore, IsRunOfText, Places, Refuses, line_fault_text, mode_of, path_in, script_limit, settings_of}
 
 -- the first faulty line of a script breaks off
 pub fault_breaks : {M F : Type 0} (devices : Devices M F) (options : Options) (read : Mode) (bytes : List ℕ) (fault : Fault) (line : ℕ) (kind : ScriptFault) (a b : Option (List ℕ))
@@ -75,29 +75,58 @@ all_played engine pieces player status text (inl whole) =
     inr (refl, (length pieces, subst (λ (its : List Piece). IsRunOfLife engine its player text) (sym (take_all (length pieces) pieces (omega arith))) whole.1))
 all_played engine pieces player status text (inr part) = inr (refl, part.1)
 
-life_at_4 : {F : Type 0} (engine : Event → WorldModel F → WorldModel F → Option Told → Bool → Type 0) (opened : Opened) (pieces : List Piece) (status : ℕ) (text : List ℕ) → IsLifeInFile engine opened pieces status text → IsLifeInFile engine opened pieces 4 text
-life_at_4 engine opened pieces status text life = record { device = life.device; player = life.player; begins = life.begins; played = all_played engine pieces life.player status text life.played }
+life_at_4 : {F : Type 0} (engine : Event → WorldModel F → WorldModel F → Option Told → Bool → Type 0) (opened : Opened) (device : F) (pieces : List Piece) (status : ℕ) (text : List ℕ) → IsLifeInFile engine opened device pieces status text
+    → IsLifeInFile engine opened device pieces 4 text
+life_at_4 engine opened device pieces status text life = record { player = life.player; begins = life.begins; played = all_played engine pieces life.player status text life.played }
 
-new_file_at_4 : {F : Type 0} (engine : Event → WorldModel F → WorldModel F → Option Told → Bool → Type 0) (shape : Shape) (pieces : List Piece) (status : ℕ) (text : List ℕ) → IsRunInNewFile engine shape pieces status text → IsRunInNewFile engine shape pieces 4 text
-new_file_at_4 engine shape pieces status text run = record { opened = run.opened; is_new = run.is_new; life = life_at_4 engine run.opened pieces status text run.life }
+new_file_at_4 : {F : Type 0} (places : Places F) (path : List ℕ) (shape : Shape) (pieces : List Piece) (status : ℕ) (text : List ℕ) → IsRunInNewFile places path shape pieces status text → IsRunInNewFile places path shape pieces 4 text
+new_file_at_4 places path shape pieces status text run = record {
+  opened = run.opened;
+  is_new = run.is_new;
+  found = run.found;
+  made = run.made;
+  device = run.device;
+  holds = run.holds;
+  life = life_at_4 places.engine run.opened run.device pieces status text run.life;
+}
 
-file_at_4 : {F : Type 0} (engine : Event → WorldModel F → WorldModel F → Option Told → Bool → Type 0) (pieces : List Piece) (status : ℕ) (text : List ℕ) → IsRunInFile engine pieces status text → IsRunInFile engine pieces 4 text
-file_at_4 engine pieces status text run = elim run.life [
-  | inl life ↦ record { opened = run.opened; pairs = run.pairs; said = run.said; life = inl (life_at_4 engine run.opened pieces status run.said life); says = run.says }
-  | inr none ↦ record { opened = run.opened; pairs = run.pairs; said = run.said; life = inr (refl, none.1); says = run.says }
+file_at_4 : {F : Type 0} (places : Places F) (path : List ℕ) (pieces : List Piece) (status : ℕ) (text : List ℕ) → IsRunInFile places path pieces status text → IsRunInFile places path pieces 4 text
+file_at_4 places path pieces status text run = elim run.life [
+  | inl life ↦ record {
+    opened = run.opened;
+    pairs = run.pairs;
+    found = run.found;
+    is_opened = run.is_opened;
+    device = run.device;
+    is_found = run.is_found;
+    said = run.said;
+    life = inl (life_at_4 places.engine run.opened run.device pieces status run.said life);
+    says = run.says;
+  }
+  | inr none ↦ record {
+    opened = run.opened;
+    pairs = run.pairs;
+    found = run.found;
+    is_opened = run.is_opened;
+    device = run.device;
+    is_found = run.is_found;
+    said = run.said;
+    life = inr (refl, none.1);
+    says = run.says;
+  }
 ]
 
-old_at_4 : {F : Type 0} (engine : Event → WorldModel F → WorldModel F → Option Told → Bool → Type 0) (pieces : List Piece) (status : ℕ) (text : List ℕ) (in_file : Bool) → IsRunOfOldStore engine pieces status text in_file → IsRunOfOldStore engine pieces 4 text in_file
-old_at_4 engine pieces status text false h = (inr refl, h.1)
-old_at_4 engine pieces status text true (inl run) = inl (file_at_4 engine pieces status text run)
-old_at_4 engine pieces status text true (inr (fault, refusal)) = inr (fault, refuses_at_4 fault 3 status text refusal)
+old_at_4 : {F : Type 0} (places : Places F) (path : List ℕ) (pieces : List Piece) (status : ℕ) (text : List ℕ) (in_file : Bool) → IsRunOfOldStore places path pieces status text in_file → IsRunOfOldStore places path pieces 4 text in_file
+old_at_4 places path pieces status text false h = (inr refl, h.1)
+old_at_4 places path pieces status text true (inl run) = inl (file_at_4 places path pieces status text run)
+old_at_4 places path pieces status text true (inr (fault, why, refusal)) = inr (fault, why, refuses_at_4 fault 3 status text refusal)
 
 store_at_4 : {M F : Type 0} (devices : Devices M F) (options : Options) (shape : Option Shape) (pieces : List Piece) (status : ℕ) (text : List ℕ) (in_file : Bool)
     → IsRunOfStore devices options shape pieces status text in_file → IsRunOfStore devices options shape pieces 4 text in_file
-store_at_4 devices options None pieces status text in_file h = old_at_4 devices.file pieces status text in_file h
+store_at_4 devices options None pieces status text in_file h = old_at_4 devices.file (path_in options.file) pieces status text in_file h
 store_at_4 devices options (Some shape) pieces status text false (inl run) = inl (memory_at_4 devices options shape pieces status text run)
 store_at_4 devices options (Some shape) pieces status text false (inr refusal) = inr (inr refl, refusal.1)
-store_at_4 devices options (Some shape) pieces status text true (inl run) = inl (new_file_at_4 devices.file shape pieces status text run)
+store_at_4 devices options (Some shape) pieces status text true (inl run) = inl (new_file_at_4 devices.file (path_in options.file) shape pieces status text run)
 store_at_4 devices options (Some shape) pieces status text true (inr refusal) = inr (inr refl, refusal.1)
 
 shape_at_4 : {M F : Type 0} (devices : Devices M F) (options : Options) (first : openings.Opening) (pieces : List Piece) (status : ℕ) (text : List ℕ)

@@ -1,13 +1,15 @@
 -- What the program writes, and its status, by its words and its script.
-use Rattle.std.specs.Prelude.{◌≡◌, ◌⊎◌, ◌*◌, ◌+◌, ℕ, Bool, true, false, List, [], ◌++◌, codes, decimal, take, is_some, IfSome, Option, Some, None, Result, Ok, Err}
+use Rattle.std.specs.Prelude.{◌≡◌, ◌⊎◌, ◌*◌, ◌+◌, ℕ, Bool, true, false, List, [], ◌++◌, codes, decimal, take, is_some, string_bytes, IfSome, Option, Some, None, String, Result, Ok, Err}
 use Rattle.fkv_base.specs.declared.numbers.Key.{Key}
 use Rattle.fkv_base.specs.declared.numbers.Value.{Value}
 use Rattle.fkv_base.specs.Fault.{script_fault_name}
 use Rattle.fkv_base.specs.Limits.{IsShape, IsSmall, IsOfClass}
 use Rattle.fkv_base.specs.declared.faults.Fault.{Fault}
-use Rattle.fkv_base.specs.declared.faults.Fault.TheVariants.{BadShape, Device}
+use Rattle.fkv_base.specs.declared.faults.Fault.TheVariants.{BadShape, Damaged, Device, Memory, NotAStore}
 use Rattle.fkv_base.specs.declared.shapes.Shape.{Shape}
 use Rattle.fkv_creating.specs.Created.{IsCreated, IsNewStore}
+use Rattle.fkv_disk.specs.Device.{LeavesOnly}
+use Rattle.fkv_opening.specs.Faults.{IsFaultOf}
 use Rattle.fkv_runs.specs.Below.fkv_core.Worlds.{WorldModel}
 use Rattle.fkv_runs.specs.Below.fkv_core.Event.{Event}
 use Rattle.fkv_runs.specs.Below.fkv_core.TheTold.{Told}
@@ -23,9 +25,9 @@ use Rattle.fkv_opening.specs.declared.opened_store.Opened.{Opened}
 use Rattle.fkv_options.specs.CommandLine.{AreAccepted}
 use Rattle.fkv_options.specs.Options.{AreMatchesOf}
 use Rattle.fkv_options.specs.declared.options.Options.{Options}
-use Rattle.fkv_runs.specs.Below.fkv_playing.Players.{PlayerState}
+use Rattle.fkv_runs.specs.Below.fkv_playing.Players.{EngineStep, PlayerState}
 use Rattle.fkv_runs.specs.Files.{IsPartOfLife, IsRunOfLife}
-use Rattle.fkv_runs.specs.Openings.{Begins, Medium}
+use Rattle.fkv_runs.specs.Openings.{Begins, IsRecovered, Medium}
 use Rattle.fkv_runs.specs.Pieces.{ArePieces}
 use Rattle.fkv_runs.specs.Runs.{IsPartOfRun, IsRun, RunState}
 use Rattle.fkv_runs.specs.declared.pieces.Piece.{Piece}
@@ -73,10 +75,29 @@ pub record HasSizes (sizes : Sizes) (shape : Shape) : Type 0 where
 abbrev pub settings_of : Options → Settings
 settings_of options = record { torn = options.torn; checks = options.check }
 
--- What a run goes by: of a device in memory, and the steps of the engine over a file.
+-- What a run goes by of the places where stores lie: the steps of the engine over a file; when the device of one is honest, what it reads as, and what a crash may
+-- leave of it; and which one is the file of a path as it was opened, for a store that is there, and for a new one.
+pub record Places (F : Type 0) : Type 1 where
+  pub engine : Event → WorldModel F → WorldModel F → Option Told → Bool → Type 0
+  pub honest : F → Type 0
+  pub seen : F → List ℕ
+  pub may_leave : F → List ℕ → Type 0
+  pub is_opened : List ℕ → F → Type 0
+  pub is_made : List ℕ → F → Type 0
+
+abbrev pub places_of : {F : Type 0} → (F → Type 0) → (F → List ℕ) → (F → List ℕ → Type 0) → (F → ℕ) → (F → ℕ → Bool) → (F → Bool) → (List ℕ → F → Type 0) → (List ℕ → F → Type 0) → Places F
+places_of honest seen may_leave failed refuses broken is_opened is_made =
+    record { engine = EngineStep honest seen may_leave failed refuses broken; honest = honest; seen = seen; may_leave = may_leave; is_opened = is_opened; is_made = is_made }
+
+-- What a run goes by: of a device in memory, and of files.
 pub record Devices (M F : Type 0) : Type 1 where
   pub memory : Medium M
-  pub file : Event → WorldModel F → WorldModel F → Option Told → Bool → Type 0
+  pub file : Places F
+
+-- the path that the options have
+abbrev pub path_in : {Z : Type 0} → Option (String Z) → List ℕ
+path_in None = []
+path_in (Some path) = string_bytes path
 
 -- all lives of a store in memory, or a part of them where the run breaks off
 abbrev pub AreLives : {M : Type 0} → Medium M → Settings → List Piece → RunState M → ℕ → List ℕ → Type 0
@@ -99,36 +120,74 @@ pub record IsRunInMemory {M : Type 0} (medium : Medium M) (options : Options) (s
 abbrev pub IsPlayed : {F : Type 0} → (Event → WorldModel F → WorldModel F → Option Told → Bool → Type 0) → List Piece → PlayerState F → ℕ → List ℕ → Type 0
 IsPlayed engine pieces player status text = ((status ≡ 0) × IsRunOfLife engine pieces player text) ⊎ ((status ≡ 4) × IsPartOfLife engine pieces player text)
 
-pub record IsLifeInFile {F : Type 0} (engine : Event → WorldModel F → WorldModel F → Option Told → Bool → Type 0) (opened : Opened) (pieces : List Piece) (status : ℕ) (text : List ℕ) : Type 0 where
-  pub device : F
+pub record IsLifeInFile {F : Type 0} (engine : Event → WorldModel F → WorldModel F → Option Told → Bool → Type 0) (opened : Opened) (device : F) (pieces : List Piece) (status : ℕ) (text : List ℕ) : Type 0 where
   pub player : PlayerState F
   pub begins : Begins opened device [] false player
   pub played : IsPlayed engine pieces player status text
 
--- a new store in a file, and its life
-pub record IsRunInNewFile {F : Type 0} (engine : Event → WorldModel F → WorldModel F → Option Told → Bool → Type 0) (shape : Shape) (pieces : List Piece) (status : ℕ) (text : List ℕ) : Type 0 where
+-- A device is honest, reads as this image, which holds this store, and a crash leaves just that.
+pub record HoldsStore {F : Type 0} (honest : F → Type 0) (seen : F → List ℕ) (may_leave : F → List ℕ → Type 0) (image : List ℕ) (opened : Opened) (device : F) : Type 0 where
+  pub is_honest : honest device
+  pub reads : seen device ≡ image
+  pub synced : LeavesOnly image (may_leave device)
+  pub store : IsStoreOf image opened
+
+-- A new store in the file of this path, and its life. If the device is honest as it was opened, it then holds the store.
+pub record IsRunInNewFile {F : Type 0} (places : Places F) (path : List ℕ) (shape : Shape) (pieces : List Piece) (status : ℕ) (text : List ℕ) : Type 0 where
   pub opened : Opened
   pub is_new : IsNewStore shape opened
-  pub life : IsLifeInFile engine opened pieces status text
+  pub found : F
+  pub made : places.is_made path found
+  pub device : F
+  pub holds : places.honest found → HoldsStore places.honest places.seen places.may_leave (places.seen device) opened device
+  pub life : IsLifeInFile places.engine opened device pieces status text
 
--- The store that a file holds: its report, and its life, which may not begin where the run breaks off.
-pub record IsRunInFile {F : Type 0} (engine : Event → WorldModel F → WorldModel F → Option Told → Bool → Type 0) (pieces : List Piece) (status : ℕ) (text : List ℕ) : Type 0 where
+-- What was read of a device: if it is honest as it was found, it still reads so, and holds this store, with these pairs.
+pub record IsFound {F : Type 0} (honest : F → Type 0) (seen : F → List ℕ) (may_leave : F → List ℕ → Type 0) (found : F) (opened : Opened) (pairs : List (Key × Value)) (device : F) : Type 0 where
+  pub holds : honest found → HoldsStore honest seen may_leave (seen found) opened device
+  pub recovered : honest found → IsRecovered (seen found) opened pairs
+
+-- The store that the file of this path holds: its report, and its life, which may not begin where the run breaks off.
+pub record IsRunInFile {F : Type 0} (places : Places F) (path : List ℕ) (pieces : List Piece) (status : ℕ) (text : List ℕ) : Type 0 where
   pub opened : Opened
   pub pairs : List (Key × Value)
+  pub found : F
+  pub is_opened : places.is_opened path found
+  pub device : F
+  pub is_found : IsFound places.honest places.seen places.may_leave found opened pairs device
   pub said : List ℕ
-  pub life : IsLifeInFile engine opened pieces status said ⊎ ((status ≡ 4) × (said ≡ []))
+  pub life : IsLifeInFile places.engine opened device pieces status said ⊎ ((status ≡ 4) × (said ≡ []))
   pub says : text ≡ report_text reports.Open opened.number opened.points.items pairs ++ said
 
+-- why no store is read of a device: the image has this fault, if it is honest; or it failed, or memory was refused
+abbrev pub IsUnread : Type 0 → List ℕ → Fault → Type 0
+IsUnread honest image NotAStore = honest → IsFaultOf image NotAStore
+IsUnread honest image (Damaged part place) = honest → IsFaultOf image (Damaged part place)
+IsUnread honest image Device = Unit {0}
+IsUnread honest image Memory = Unit {0}
+IsUnread honest image other = ⊥
+
+-- why the store in the file of this path isn't opened: what its device reads as has this fault, if it is honest as it was opened; or the file failed
+abbrev pub IsUnopened : {F : Type 0} → Places F → List ℕ → Fault → Type 0
+IsUnopened {F} places path NotAStore = (found : F) × places.is_opened path found × IsUnread (places.honest found) (places.seen found) NotAStore
+IsUnopened {F} places path (Damaged part place) = (found : F) × places.is_opened path found × IsUnread (places.honest found) (places.seen found) (Damaged part place)
+IsUnopened places path Device = Unit {0}
+IsUnopened places path other = ⊥
+
+-- it is refused so
+abbrev pub RefusesOld : {F : Type 0} → Places F → List ℕ → ℕ → List ℕ → Type 0
+RefusesOld places path status text = (fault : Fault) × IsUnopened places path fault × Refuses fault 3 status text
+
 -- The store that a file holds; or it is refused. In memory no store is opened.
-abbrev pub IsRunOfOldStore : {F : Type 0} → (Event → WorldModel F → WorldModel F → Option Told → Bool → Type 0) → List Piece → ℕ → List ℕ → Bool → Type 0
-IsRunOfOldStore engine pieces status text false = ComesTo 0 status × (text ≡ [])
-IsRunOfOldStore engine pieces status text true = IsRunInFile engine pieces status text ⊎ ((fault : Fault) × Refuses fault 3 status text)
+abbrev pub IsRunOfOldStore : {F : Type 0} → Places F → List ℕ → List Piece → ℕ → List ℕ → Bool → Type 0
+IsRunOfOldStore places path pieces status text false = ComesTo 0 status × (text ≡ [])
+IsRunOfOldStore places path pieces status text true = IsRunInFile places path pieces status text ⊎ RefusesOld places path status text
 
 -- A new store, in memory or in the file that the options name; or it is refused, since the device failed.
 abbrev pub IsRunOfStore : {M F : Type 0} → Devices M F → Options → Option Shape → List Piece → ℕ → List ℕ → Bool → Type 0
-IsRunOfStore devices options None pieces status text in_file = IsRunOfOldStore devices.file pieces status text in_file
+IsRunOfStore devices options None pieces status text in_file = IsRunOfOldStore devices.file (path_in options.file) pieces status text in_file
 IsRunOfStore devices options (Some shape) pieces status text false = IsRunInMemory devices.memory options shape pieces status text ⊎ Refuses Device 3 status text
-IsRunOfStore devices options (Some shape) pieces status text true = IsRunInNewFile devices.file shape pieces status text ⊎ Refuses Device 3 status text
+IsRunOfStore devices options (Some shape) pieces status text true = IsRunInNewFile devices.file (path_in options.file) shape pieces status text ⊎ Refuses Device 3 status text
 
 -- The line that opens the store: sizes that are none of a shape are refused.
 abbrev pub IsRunOfShape : {M F : Type 0} → Devices M F → Options → openings.Opening → List Piece → ℕ → List ℕ → Type 0

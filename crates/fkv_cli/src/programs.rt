@@ -4,22 +4,20 @@ ghost use Rattle.std.specs.Io.KnownBytes.{Appends};
 ghost use Rattle.fkv_lines.specs.Script.{script_of};
 ghost use Rattle.clap.specs.Walk.{texts};
 ghost use Rattle.fkv_runs.specs.Below.fkv_playing.InTurn.{Writes};
-ghost use Rattle.fkv_runs.specs.Below.fkv_playing.Players.{EngineStep};
 ghost use Rattle.fkv_runs.specs.Beginnings.{BreaksOff};
 ghost use Rattle.fkv_runs.specs.Openings.{RefusesNoCall, medium_of};
-ghost use Rattle.fkv_cli.specs.Output.{AreUnreadWords, IsOutputOf, IsRunOfText, line_fault_text, mode_of, script_limit};
+ghost use Rattle.fkv_cli.specs.Output.{AreUnreadWords, IsOutputOf, IsRunOfText, line_fault_text, mode_of, places_of, script_limit};
 
 use crate::complaints::{Complaint, LineFault, WordFault, complain, tell_usage};
 use crate::scripts::run_script;
 use fkv_base::{Fault, ScriptFault};
-use fkv_disk::{Device, FileDisk, Fuse, MemDisk};
-use fkv_files::Lockable;
+use fkv_disk::{Device, Fuse, MemDisk};
+use fkv_files::StorePlaces;
 use fkv_lines::{Mode, script_of};
 use fkv_options::{Options, RunFault, options_of};
 use fkv_runs::{Breaks, Crashes, write_text};
 use std::alloc::Global;
 use std::io::{self, ErrorKind, Read, Write};
-use std::rt::Files;
 
 /// A longer script has its first faulty line among its first so many bytes.
 const SCRIPT_LIMIT: u64 = 65536 * 201 + 1;
@@ -29,8 +27,8 @@ const SCRIPT_LIMIT: u64 = 65536 * 201 + 1;
 /// or a stream failed: then what is written is a beginning of what the script writes. Where the status is above 0, a line of complaint
 /// says in words what it means; of words that are refused the usage comes behind it. A line that can't be written is lost. Of an output
 /// that is a pipe which nobody reads any more nothing is said.
-pub fn run<H: Files, R: Read + Drop, W: Write, E: Write>(
-    rt: &H,
+pub fn run<S: StorePlaces, R: Read + Drop, W: Write, E: Write>(
+    places: &S,
     alloc: Global,
     words: &[&str],
     input: R,
@@ -38,12 +36,12 @@ pub fn run<H: Files, R: Read + Drop, W: Write, E: Write>(
     complaints: &mut E,
 ) -> u8
 where
-    H::File: Lockable,
-    ensures whole { result ≢ 4 → Writes (IsOutputOf (record { memory = medium_of ⟦<Fuse<MemDisk> as Device>⟧.honest ⟦<Fuse<MemDisk> as Device>⟧.seen ⟦<Fuse<MemDisk> as Device>⟧.may_leave ⟦<Fuse<MemDisk> as Device>⟧.failed ⟦<Fuse<MemDisk> as Device>⟧.refuses ⟦<Fuse<MemDisk> as Breaks>⟧.broken ⟦<Fuse<MemDisk> as Crashes>⟧.image ⟦<Fuse<MemDisk> as Crashes>⟧.armed; file = EngineStep ⟦<FileDisk<H::File> as Device>⟧.honest ⟦<FileDisk<H::File> as Device>⟧.seen ⟦<FileDisk<H::File> as Device>⟧.may_leave ⟦<FileDisk<H::File> as Device>⟧.failed ⟦<FileDisk<H::File> as Device>⟧.refuses ⟦<FileDisk<H::File> as Breaks>⟧.broken }) (texts words.now) (R.remaining input) result) (W.contents output.old) (W.contents output.new) }
-    ensures part { result ≡ 4 → BreaksOff (IsOutputOf (record { memory = medium_of ⟦<Fuse<MemDisk> as Device>⟧.honest ⟦<Fuse<MemDisk> as Device>⟧.seen ⟦<Fuse<MemDisk> as Device>⟧.may_leave ⟦<Fuse<MemDisk> as Device>⟧.failed ⟦<Fuse<MemDisk> as Device>⟧.refuses ⟦<Fuse<MemDisk> as Breaks>⟧.broken ⟦<Fuse<MemDisk> as Crashes>⟧.image ⟦<Fuse<MemDisk> as Crashes>⟧.armed; file = EngineStep ⟦<FileDisk<H::File> as Device>⟧.honest ⟦<FileDisk<H::File> as Device>⟧.seen ⟦<FileDisk<H::File> as Device>⟧.may_leave ⟦<FileDisk<H::File> as Device>⟧.failed ⟦<FileDisk<H::File> as Device>⟧.refuses ⟦<FileDisk<H::File> as Breaks>⟧.broken }) (texts words.now) (R.remaining input) 4) (W.contents output.old) (W.contents output.new) }
+    S::Disk: Breaks,
+    ensures whole { result ≢ 4 → Writes (IsOutputOf (record { memory = medium_of ⟦<Fuse<MemDisk> as Device>⟧.honest ⟦<Fuse<MemDisk> as Device>⟧.seen ⟦<Fuse<MemDisk> as Device>⟧.may_leave ⟦<Fuse<MemDisk> as Device>⟧.failed ⟦<Fuse<MemDisk> as Device>⟧.refuses ⟦<Fuse<MemDisk> as Breaks>⟧.broken ⟦<Fuse<MemDisk> as Crashes>⟧.image ⟦<Fuse<MemDisk> as Crashes>⟧.armed; file = places_of S.Disk.honest S.Disk.seen S.Disk.may_leave S.Disk.failed S.Disk.refuses S.Disk.broken (S.is_opened places.now) (S.is_made places.now) }) (texts words.now) (R.remaining input) result) (W.contents output.old) (W.contents output.new) }
+    ensures part { result ≡ 4 → BreaksOff (IsOutputOf (record { memory = medium_of ⟦<Fuse<MemDisk> as Device>⟧.honest ⟦<Fuse<MemDisk> as Device>⟧.seen ⟦<Fuse<MemDisk> as Device>⟧.may_leave ⟦<Fuse<MemDisk> as Device>⟧.failed ⟦<Fuse<MemDisk> as Device>⟧.refuses ⟦<Fuse<MemDisk> as Breaks>⟧.broken ⟦<Fuse<MemDisk> as Crashes>⟧.image ⟦<Fuse<MemDisk> as Crashes>⟧.armed; file = places_of S.Disk.honest S.Disk.seen S.Disk.may_leave S.Disk.failed S.Disk.refuses S.Disk.broken (S.is_opened places.now) (S.is_made places.now) }) (texts words.now) (R.remaining input) 4) (W.contents output.old) (W.contents output.new) }
 {
     let memory = Fuse::new(MemDisk::new(alloc));
-    match run_words(rt, alloc, words, memory, input, output, complaints) {
+    match run_words(places, alloc, words, memory, input, output, complaints) {
         Ok(status) => status,
         Err(stop) => {
             stop.complain(complaints);
@@ -117,8 +115,8 @@ fn write_options<W: Write>(output: &mut W) -> io::Result<()>
 }
 
 /// The same as `run`, over this device in memory, with what stopped it.
-fn run_words<H: Files, M: Crashes, R: Read + Drop, W: Write, E: Write>(
-    rt: &H,
+fn run_words<S: StorePlaces, M: Crashes, R: Read + Drop, W: Write, E: Write>(
+    places: &S,
     alloc: Global,
     words: &[&str],
     memory: M,
@@ -127,16 +125,16 @@ fn run_words<H: Files, M: Crashes, R: Read + Drop, W: Write, E: Write>(
     complaints: &mut E,
 ) -> Result<u8, Stop>
 where
-    H::File: Lockable,
+    S::Disk: Breaks,
     requires honest { M.honest memory }
     requires sound { RefusesNoCall M.refuses memory }
-    ensures whole { IfOk result (λ status. Writes (IsOutputOf (record { memory = medium_of M.honest M.seen M.may_leave M.failed M.refuses M.broken M.image M.armed; file = EngineStep ⟦<FileDisk<H::File> as Device>⟧.honest ⟦<FileDisk<H::File> as Device>⟧.seen ⟦<FileDisk<H::File> as Device>⟧.may_leave ⟦<FileDisk<H::File> as Device>⟧.failed ⟦<FileDisk<H::File> as Device>⟧.refuses ⟦<FileDisk<H::File> as Breaks>⟧.broken }) (texts words.now) (R.remaining input) status) (W.contents output.old) (W.contents output.new)) }
-    ensures part { OnErr result (BreaksOff (IsOutputOf (record { memory = medium_of M.honest M.seen M.may_leave M.failed M.refuses M.broken M.image M.armed; file = EngineStep ⟦<FileDisk<H::File> as Device>⟧.honest ⟦<FileDisk<H::File> as Device>⟧.seen ⟦<FileDisk<H::File> as Device>⟧.may_leave ⟦<FileDisk<H::File> as Device>⟧.failed ⟦<FileDisk<H::File> as Device>⟧.refuses ⟦<FileDisk<H::File> as Breaks>⟧.broken }) (texts words.now) (R.remaining input) 4) (W.contents output.old) (W.contents output.new)) }
+    ensures whole { IfOk result (λ status. Writes (IsOutputOf (record { memory = medium_of M.honest M.seen M.may_leave M.failed M.refuses M.broken M.image M.armed; file = places_of S.Disk.honest S.Disk.seen S.Disk.may_leave S.Disk.failed S.Disk.refuses S.Disk.broken (S.is_opened places.now) (S.is_made places.now) }) (texts words.now) (R.remaining input) status) (W.contents output.old) (W.contents output.new)) }
+    ensures part { OnErr result (BreaksOff (IsOutputOf (record { memory = medium_of M.honest M.seen M.may_leave M.failed M.refuses M.broken M.image M.armed; file = places_of S.Disk.honest S.Disk.seen S.Disk.may_leave S.Disk.failed S.Disk.refuses S.Disk.broken (S.is_opened places.now) (S.is_made places.now) }) (texts words.now) (R.remaining input) 4) (W.contents output.old) (W.contents output.new)) }
 {
     let status = match options_of(alloc, words) {
         Ok(options) => {
             let bytes = script_bytes(alloc, input)?;
-            run_text(rt, alloc, &options, memory, &bytes, output, complaints)?
+            run_text(places, alloc, &options, memory, &bytes, output, complaints)?
         }
         Err(fault) => {
             complain_of_words(complaints, words, &fault);
@@ -179,8 +177,8 @@ fn refuse_words<W: Write>(output: &mut W, fault: &RunFault) -> io::Result<u8>
 }
 
 /// Runs the script of these bytes, or prints its first faulty line.
-fn run_text<H: Files, M: Crashes, W: Write, E: Write>(
-    rt: &H,
+fn run_text<S: StorePlaces, M: Crashes, W: Write, E: Write>(
+    places: &S,
     alloc: Global,
     options: &Options,
     memory: M,
@@ -189,18 +187,18 @@ fn run_text<H: Files, M: Crashes, W: Write, E: Write>(
     complaints: &mut E,
 ) -> io::Result<u8>
 where
-    H::File: Lockable,
+    S::Disk: Breaks,
     requires honest { M.honest memory }
     requires sound { RefusesNoCall M.refuses memory }
-    ensures whole { IfOk result (λ status. Writes (IsRunOfText (record { memory = medium_of M.honest M.seen M.may_leave M.failed M.refuses M.broken M.image M.armed; file = EngineStep ⟦<FileDisk<H::File> as Device>⟧.honest ⟦<FileDisk<H::File> as Device>⟧.seen ⟦<FileDisk<H::File> as Device>⟧.may_leave ⟦<FileDisk<H::File> as Device>⟧.failed ⟦<FileDisk<H::File> as Device>⟧.refuses ⟦<FileDisk<H::File> as Breaks>⟧.broken }) options.now (script_of (mode_of (is_some options.now.file)) bytes.now) status) (W.contents output.old) (W.contents output.new)) }
-    ensures part { OnErr result (BreaksOff (IsRunOfText (record { memory = medium_of M.honest M.seen M.may_leave M.failed M.refuses M.broken M.image M.armed; file = EngineStep ⟦<FileDisk<H::File> as Device>⟧.honest ⟦<FileDisk<H::File> as Device>⟧.seen ⟦<FileDisk<H::File> as Device>⟧.may_leave ⟦<FileDisk<H::File> as Device>⟧.failed ⟦<FileDisk<H::File> as Device>⟧.refuses ⟦<FileDisk<H::File> as Breaks>⟧.broken }) options.now (script_of (mode_of (is_some options.now.file)) bytes.now) 4) (W.contents output.old) (W.contents output.new)) }
+    ensures whole { IfOk result (λ status. Writes (IsRunOfText (record { memory = medium_of M.honest M.seen M.may_leave M.failed M.refuses M.broken M.image M.armed; file = places_of S.Disk.honest S.Disk.seen S.Disk.may_leave S.Disk.failed S.Disk.refuses S.Disk.broken (S.is_opened places.now) (S.is_made places.now) }) options.now (script_of (mode_of (is_some options.now.file)) bytes.now) status) (W.contents output.old) (W.contents output.new)) }
+    ensures part { OnErr result (BreaksOff (IsRunOfText (record { memory = medium_of M.honest M.seen M.may_leave M.failed M.refuses M.broken M.image M.armed; file = places_of S.Disk.honest S.Disk.seen S.Disk.may_leave S.Disk.failed S.Disk.refuses S.Disk.broken (S.is_opened places.now) (S.is_made places.now) }) options.now (script_of (mode_of (is_some options.now.file)) bytes.now) 4) (W.contents output.old) (W.contents output.new)) }
 {
     let mode = match &options.file {
         Some(_) => Mode::File,
         None => Mode::Memory,
     };
     match script_of(alloc, bytes, mode) {
-        Ok(script) => run_script(rt, alloc, options, memory, &script, output, complaints),
+        Ok(script) => run_script(places, alloc, options, memory, &script, output, complaints),
         Err(Fault::Script(line, kind)) => {
             complain_of_line(complaints, bytes, line, kind);
             write_line_fault(alloc, output, line, kind)?;

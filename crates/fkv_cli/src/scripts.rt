@@ -2,28 +2,25 @@
 ghost use Rattle.std.specs.Prelude.{◌≡◌, IfErr, IfOk, OnErr, Some, is_some};
 ghost use Rattle.fkv_base.specs.declared.faults.Fault.TheVariants.{BadShape, Memory};
 ghost use Rattle.fkv_runs.specs.Below.fkv_playing.InTurn.{Writes};
-ghost use Rattle.fkv_runs.specs.Below.fkv_playing.Players.{EngineStep};
 ghost use Rattle.fkv_runs.specs.Beginnings.{BreaksOff};
 ghost use Rattle.fkv_runs.specs.Openings.{RefusesNoCall, medium_of};
-ghost use Rattle.fkv_cli.specs.Output.{AreSizes, HasSizes, IsRunOfOldStore, IsRunOfScript, IsRunOfStore, Refuses};
+ghost use Rattle.fkv_cli.specs.Output.{AreSizes, HasSizes, IsRunOfOldStore, IsRunOfScript, IsRunOfStore, Refuses, path_in, places_of};
 
 use crate::complaints::{Complaint, SizeFault, complain};
 use crate::file_runs::{play_new_file, play_old_file};
 use crate::memory_runs::play_memory;
 use fkv_base::{Fault, Shape, StoreClass};
-use fkv_disk::{Device, FileDisk};
-use fkv_files::Lockable;
+use fkv_files::StorePlaces;
 use fkv_lines::{Opening, Script, Sizes};
 use fkv_options::Options;
 use fkv_runs::{Breaks, Crashes, Picks, Piece, pieces_of, write_text};
 use fkv_texts::write_refusal;
 use std::alloc::Global;
 use std::io::{self, Write};
-use std::rt::Files;
 
 /// Runs a script: its store is created or opened, and its lines are played.
-pub(crate) fn run_script<H: Files, M: Crashes, W: Write, E: Write>(
-    rt: &H,
+pub(crate) fn run_script<S: StorePlaces, M: Crashes, W: Write, E: Write>(
+    places: &S,
     alloc: Global,
     options: &Options,
     memory: M,
@@ -32,11 +29,11 @@ pub(crate) fn run_script<H: Files, M: Crashes, W: Write, E: Write>(
     complaints: &mut E,
 ) -> io::Result<u8>
 where
-    H::File: Lockable,
+    S::Disk: Breaks,
     requires honest { M.honest memory }
     requires sound { RefusesNoCall M.refuses memory }
-    ensures whole { IfOk result (λ status. Writes (IsRunOfScript (record { memory = medium_of M.honest M.seen M.may_leave M.failed M.refuses M.broken M.image M.armed; file = EngineStep ⟦<FileDisk<H::File> as Device>⟧.honest ⟦<FileDisk<H::File> as Device>⟧.seen ⟦<FileDisk<H::File> as Device>⟧.may_leave ⟦<FileDisk<H::File> as Device>⟧.failed ⟦<FileDisk<H::File> as Device>⟧.refuses ⟦<FileDisk<H::File> as Breaks>⟧.broken }) options.now script.now.opening script.now.lines.items status) (W.contents output.old) (W.contents output.new)) }
-    ensures part { OnErr result (BreaksOff (IsRunOfScript (record { memory = medium_of M.honest M.seen M.may_leave M.failed M.refuses M.broken M.image M.armed; file = EngineStep ⟦<FileDisk<H::File> as Device>⟧.honest ⟦<FileDisk<H::File> as Device>⟧.seen ⟦<FileDisk<H::File> as Device>⟧.may_leave ⟦<FileDisk<H::File> as Device>⟧.failed ⟦<FileDisk<H::File> as Device>⟧.refuses ⟦<FileDisk<H::File> as Breaks>⟧.broken }) options.now script.now.opening script.now.lines.items 4) (W.contents output.old) (W.contents output.new)) }
+    ensures whole { IfOk result (λ status. Writes (IsRunOfScript (record { memory = medium_of M.honest M.seen M.may_leave M.failed M.refuses M.broken M.image M.armed; file = places_of S.Disk.honest S.Disk.seen S.Disk.may_leave S.Disk.failed S.Disk.refuses S.Disk.broken (S.is_opened places.now) (S.is_made places.now) }) options.now script.now.opening script.now.lines.items status) (W.contents output.old) (W.contents output.new)) }
+    ensures part { OnErr result (BreaksOff (IsRunOfScript (record { memory = medium_of M.honest M.seen M.may_leave M.failed M.refuses M.broken M.image M.armed; file = places_of S.Disk.honest S.Disk.seen S.Disk.may_leave S.Disk.failed S.Disk.refuses S.Disk.broken (S.is_opened places.now) (S.is_made places.now) }) options.now script.now.opening script.now.lines.items 4) (W.contents output.old) (W.contents output.new)) }
 {
     let Some(opening) = script.opening else {
         return Ok(0);
@@ -45,20 +42,20 @@ where
     match opening {
         Opening::Shape(sizes) => match shape_of(sizes) {
             Ok(shape) => run_new(
-                rt, alloc, options, memory, shape, &pieces, output, complaints,
+                places, alloc, options, memory, shape, &pieces, output, complaints,
             ),
             Err(fault) => {
                 complain_of_sizes(complaints, sizes);
                 refuse(alloc, output, fault, 2)
             }
         },
-        Opening::Open => run_old(rt, alloc, options, &pieces, output, complaints),
+        Opening::Open => run_old(places, alloc, options, &pieces, output, complaints),
     }
 }
 
 /// A new store of this shape, in memory or in a file.
-fn run_new<H: Files, M: Crashes, W: Write, E: Write>(
-    rt: &H,
+fn run_new<S: StorePlaces, M: Crashes, W: Write, E: Write>(
+    places: &S,
     alloc: Global,
     options: &Options,
     memory: M,
@@ -68,11 +65,11 @@ fn run_new<H: Files, M: Crashes, W: Write, E: Write>(
     complaints: &mut E,
 ) -> io::Result<u8>
 where
-    H::File: Lockable,
+    S::Disk: Breaks,
     requires honest { M.honest memory }
     requires sound { RefusesNoCall M.refuses memory }
-    ensures whole { IfOk result (λ status. Writes (λ text. IsRunOfStore (record { memory = medium_of M.honest M.seen M.may_leave M.failed M.refuses M.broken M.image M.armed; file = EngineStep ⟦<FileDisk<H::File> as Device>⟧.honest ⟦<FileDisk<H::File> as Device>⟧.seen ⟦<FileDisk<H::File> as Device>⟧.may_leave ⟦<FileDisk<H::File> as Device>⟧.failed ⟦<FileDisk<H::File> as Device>⟧.refuses ⟦<FileDisk<H::File> as Breaks>⟧.broken }) options.now (Some shape) pieces.now status text (is_some options.now.file)) (W.contents output.old) (W.contents output.new)) }
-    ensures part { OnErr result (BreaksOff (λ text. IsRunOfStore (record { memory = medium_of M.honest M.seen M.may_leave M.failed M.refuses M.broken M.image M.armed; file = EngineStep ⟦<FileDisk<H::File> as Device>⟧.honest ⟦<FileDisk<H::File> as Device>⟧.seen ⟦<FileDisk<H::File> as Device>⟧.may_leave ⟦<FileDisk<H::File> as Device>⟧.failed ⟦<FileDisk<H::File> as Device>⟧.refuses ⟦<FileDisk<H::File> as Breaks>⟧.broken }) options.now (Some shape) pieces.now 4 text (is_some options.now.file)) (W.contents output.old) (W.contents output.new)) }
+    ensures whole { IfOk result (λ status. Writes (λ text. IsRunOfStore (record { memory = medium_of M.honest M.seen M.may_leave M.failed M.refuses M.broken M.image M.armed; file = places_of S.Disk.honest S.Disk.seen S.Disk.may_leave S.Disk.failed S.Disk.refuses S.Disk.broken (S.is_opened places.now) (S.is_made places.now) }) options.now (Some shape) pieces.now status text (is_some options.now.file)) (W.contents output.old) (W.contents output.new)) }
+    ensures part { OnErr result (BreaksOff (λ text. IsRunOfStore (record { memory = medium_of M.honest M.seen M.may_leave M.failed M.refuses M.broken M.image M.armed; file = places_of S.Disk.honest S.Disk.seen S.Disk.may_leave S.Disk.failed S.Disk.refuses S.Disk.broken (S.is_opened places.now) (S.is_made places.now) }) options.now (Some shape) pieces.now 4 text (is_some options.now.file)) (W.contents output.old) (W.contents output.new)) }
 {
     let mut picks = Picks::new(options.seed);
     match &options.file {
@@ -80,7 +77,7 @@ where
             alloc, options, memory, shape, pieces, &mut picks, output, complaints,
         ),
         Some(path) => play_new_file(
-            rt,
+            places,
             alloc,
             path.as_str(),
             shape,
@@ -93,8 +90,8 @@ where
 }
 
 /// The store that a file holds.
-fn run_old<H: Files, W: Write, E: Write>(
-    rt: &H,
+fn run_old<S: StorePlaces, W: Write, E: Write>(
+    places: &S,
     alloc: Global,
     options: &Options,
     pieces: &[Piece],
@@ -102,14 +99,14 @@ fn run_old<H: Files, W: Write, E: Write>(
     complaints: &mut E,
 ) -> io::Result<u8>
 where
-    H::File: Lockable,
-    ensures whole { IfOk result (λ status. Writes (λ text. IsRunOfOldStore (EngineStep ⟦<FileDisk<H::File> as Device>⟧.honest ⟦<FileDisk<H::File> as Device>⟧.seen ⟦<FileDisk<H::File> as Device>⟧.may_leave ⟦<FileDisk<H::File> as Device>⟧.failed ⟦<FileDisk<H::File> as Device>⟧.refuses ⟦<FileDisk<H::File> as Breaks>⟧.broken) pieces.now status text (is_some options.now.file)) (W.contents output.old) (W.contents output.new)) }
-    ensures part { OnErr result (BreaksOff (λ text. IsRunOfOldStore (EngineStep ⟦<FileDisk<H::File> as Device>⟧.honest ⟦<FileDisk<H::File> as Device>⟧.seen ⟦<FileDisk<H::File> as Device>⟧.may_leave ⟦<FileDisk<H::File> as Device>⟧.failed ⟦<FileDisk<H::File> as Device>⟧.refuses ⟦<FileDisk<H::File> as Breaks>⟧.broken) pieces.now 4 text (is_some options.now.file)) (W.contents output.old) (W.contents output.new)) }
+    S::Disk: Breaks,
+    ensures whole { IfOk result (λ status. Writes (λ text. IsRunOfOldStore (places_of S.Disk.honest S.Disk.seen S.Disk.may_leave S.Disk.failed S.Disk.refuses S.Disk.broken (S.is_opened places.now) (S.is_made places.now)) (path_in options.now.file) pieces.now status text (is_some options.now.file)) (W.contents output.old) (W.contents output.new)) }
+    ensures part { OnErr result (BreaksOff (λ text. IsRunOfOldStore (places_of S.Disk.honest S.Disk.seen S.Disk.may_leave S.Disk.failed S.Disk.refuses S.Disk.broken (S.is_opened places.now) (S.is_made places.now)) (path_in options.now.file) pieces.now 4 text (is_some options.now.file)) (W.contents output.old) (W.contents output.new)) }
 {
     let mut picks = Picks::new(options.seed);
     match &options.file {
         Some(path) => play_old_file(
-            rt,
+            places,
             alloc,
             path.as_str(),
             pieces,

@@ -1,7 +1,9 @@
 -- What a device that is kept in memory too shows of itself.
-use Rattle.std.specs.Prelude.{ℕ, List, Bool}
+use Rattle.std.specs.Prelude.{◌≡◌, ℕ, List, Bool, false}
 use Rattle.fkv_disk.specs.Calls.{Call}
+use Rattle.fkv_disk.specs.Device.{IsAfter}
 use Rattle.fkv_disk.specs.Memory.{disk_bytes, disk_calls, disk_opening}
+use Rattle.fkv_disk.specs.declared.devices.Device.{Ghosts}
 use Rattle.fkv_files.specs.declared.mirrors.Mirror.{Mirror}
 
 -- the device that its writes and syncs go on to
@@ -23,3 +25,8 @@ mirror_calls mirror = disk_calls mirror.memory
 -- its device has refused a call
 abbrev pub is_lost : {D : Type 0} {g : _} → Mirror D g → Bool
 is_lost mirror = mirror.is_lost
+
+-- Until its device has refused a call that one, if it is honest, reads as, and may leave, what its calls give.
+pub mirror_after : {D : Type 0} {g : Ghosts D} (mirror : Mirror D g) → is_lost mirror ≡ false → g.honest (mirror_device mirror)
+    → IsAfter (mirror_opening mirror) (mirror_calls mirror) (g.seen (mirror_device mirror)) (g.may_leave (mirror_device mirror))
+mirror_after mirror passed h = mirror.after passed h

@@ -8,7 +8,6 @@ use Rattle.fkv_base.specs.declared.numbers.Key.{Key}
 use Rattle.fkv_base.specs.declared.numbers.Value.{Value}
 use Rattle.fkv_base.specs.declared.shapes.Shape.{Shape}
 use Rattle.fkv_disk.specs.Device.{LeavesOnly}
-use Rattle.fkv_lines.specs.declared.scripts.Sizes.{Sizes}
 use Rattle.fkv_opening.specs.Faults.{IsFaultOf, IsRefused}
 use Rattle.fkv_opening.specs.Opened.{IsStoreOf}
 use Rattle.fkv_opening.specs.declared.opened_store.Opened.{Opened}
@@ -16,12 +15,14 @@ use Rattle.fkv_pairs.specs.Pairs.{ArePairs, log_of_store}
 use Rattle.fkv_renewing.specs.Renewed.{AreSomePairs, IsRenewal}
 use Rattle.fkv_renewing.specs.Room.{HasRoomFor}
 use Rattle.fkv_spread.specs.declared.keys.Keys.{Keys}
+use Rattle.fkv_renew.specs.Files.{Files}
 use Rattle.fkv_renew.specs.Renewals.{IsHindrance, IsRefusal, IsRenewalOf, IsUnrenewed, IsWanted, Renews, refusal_of_old, saved_of}
 use Rattle.fkv_renew.specs.Stores.{IsHeld, IsLaid, IsUnread}
 use Rattle.fkv_renew.specs.declared.renewals.Refusal.{Refusal}
 use Rattle.fkv_renew.specs.declared.renewals.Refusal.TheVariants as refusal
 use Rattle.fkv_renew.specs.declared.saved.Saved.{Saved}
 use Rattle.fkv_renew.specs.declared.stores.Store.{Store}
+use Rattle.fkv_renew.specs.declared.words.Asked.{Asked}
 
 -- the store that an image holds, with its pairs, where a device reads as that image still
 pub held_by : (image read still : List ℕ) (opened : Opened) (pairs : List (Key × Value)) → read ≡ image → still ≡ read → IsStoreOf read opened
@@ -49,13 +50,14 @@ module _ {N : Type 0} (honest : N → Type 0) (seen : N → List ℕ) (may_leave
 
   module _ {O : Type 0} (old_honest : O → Type 0) (old_seen : O → List ℕ) where
     -- so a store is renewed from one device to another
-    pub renewed_so : (wanted : Option Shape) (keys : Keys) (old : O) (named : Option N) (store laid : Store) (shape : Shape) (saved : Saved) → (old_honest old → AreSomePairs store.pairs.items) → IsLaid keys store laid
+    pub renewed_so : (wanted : Option Shape) (keys : Keys) (old : O) (named : Option N) (Has : N → Type 0) (store laid : Store) (shape : Shape) (saved : Saved) → (old_honest old → AreSomePairs store.pairs.items) → IsLaid keys store laid
         → shape ≡ unwrap_or wanted laid.opened.shape → (old_honest old → IsHeld (old_seen old) store) → HasRoomFor shape laid.opened.points.items laid.pairs.items
-        → IsSomeAnd named (IsRenewalOf honest seen may_leave laid shape) → saved ≡ saved_of laid shape → (new : N) × (named ≡ Some new) × Renews old_honest old_seen honest seen may_leave wanted keys old new saved
-    renewed_so wanted keys old None store laid shape saved some is sized held room renewed says = absurd renewed
-    renewed_so wanted keys old (Some new) store laid shape saved some is sized held room renewed says = (
+        → IsSomeAnd named Has → IsSomeAnd named (IsRenewalOf honest seen may_leave laid shape) → saved ≡ saved_of laid shape → (new : N) × (named ≡ Some new) × Has new × Renews old_honest old_seen honest seen may_leave wanted keys old new saved
+    renewed_so wanted keys old None Has store laid shape saved some is sized held room has renewed says = absurd renewed
+    renewed_so wanted keys old (Some new) Has store laid shape saved some is sized held room has renewed says = (
       new,
       refl,
+      has,
       record {
         store = store;
         laid = laid;
@@ -103,12 +105,13 @@ module _ {O : Type 0} (honest : O → Type 0) (seen : O → List ℕ) (wanted : 
   no_room store laid shape (refusal.Old its) held is sized why = absurd why
   no_room store laid shape (refusal.Unopened fault) held is sized why = absurd why
 
-  -- where the device is the old file
-  pub refused_so : (sizes : Option Sizes) (its : Refusal) → IsWanted sizes wanted → IsUnrenewed honest seen wanted keys old its → IsRefusal honest seen sizes keys its
-  refused_so sizes (refusal.Unopened fault) sized why = (wanted, sized, old, why)
-  refused_so sizes (refusal.Unfit fault) sized why = (wanted, sized, old, why)
-  refused_so sizes (refusal.First its) sized why = (wanted, sized)
-  refused_so sizes (refusal.New its) sized why = (wanted, sized)
-  refused_so sizes refusal.Memory sized why = (wanted, sized)
-  refused_so sizes (refusal.Sizes refused) sized why = absurd why
-  refused_so sizes (refusal.Old its) sized why = absurd why
+-- where the device is the old file
+pub refused_so : {D : Type 0} (files : Files D) (asked : Asked) (wanted : Option Shape) (old : D) (its : Refusal) → IsWanted asked.sizes wanted → files.is_opened asked.old.now old
+    → IsUnrenewed files.honest files.seen wanted asked.keys old its → IsRefusal files asked its
+refused_so files asked wanted old (refusal.Unopened fault) sized opened why = (wanted, sized, old, opened, why)
+refused_so files asked wanted old (refusal.Unfit fault) sized opened why = (wanted, sized, old, opened, why)
+refused_so files asked wanted old (refusal.First its) sized opened why = (wanted, sized)
+refused_so files asked wanted old (refusal.New its) sized opened why = (wanted, sized)
+refused_so files asked wanted old refusal.Memory sized opened why = (wanted, sized)
+refused_so files asked wanted old (refusal.Sizes refused) sized opened why = absurd why
+refused_so files asked wanted old (refusal.Old its) sized opened why = absurd why

@@ -1,13 +1,12 @@
 -- What the program answers, by what it is asked for.
-use Rattle.std.specs.Prelude.{◌≡◌, ◌⊎◌, ℕ, List, codes, Option}
+use Rattle.std.specs.Prelude.{◌≡◌, ◌⊎◌, ℕ, List, codes}
 use Rattle.fkv_base.specs.declared.faults.Fault.{Fault}
 use Rattle.fkv_base.specs.declared.faults.Fault.TheVariants.{BadShape, Device}
-use Rattle.fkv_lines.specs.declared.scripts.Sizes.{Sizes}
-use Rattle.fkv_spread.specs.declared.keys.Keys.{Keys}
 use Rattle.fkv_texts.specs.Lines.{line_of}
 use Rattle.fkv_texts.specs.Refusals.{last_refusal}
 use Rattle.clap.specs.Walk.{Text}
 use Rattle.fkv_renew.specs.Asked.{AreRefusedWords, AskFor}
+use Rattle.fkv_renew.specs.Files.{Files}
 use Rattle.fkv_renew.specs.Renewals.{IsRefusal, IsSavedFrom}
 use Rattle.fkv_renew.specs.Saved.{saved_text}
 use Rattle.fkv_renew.specs.declared.renewals.Refusal.{Refusal}
@@ -27,15 +26,15 @@ status_of_refusal (refusal.Sizes sizes) = 2
 status_of_refusal other = 3
 
 -- The answer to what is asked for: what is saved, with status 0; or the refusal.
-abbrev pub IsAnswerTo : {D : Type 0} → (D → Type 0) → (D → List ℕ) → (D → List ℕ → Type 0) → Option Sizes → Keys → ℕ → List ℕ → Type 0
-IsAnswerTo honest seen may_leave sizes keys status text =
-    ((saved : Saved) × IsSavedFrom honest seen may_leave sizes keys saved × (status ≡ 0) × (text ≡ saved_text saved))
-    ⊎ ((its : Refusal) × IsRefusal honest seen sizes keys its × (status ≡ status_of_refusal its) × (text ≡ last_refusal (fault_of_refusal its)))
+abbrev pub IsAnswerTo : {D : Type 0} → Files D → Asked → ℕ → List ℕ → Type 0
+IsAnswerTo files asked status text =
+    ((saved : Saved) × IsSavedFrom files asked saved × (status ≡ 0) × (text ≡ saved_text saved))
+    ⊎ ((its : Refusal) × IsRefusal files asked its × (status ≡ status_of_refusal its) × (text ≡ last_refusal (fault_of_refusal its)))
 
 -- The answer to the words: words that are refused give the line `options`, with status 2.
-abbrev pub IsAnswer : {D : Type 0} → (D → Type 0) → (D → List ℕ) → (D → List ℕ → Type 0) → List Text → ℕ → List ℕ → Type 0
-IsAnswer honest seen may_leave words status text =
-    ((asked : Asked) × AskFor words asked × IsAnswerTo honest seen may_leave asked.sizes asked.keys status text)
+abbrev pub IsAnswer : {D : Type 0} → Files D → List Text → ℕ → List ℕ → Type 0
+IsAnswer files words status text =
+    ((asked : Asked) × AskFor words asked × IsAnswerTo files asked status text)
     ⊎ (AreRefusedWords words × (status ≡ 2) × (text ≡ line_of (codes "options")))
 
 -- words of which one is no text are refused so too

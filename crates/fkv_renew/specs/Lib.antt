@@ -1,5 +1,6 @@
 pub mod Answers
 pub mod Asked
+pub mod Files
 pub mod Renewals
 pub mod Said
 pub mod Saved

@@ -13,6 +13,7 @@ use Rattle.fkv_renewing.specs.Refused.{IsUnfit}
 use Rattle.fkv_renewing.specs.Renewed.{AreSomePairs, IsRenewal}
 use Rattle.fkv_renewing.specs.Room.{HasRoomFor}
 use Rattle.fkv_spread.specs.declared.keys.Keys.{Keys}
+use Rattle.fkv_renew.specs.Files.{Files}
 use Rattle.fkv_renew.specs.Saved.{taken_of}
 use Rattle.fkv_renew.specs.Sizes.{AreSizes, HasSizes}
 use Rattle.fkv_renew.specs.Stores.{IsHeld, IsLaid, IsUnread}
@@ -20,6 +21,7 @@ use Rattle.fkv_renew.specs.declared.renewals.Refusal.{Refusal}
 use Rattle.fkv_renew.specs.declared.renewals.Refusal.TheVariants.{First, Memory, New, Sizes as SizesRefused, Unfit, Unopened}
 use Rattle.fkv_renew.specs.declared.saved.Saved.{Saved}
 use Rattle.fkv_renew.specs.declared.stores.Store.{Store}
+use Rattle.fkv_renew.specs.declared.words.Asked.{Asked}
 
 -- ---- what is made
 
@@ -100,25 +102,28 @@ IsUnrenewed honest seen wanted keys old (New its) = Unit {0}
 IsUnrenewed honest seen wanted keys old Memory = Unit {0}
 IsUnrenewed honest seen wanted keys old other = ⊥
 
--- ---- by the sizes that are asked for
+-- ---- by what is asked for
 
 -- the shape that has them, where some are asked for
 abbrev pub IsWanted : Option Sizes → Option Shape → Type 0
 IsWanted None wanted = wanted ≡ None
 IsWanted (Some sizes) wanted = IsSomeAnd wanted (HasSizes sizes)
 
--- two devices are the files of a renewal that saved this, with these sizes, the keys laid so
-pub record IsSavedFrom {D : Type 0} (honest : D → Type 0) (seen : D → List ℕ) (may_leave : D → List ℕ → Type 0) (sizes : Option Sizes) (keys : Keys) (saved : Saved) : Type 0 where
+-- From the file of the old path, as it was opened, a store was renewed to a file that has then got the new path as its name, with the sizes and keys that are asked
+-- for; and this was saved.
+pub record IsSavedFrom {D : Type 0} (files : Files D) (asked : Asked) (saved : Saved) : Type 0 where
   pub wanted : Option Shape
-  pub sized : IsWanted sizes wanted
+  pub sized : IsWanted asked.sizes wanted
   pub old : D
   pub new : D
-  pub renews : Renews honest seen honest seen may_leave wanted keys old new saved
+  pub opened : files.is_opened asked.old.now old
+  pub named : files.is_named asked.new.now new
+  pub renews : Renews files.honest files.seen files.honest files.seen files.may_leave wanted asked.keys old new saved
 
--- Why a renewal is refused: no store has the sizes that are asked for. Or a device is the old file, and its store isn't opened or has no room. Or a file or memory
--- failed.
-abbrev pub IsRefusal : {D : Type 0} → (D → Type 0) → (D → List ℕ) → Option Sizes → Keys → Refusal → Type 0
-IsRefusal honest seen sizes keys (SizesRefused refused) = (sizes ≡ Some refused) × (AreSizes refused → ⊥)
-IsRefusal {D} honest seen sizes keys (Unopened fault) = (wanted : Option Shape) × IsWanted sizes wanted × (old : D) × IsUnopened (honest old) (seen old) fault
-IsRefusal {D} honest seen sizes keys (Unfit fault) = (wanted : Option Shape) × IsWanted sizes wanted × (old : D) × IsHindered honest seen wanted keys old fault
-IsRefusal honest seen sizes keys other = (wanted : Option Shape) × IsWanted sizes wanted
+-- Why a renewal is refused: no store has the sizes that are asked for. Or the file of the old path was opened, and its store isn't or has no room. Or a file or
+-- memory failed.
+abbrev pub IsRefusal : {D : Type 0} → Files D → Asked → Refusal → Type 0
+IsRefusal files asked (SizesRefused refused) = (asked.sizes ≡ Some refused) × (AreSizes refused → ⊥)
+IsRefusal {D} files asked (Unopened fault) = (wanted : Option Shape) × IsWanted asked.sizes wanted × (old : D) × files.is_opened asked.old.now old × IsUnopened (files.honest old) (files.seen old) fault
+IsRefusal {D} files asked (Unfit fault) = (wanted : Option Shape) × IsWanted asked.sizes wanted × (old : D) × files.is_opened asked.old.now old × IsHindered files.honest files.seen wanted asked.keys old fault
+IsRefusal files asked other = (wanted : Option Shape) × IsWanted asked.sizes wanted

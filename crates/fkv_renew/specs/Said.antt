@@ -6,6 +6,7 @@ pub use Rattle.fkv_base.specs.declared.faults.Fault.TheVariants.{BadShape}
 pub use Rattle.fkv_lines.specs.declared.scripts.Sizes.{Sizes as TheSizes}
 pub use Rattle.fkv_renew.specs.Answers.{IsAnswer, IsAnswerTo, IsUnreadAnswer, fault_of_refusal, status_of_refusal}
 pub use Rattle.fkv_renew.specs.Asked.{AreAskedSizes, AreSizesOf, Spells, TellsAsked, command_line, keys_by}
+pub use Rattle.fkv_renew.specs.Files.{files_of}
 pub use Rattle.fkv_renew.specs.Renewals.{IsHindrance, IsRefusal, IsRenewalOf, IsSavedFrom, IsUnrenewed, IsWanted, Renews, refusal_by, refusal_of_old, saved_of}
 pub use Rattle.fkv_renew.specs.Saved.{bytes_up_to, change_line, saved_text, taken_of}
 pub use Rattle.fkv_renew.specs.Sizes.{AreSizes, HasSizes}

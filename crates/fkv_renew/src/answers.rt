@@ -8,12 +8,10 @@ use crate::saved::write_saved;
 use crate::telling::Teller;
 use crate::words::{Asked, WordFault, asked_of};
 use fkv_base::Fault;
-use fkv_disk::{Device, FileDisk};
-use fkv_files::Lockable;
+use fkv_files::StorePlaces;
 use fkv_texts::write_refusal;
 use std::alloc::Global;
 use std::io::{self, ErrorKind, Write};
-use std::rt::Files;
 
 /// The exit status of a run, and the text that it prints.
 #[derive(Drop)]
@@ -30,18 +28,16 @@ const WORDS_REFUSED: u8 = 2;
 const STORE_REFUSED: u8 = 3;
 
 /// What a run answers to the words after the program's name.
-pub(crate) fn answer_words<H: Files, E: Write>(
-    rt: &H,
+pub(crate) fn answer_words<S: StorePlaces, E: Write>(
+    places: &S,
     alloc: Global,
     words: &[&str],
     teller: &mut Teller<E>,
 ) -> io::Result<Answer>
-where
-    H::File: Lockable,
-    ensures { said.IfOk result (λ answer. said.IsAnswer ⟦<FileDisk<H::File> as Device>⟧.honest ⟦<FileDisk<H::File> as Device>⟧.seen ⟦<FileDisk<H::File> as Device>⟧.may_leave (said.texts words.now) answer.status answer.text.items) }
+    ensures { said.IfOk result (λ answer. said.IsAnswer (said.files_of S.Disk.honest S.Disk.seen S.Disk.may_leave (S.is_opened places.now) (S.is_named places.now)) (said.texts words.now) answer.status answer.text.items) }
 {
     match asked_of(alloc, words) {
-        Ok(asked) => answer_asked(rt, alloc, asked, teller),
+        Ok(asked) => answer_asked(places, alloc, asked, teller),
         Err(fault) => refuse_words(alloc, fault, teller),
     }
 }
@@ -69,17 +65,15 @@ pub(crate) fn refuse_words<E: Write>(
 }
 
 /// The answer to what is asked for.
-fn answer_asked<H: Files, E: Write>(
-    rt: &H,
+fn answer_asked<S: StorePlaces, E: Write>(
+    places: &S,
     alloc: Global,
     asked: Asked<'_>,
     teller: &mut Teller<E>,
 ) -> io::Result<Answer>
-where
-    H::File: Lockable,
-    ensures { said.IfOk result (λ answer. said.IsAnswerTo ⟦<FileDisk<H::File> as Device>⟧.honest ⟦<FileDisk<H::File> as Device>⟧.seen ⟦<FileDisk<H::File> as Device>⟧.may_leave asked.entry.sizes asked.entry.keys answer.status answer.text.items) }
+    ensures { said.IfOk result (λ answer. said.IsAnswerTo (said.files_of S.Disk.honest S.Disk.seen S.Disk.may_leave (S.is_opened places.now) (S.is_named places.now)) asked.entry answer.status answer.text.items) }
 {
-    match renew_file(rt, alloc, asked, teller) {
+    match renew_file(places, alloc, asked, teller) {
         Ok(saved) => {
             let mut text = Vec::new(alloc);
             write_saved(&mut text, saved)?;

@@ -2,9 +2,8 @@
 ghost use Rattle.std.specs.Prelude.{◌≡◌, Option, Some};
 ghost use Rattle.fkv_renew.specs.Said as said;
 
-use fkv_disk::{Device, FileDisk};
-use fkv_files::{Lockable, Trouble, discard, give_name, make_new};
-use std::rt::Files;
+use fkv_disk::Device;
+use fkv_files::{StorePlaces, Trouble};
 
 /// A place that names a device once, when it is whole.
 pub(crate) trait Place {
@@ -13,38 +12,43 @@ pub(crate) trait Place {
     /// The device that has its name here, or none.
     ghost named: { Self → Option Self.Device };
 
+    /// This device, as it now is, has got its name here.
+    ghost has_name: { Self → Self.Device → Type 0 };
+
     /// Makes a device that has no name yet.
-    fn make(&mut self) -> Result<Self::Device, Trouble>
-        ensures { named self.new ≡ named self.old };
+    fn make(&self) -> Result<Self::Device, Trouble>;
 
     /// Gives a device its name. It isn't written from then on.
     fn name(&mut self, device: Self::Device) -> Result<(), Trouble>
         ensures ok { said.OnOk result (named self.new ≡ Some device) }
+        ensures has_name { said.OnOk result (has_name self.old device) }
         ensures err { said.OnErr result (named self.new ≡ named self.old) };
 
     /// Takes a device back that gets no name, and leaves nothing of it.
-    fn discard(&mut self, device: Self::Device)
-        ensures { named self.new ≡ named self.old };
+    fn discard(&self, device: Self::Device);
 }
 
 /// A file of a folder, with the permissions of another file.
 #[derive(Drop)]
-pub(crate) struct NewFile<'a, H: Files> {
-    rt: &'a H,
+pub(crate) struct NewFile<'a, S: StorePlaces> {
+    places: &'a S,
     /// The name that it has until it is whole.
     first: &'a str,
     name: &'a str,
     /// The file whose permissions it has.
     like: &'a str,
     /// It is kept with its lock until the program ends.
-    named: Option<FileDisk<H::File>>,
+    named: Option<S::Disk>,
 }
 
-impl<'a, H: Files> NewFile<'a, H> {
+impl<'a, S: StorePlaces> NewFile<'a, S> {
     /// A file that isn't made yet.
-    pub(crate) fn new(rt: &'a H, first: &'a str, name: &'a str, like: &'a str) -> NewFile<'a, H> {
+    pub(crate) fn new(places: &'a S, first: &'a str, name: &'a str, like: &'a str) -> NewFile<'a, S>
+        ensures places { result.places.now ≡ places.now }
+        ensures name { result.name.now ≡ name.now }
+    {
         NewFile {
-            rt,
+            places,
             first,
             name,
             like,
@@ -53,25 +57,24 @@ impl<'a, H: Files> NewFile<'a, H> {
     }
 }
 
-impl<H: Files> Place for NewFile<'_, H>
-where
-    H::File: Lockable,
-{
-    type Device = FileDisk<H::File>;
+impl<S: StorePlaces> Place for NewFile<'_, S> {
+    type Device = S::Disk;
 
     ghost named = { λ file. file.named };
 
-    fn make(&mut self) -> Result<FileDisk<H::File>, Trouble> {
-        make_new(self.rt, self.first, self.like)
+    ghost has_name = { λ file. S.is_named file.places.now file.name.now };
+
+    fn make(&self) -> Result<S::Disk, Trouble> {
+        self.places.make_new(self.first, self.like)
     }
 
-    fn name(&mut self, device: FileDisk<H::File>) -> Result<(), Trouble> {
-        give_name(self.rt, self.first, self.name)?;
+    fn name(&mut self, device: S::Disk) -> Result<(), Trouble> {
+        self.places.give_name(&device, self.first, self.name)?;
         self.named = Some(device);
         Ok(())
     }
 
-    fn discard(&mut self, _device: FileDisk<H::File>) {
-        discard(self.rt, self.first);
+    fn discard(&self, _device: S::Disk) {
+        self.places.discard(self.first);
     }
 }

@@ -9,14 +9,13 @@ use crate::stores::{Store, read_store};
 use crate::telling::Teller;
 use crate::words::Asked;
 use fkv_base::{Addr, Fault, Shape, Version};
-use fkv_disk::{Device, FileDisk};
-use fkv_files::{Lockable, Trouble, expect_none, open_alone};
+use fkv_disk::Device;
+use fkv_files::{StorePlaces, Trouble};
 use fkv_lines::Sizes;
 use fkv_renewing::{law_pairs, renew};
 use fkv_spread::Keys;
 use std::alloc::{AllocError, Global};
 use std::io::Write;
-use std::rt::Files;
 
 /// Why no store was renewed.
 #[derive(Clone, Copy)]
@@ -53,31 +52,29 @@ const ENDING: &str = ".renewing";
 /// Renews the store in one file into another, which isn't there before: just its pairs, their keys laid as is asked for, and its points.
 /// That one has another name until it is whole, and isn't there where the renewal is refused. The store's file is locked meanwhile, and
 /// never written.
-pub(crate) fn renew_file<H: Files, E: Write>(
-    rt: &H,
+pub(crate) fn renew_file<S: StorePlaces, E: Write>(
+    places: &S,
     alloc: Global,
     asked: Asked<'_>,
     teller: &mut Teller<E>,
 ) -> Result<Saved, Refusal>
-where
-    H::File: Lockable,
-    ensures ok { said.IfOk result (said.IsSavedFrom ⟦<FileDisk<H::File> as Device>⟧.honest ⟦<FileDisk<H::File> as Device>⟧.seen ⟦<FileDisk<H::File> as Device>⟧.may_leave asked.entry.sizes asked.entry.keys) }
-    ensures err { said.IfErr result (said.IsRefusal ⟦<FileDisk<H::File> as Device>⟧.honest ⟦<FileDisk<H::File> as Device>⟧.seen asked.entry.sizes asked.entry.keys) }
+    ensures ok { said.IfOk result (said.IsSavedFrom (said.files_of S.Disk.honest S.Disk.seen S.Disk.may_leave (S.is_opened places.now) (S.is_named places.now)) asked.entry) }
+    ensures err { said.IfErr result (said.IsRefusal (said.files_of S.Disk.honest S.Disk.seen S.Disk.may_leave (S.is_opened places.now) (S.is_named places.now)) asked.entry) }
 {
     let wanted = match wanted_of(asked.sizes) {
         Ok(wanted) => wanted,
         Err(sizes) => return Err(Refusal::Sizes(sizes)),
     };
-    if let Err(trouble) = expect_none(rt, asked.new) {
+    if let Err(trouble) = places.expect_none(asked.new) {
         return Err(Refusal::New(trouble));
     }
     let mut first = String::from_str(alloc, asked.new)?;
     first.push_str(ENDING)?;
-    let (device, length) = match open_alone(rt, asked.old) {
+    let (device, length) = match places.open_alone(asked.old) {
         Ok(found) => found,
         Err(trouble) => return Err(Refusal::Old(trouble)),
     };
-    let mut place = NewFile::new(rt, first.as_str(), asked.new, asked.old);
+    let mut place = NewFile::new(places, first.as_str(), asked.new, asked.old);
     renew_store(
         alloc, device, length, wanted, asked.keys, &mut place, teller,
     )
@@ -107,7 +104,7 @@ fn renew_store<D: Device + Drop, P: Place, E: Write>(
     place: &mut P,
     teller: &mut Teller<E>,
 ) -> Result<Saved, Refusal>
-    ensures ok { said.IfOk result (λ saved. (new : P.Device) × (P.named place.new ≡ Some new) × said.Renews D.honest D.seen P.Device.honest P.Device.seen P.Device.may_leave wanted keys device new saved) }
+    ensures ok { said.IfOk result (λ saved. (new : P.Device) × (P.named place.new ≡ Some new) × P.has_name place.old new × said.Renews D.honest D.seen P.Device.honest P.Device.seen P.Device.may_leave wanted keys device new saved) }
     ensures err { said.IfErr result (said.IsUnrenewed D.honest D.seen wanted keys device) }
     ensures unnamed { said.OnErr result (P.named place.new ≡ P.named place.old) }
 {
@@ -136,6 +133,7 @@ fn write_store<P: Place>(
 ) -> Result<(), Refusal>
     ensures room { said.OnOk result (said.HasRoomFor shape store.now.opened.points.items store.now.pairs.items) }
     ensures named { said.OnOk result (said.IsSomeAnd (P.named place.new) (said.IsRenewalOf P.Device.honest P.Device.seen P.Device.may_leave store.now shape)) }
+    ensures has_name { said.OnOk result (said.IsSomeAnd (P.named place.new) (P.has_name place.old)) }
     ensures unnamed { said.OnErr result (P.named place.new ≡ P.named place.old) }
     ensures err { said.IfErr result (said.IsHindrance shape store.now.opened.points.items store.now.pairs.items) }
 {

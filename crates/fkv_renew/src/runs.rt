@@ -5,29 +5,25 @@ ghost use Rattle.fkv_renew.specs.Said as said;
 use crate::answers::{Answer, answer_words, refuse_words};
 use crate::telling::Teller;
 use crate::words::WordFault;
-use fkv_disk::{Device, FileDisk};
-use fkv_files::Lockable;
+use fkv_files::StorePlaces;
 use fkv_runs::write_text;
 use std::alloc::Global;
 use std::io::{self, Write};
-use std::rt::Files;
 
 /// Runs the program: does what the words after its name ask for, and writes its answer. The status is 0; 2 where the words or the sizes
 /// are refused; 3 where a store or a file is. An `Err` is memory that was refused, or a writer that failed: then what is written is a
 /// beginning of an answer.
-pub fn run<H: Files, W: Write, E: Write>(
-    rt: &H,
+pub fn run<S: StorePlaces, W: Write, E: Write>(
+    places: &S,
     alloc: Global,
     words: &[&str],
     output: &mut W,
     teller: &mut Teller<E>,
 ) -> io::Result<u8>
-where
-    H::File: Lockable,
-    ensures whole { said.IfOk result (λ status. said.Writes (said.IsAnswer ⟦<FileDisk<H::File> as Device>⟧.honest ⟦<FileDisk<H::File> as Device>⟧.seen ⟦<FileDisk<H::File> as Device>⟧.may_leave (said.texts words.now) status) (W.contents output.old) (W.contents output.new)) }
-    ensures part { said.OnErr result (said.BreaksOff (λ text. (status : ℕ) × said.IsAnswer ⟦<FileDisk<H::File> as Device>⟧.honest ⟦<FileDisk<H::File> as Device>⟧.seen ⟦<FileDisk<H::File> as Device>⟧.may_leave (said.texts words.now) status text) (W.contents output.old) (W.contents output.new)) }
+    ensures whole { said.IfOk result (λ status. said.Writes (said.IsAnswer (said.files_of S.Disk.honest S.Disk.seen S.Disk.may_leave (S.is_opened places.now) (S.is_named places.now)) (said.texts words.now) status) (W.contents output.old) (W.contents output.new)) }
+    ensures part { said.OnErr result (said.BreaksOff (λ text. (status : ℕ) × said.IsAnswer (said.files_of S.Disk.honest S.Disk.seen S.Disk.may_leave (S.is_opened places.now) (S.is_named places.now)) (said.texts words.now) status text) (W.contents output.old) (W.contents output.new)) }
 {
-    let answer = answer_words(rt, alloc, words, teller)?;
+    let answer = answer_words(places, alloc, words, teller)?;
     write_answer(&answer, output)
 }
 

@@ -9,8 +9,8 @@ returns-in-None-clause-part g c = new_breaks_in_memory _ c.args.options.now c.ar
 
 pub returns-in-Some-clause-whole : goal.returns-in-Some-clause-whole
 returns-in-Some-clause-whole g c =
-    new_in_file _ c.args.options.now c.args.shape c.args.pieces.now c.args.options.now.file c.in-Some.path _ _ c.play_new_file.result c.in-Some.is c.play_new_file.ensures.whole
+    new_in_file _ c.args.options.now c.in-Some.path _ c.in-Some.is c.as_str.ensures.value c.args.pieces.now _ _ c.play_new_file.result c.args.shape c.play_new_file.ensures.whole
 
 pub returns-in-Some-clause-part : goal.returns-in-Some-clause-part
 returns-in-Some-clause-part g c =
-    new_breaks_in_file _ c.args.options.now c.args.shape c.args.pieces.now c.args.options.now.file c.in-Some.path _ _ c.play_new_file.result c.in-Some.is c.play_new_file.ensures.part
+    new_breaks_in_file _ c.args.options.now c.in-Some.path _ c.in-Some.is c.as_str.ensures.value c.args.pieces.now _ _ c.play_new_file.result c.args.shape c.play_new_file.ensures.part

@@ -1,0 +1,49 @@
+//! A device in memory whose calls are made here, and which is crashed behind them.
+ghost use Rattle.std.specs.Prelude.{◌≡◌, ◌∷◌, [], IfOk, OnOk};
+ghost use Rattle.fkv_crashes.specs.Made.{as_call, as_calls};
+ghost use Rattle.fkv_crashes.specs.Torn.{IsTornBehind};
+ghost use Rattle.fkv_disk.specs.Memory.{disk_calls, disk_opening};
+
+use fkv_base::Fault;
+use fkv_disk::{Device, Fuse, MemDisk};
+use std::alloc::Global;
+
+/// A write of these bytes from this offset on, or a sync.
+#[derive(Drop)]
+pub enum MadeCall {
+    Write(u64, Vec<u8>),
+    Sync,
+}
+
+/// Makes these calls of a new device in memory, and crashes it behind the last one. Each byte that was written and not synced since is torn. Each other one is
+/// what was written last. So a memory that syncs behind each write, or that tears a byte more or less, isn't proved. An `Err` is a call that was
+/// refused, or memory.
+pub fn crash_behind(alloc: Global, calls: &[MadeCall], torn: u8) -> Result<MemDisk, Fault>
+    ensures { IfOk result (λ disk. IsTornBehind calls.now torn (⟦<MemDisk as Device>⟧.seen disk)) }
+{
+    let mut disk = MemDisk::new(alloc);
+    make_all(&mut disk, calls)?;
+    Fuse::new(disk).crash(torn)
+}
+
+/// Makes these calls, one behind the other.
+fn make_all(disk: &mut MemDisk, calls: &[MadeCall]) -> Result<(), Fault>
+    requires { disk_calls disk.old ≡ [] }
+    ensures opening { OnOk result (disk_opening disk.new ≡ disk_opening disk.old) }
+    ensures calls { OnOk result (disk_calls disk.new ≡ as_calls calls.now) }
+{
+    for call in calls {
+        make(disk, call)?;
+    }
+    Ok(())
+}
+
+fn make(disk: &mut MemDisk, call: &MadeCall) -> Result<(), Fault>
+    ensures opening { OnOk result (disk_opening disk.new ≡ disk_opening disk.old) }
+    ensures calls { OnOk result (disk_calls disk.new ≡ as_call call.now ∷ disk_calls disk.old) }
+{
+    match call {
+        MadeCall::Write(at, bytes) => disk.write(*at, bytes),
+        MadeCall::Sync => disk.sync(),
+    }
+}
