@@ -120,6 +120,7 @@ unfolding run_of exchanges
 seek_replied s told reply knows = record {
   opening = knows.opening;
   number = knows.number;
+  floor = knows.floor;
   replies = reply ∷ knows.replies;
   before = knows.before;
   is = ap (λ (x : SeekState). seek_next x reply) knows.is;
@@ -138,7 +139,7 @@ seek_at_end s step e = absurd (cc)
 seek_last : (s : SeekState) (told : List Exchange) → SeekKnows s told → seek_ask s ≡ Done seek.EpochsSpent → WasEpochLast told
 seek_last s told knows e =
     let at : (sought knows.opening knows.number knows.floor knows.replies).step ≡ seeks.Ended seek.EpochsSpent = sym (ap (λ (x : SeekState). x.step) knows.is) ∙ seek_at_end s s.step e in
-    let end = seeks_end knows.opening knows.number knows.replies seek.EpochsSpent at in
+    let end = seeks_end knows.opening knows.number knows.floor knows.replies seek.EpochsSpent at in
     last_first (seek_told knows.opening knows.number knows.floor knows.replies) told knows.before knows.its end.2
 
 -- ---- while a call is in hand

@@ -63,7 +63,7 @@ part_so p s c (Says phase.InProgress version) granted =
     either s.has_entered s _ _ (either c.is_copied s _ _ (inl (record { quiet = refl; sessions = refl })) (inl (copies_quiet p s granted)))
     (inr (inl (record { from = s.enter; number = c.number; step = refl; its = refl; sessions = refl })))
 part_so p s c (Says phase.WaitPending version) granted =
-    either c.is_copied s _ _ (inr (inr (record { from = s.seek; number = c.number; step = refl; its = refl; sessions = refl }))) (inl (copies_quiet p s granted))
+    either c.is_copied s _ _ (inr (inr (record { from = s.seek; number = c.number; floor = s.last.points; step = refl; its = refl; sessions = refl }))) (inl (copies_quiet p s granted))
 part_so p s c (Says phase.WaitFlush version) granted = either s.has_points s _ _ (inl (record { quiet = refl; sessions = refl })) (inl (record { quiet = refl; sessions = refl }))
 part_so p s c said granted = inl (record { quiet = refl; sessions = refl })
 
