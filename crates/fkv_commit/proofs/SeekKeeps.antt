@@ -1,6 +1,6 @@
 -- A search for points is of as many sessions as it began with.
 use Rattle.std.proofs.Common.{◌≡◌, ℕ, ◌+◌, refl, Bool, true, false, length}
-use Rattle.std.specs.Prelude.{List, [], ◌==◌, nat_lt, nat_le, max, if◌then◌else◌}
+use Rattle.std.specs.Prelude.{List, [], ◌==◌, not, nat_lt, max, if◌then◌else◌}
 use Rattle.fkv_base.specs.declared.numbers.Addr.{Addr}
 use Rattle.fkv_base.specs.declared.numbers.Serial.{Serial}
 use Rattle.fkv_base.specs.declared.numbers.Version.{Version}
@@ -11,7 +11,7 @@ use Rattle.fkv_commit.specs.declared.deferring.DeferAnswer.TheVariants.{Held, No
 use Rattle.fkv_commit.specs.declared.seeking.SeekAnswer.TheVariants.{Owing}
 use Rattle.fkv_commit.specs.declared.seeking.Seeking.{Seeking}
 use Rattle.fkv_commit.specs.declared.seeking.Seeking.TheVariants.{Ended, LoadsOwing, SeeksSlot, LoadsCut, LoadsOther, LoadsAgain, StoresWaitFlush, LoadsTail, RaisesReadOnly, Defers}
-use Rattle.fkv_commit.specs.Cuts.{serial_said, version_said}
+use Rattle.fkv_commit.specs.Cuts.{serial_said, is_cut_of}
 use Rattle.fkv_commit.specs.Deferring.{defer_begun, defer_ask, defer_next}
 use Rattle.fkv_commit.specs.Seeking.{SeekState, seek_begun, owing_from, points_from, point_taken, with_point, slot_led, defer_led, seeking_next, seek_next}
 
@@ -63,9 +63,9 @@ unfolding seeking_next
 stepped s (Ended its) reply = refl
 stepped s (LoadsOwing session) reply = either (reply == 0) (owing_from s (session + 1)) (record s { step = Ended Owing }) s.sessions (owing_keeps s (session + 1)) refl
 stepped s SeeksSlot reply = slot_keeps (record s { defer = defer_next s.defer reply }) (defer_ask (defer_next s.defer reply))
-stepped s LoadsCut reply = either (version_said reply == s.number.0) (point_taken s (serial_said reply)) (record s { step = LoadsOther reply }) s.sessions (taken_keeps s (serial_said reply)) refl
+stepped s LoadsCut reply = either (is_cut_of s.number.0 reply) (point_taken s (serial_said reply)) (record s { step = LoadsOther reply }) s.sessions (taken_keeps s (serial_said reply)) refl
 stepped s (LoadsOther first) reply =
-    either (nat_le (version_said reply) s.number.0) (point_taken s (max (serial_said first) (serial_said reply))) (record s { step = LoadsAgain }) s.sessions (taken_keeps s (max (serial_said first) (serial_said reply))) refl
+    either (not (is_cut_of (s.number.0 + 1) reply)) (point_taken s (max (serial_said first) (serial_said reply))) (record s { step = LoadsAgain }) s.sessions (taken_keeps s (max (serial_said first) (serial_said reply))) refl
 stepped s LoadsAgain reply = taken_keeps s (serial_said reply)
 stepped s StoresWaitFlush reply = refl
 stepped s LoadsTail reply = refl

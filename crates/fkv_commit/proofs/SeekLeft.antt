@@ -1,6 +1,6 @@
 -- The search for points asks just where asks are left to it, and each reply leaves fewer.
 use Rattle.std.proofs.Common.{◌≡◌, ℕ, ◌+◌, ◌-◌, ◌*◌, ◌<◌, ◌≤◌, refl, arith, Bool, true, false, length}
-use Rattle.std.specs.Prelude.{List, [], ◌==◌, ◌∷◌, ◌++◌, nat_lt, nat_le, max, if◌then◌else◌}
+use Rattle.std.specs.Prelude.{List, [], ◌==◌, ◌∷◌, ◌++◌, not, nat_lt, max, if◌then◌else◌}
 use Rattle.std.proofs.lemmas.Bool.Decides.{nat_tests}
 use Rattle.std.proofs.lemmas.List.{length-append}
 use Rattle.fkv_base.specs.Limits.{drain_slots}
@@ -16,7 +16,7 @@ use Rattle.fkv_commit.specs.declared.deferring.DeferAnswer.TheVariants.{Held, Sp
 use Rattle.fkv_commit.specs.declared.seeking.Seeking.{Seeking}
 use Rattle.fkv_commit.specs.declared.seeking.Seeking.TheVariants.{Ended, LoadsOwing, SeeksSlot, LoadsCut, LoadsOther, LoadsAgain, StoresWaitFlush, LoadsTail, RaisesReadOnly, Defers}
 use Rattle.fkv_commit.specs.declared.seeking.SeekAnswer.TheVariants.{Idle, Owing}
-use Rattle.fkv_commit.specs.Cuts.{serial_said, version_said}
+use Rattle.fkv_commit.specs.Cuts.{serial_said, is_cut_of}
 use Rattle.fkv_commit.specs.Deferring.{defer_begun, defer_ask, defer_next}
 use Rattle.fkv_commit.specs.Seeking.{SeekState, seek_begun, owing_from, seeking_ask, seek_ask, seeking_next, seek_next, points_from, point_taken, floor_of, with_point, slot_led, defer_led}
 use Rattle.fkv_plane.specs.AsksLeft.{AsksWhereLeft, sum_left}
@@ -102,12 +102,12 @@ seeking_fewer s (LoadsOwing session) reply at some = tested (reply == 0)
 seeking_fewer s SeeksSlot reply at some =
     let inside = some_inside (defer_asks_left s.defer) (points_left s 0 + most_raise_asks) some in
     slot_left (record s { defer = defer_next s.defer reply }) (defer_asks_left s.defer) (defer_ask (defer_next s.defer reply)) at inside (defer_fewer s.defer reply inside) (λ e. defer_held s.defer reply inside e)
-seeking_fewer s LoadsCut reply at some = tested (version_said reply == s.number.0)
+seeking_fewer s LoadsCut reply at some = tested (is_cut_of s.number.0 reply)
   where
     tested : (b : Bool) → seek_asks_left (if b then point_taken s (serial_said reply) else record s { step = LoadsOther reply }) < points_left s (length s.points + 1) + defer_asks_later s.defer + 3
     tested true = let all = taken_left s (serial_said reply) in omega (arith, all)
     tested false = omega arith
-seeking_fewer s (LoadsOther first) reply at some = tested (nat_le (version_said reply) s.number.0)
+seeking_fewer s (LoadsOther first) reply at some = tested (not (is_cut_of (s.number.0 + 1) reply))
   where
     tested : (b : Bool) → seek_asks_left (if b then point_taken s (max (serial_said first) (serial_said reply)) else record s { step = LoadsAgain }) < points_left s (length s.points + 1) + defer_asks_later s.defer + 2
     tested true = let all = taken_left s (max (serial_said first) (serial_said reply)) in omega (arith, all)

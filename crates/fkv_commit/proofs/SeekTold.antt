@@ -1,12 +1,13 @@
 -- What the search for points tells.
 use Rattle.std.proofs.Common.{◌≡◌, ◌≢◌, ℕ, ◌+◌, ◌<◌, ◌≤◌, refl, sym, ap, subst, inl, inr, ◌⊎◌, arith, List, length, false}
-use Rattle.std.specs.Prelude.{[], ◌∷◌, ◌++◌, ◌==◌, nat_lt, nat_le, max}
+use Rattle.std.specs.Prelude.{[], ◌∷◌, ◌++◌, ◌==◌, not, nat_lt, max}
 use Rattle.std.proofs.lemmas.Bool.Decides.{nat_tests}
 use Rattle.std.proofs.lemmas.List.{length-append}
 use Rattle.fkv_base.specs.declared.numbers.Addr.{Addr}
 use Rattle.fkv_base.specs.declared.numbers.Serial.{Serial}
 use Rattle.fkv_base.specs.declared.numbers.Version.{Version}
 use Rattle.fkv_base.specs.declared.phases.Phase.TheVariants.{WaitFlush}
+use Rattle.fkv_marks.specs.Marks.{mark}
 use Rattle.fkv_plane.specs.declared.asks.Ask.{Ask}
 use Rattle.fkv_plane.specs.declared.asks.Ask.TheVariants.{Load, Store, Max, Add, Put, Done}
 use Rattle.fkv_plane.specs.declared.places.SharedWord.TheVariants as one
@@ -21,7 +22,7 @@ use Rattle.fkv_commit.specs.declared.seeking.Seeking.TheVariants.{Ended, LoadsOw
 use Rattle.fkv_commit.specs.declared.seeking.SeekAnswer.{SeekAnswer}
 use Rattle.fkv_commit.specs.declared.seeking.SeekAnswer.TheVariants as answer
 use Rattle.fkv_commit.specs.Commits.{version_after}
-use Rattle.fkv_commit.specs.Cuts.{serial_said, version_said, cut_of, other_cut_of}
+use Rattle.fkv_commit.specs.Cuts.{serial_said, version_said, is_cut_of, cut_of, other_cut_of}
 use Rattle.fkv_commit.specs.Deferring.{defer_ask, defer_next, action_of}
 use Rattle.fkv_commit.specs.Seeking.{SeekState, seek_begun, owing_from, seeking_ask, seek_ask, seeking_next, seek_next, points_from, floor_of, with_point, point_taken, slot_led, defer_led}
 use Rattle.fkv_commit.specs.Exchanges.{Exchange, exchange, exchanged, AreIdle, AreSlotsBehind, HoldsSlot, IsDeferred}
@@ -58,7 +59,7 @@ pub record IsMissing (floor : List Serial) (number : Version) (sessions : ℕ) (
 pub record HasFirst (floor : List Serial) (number : Version) (sessions : ℕ) (s : SeekState) (first : ℕ) (told : List Exchange) : Type 0 where
   pub before : List Exchange
   pub its : told ≡ first_met number.0 (length s.points) first ∷ before
-  pub isnt : version_said first ≢ number.0
+  pub isnt : version_said first ≢ mark number.0
   pub at : IsMissing floor number sessions s before
 
 pub record HasBoth (floor : List Serial) (number : Version) (sessions : ℕ) (s : SeekState) (told : List Exchange) : Type 0 where
@@ -66,8 +67,8 @@ pub record HasBoth (floor : List Serial) (number : Version) (sessions : ℕ) (s 
   pub first : ℕ
   pub other : ℕ
   pub its : told ≡ other_met number.0 (length s.points) other ∷ first_met number.0 (length s.points) first ∷ before
-  pub isnt : version_said first ≢ number.0
-  pub later : number.0 < version_said other
+  pub isnt : version_said first ≢ mark number.0
+  pub later : version_said other ≡ mark (number.0 + 1)
   pub at : IsMissing floor number sessions s before
 
 pub record HasAll (floor : List Serial) (number : Version) (sessions : ℕ) (s : SeekState) (told : List Exchange) : Type 0 where
@@ -229,15 +230,15 @@ seeking_keeps s (LoadsOwing session) told reply at knows = elim (truth (reply ==
 seeking_keeps s SeeksSlot told reply at knows = rw (passed_exchanged (defer_ask s.defer) answer.Idle reply told)
     (slot_sought (record s { defer = defer_next s.defer reply }) (exchanged (defer_ask s.defer) reply told) at
     (λ session below. stays_among (exchange (Load (session_place session own.Owing)) 0) (defer_ask s.defer) reply told (knows.1 session below)) knows.3 (seek_step s.defer told reply knows.0 knows.2))
-seeking_keeps s LoadsCut told reply at knows = elim (truth (version_said reply == s.number.0)) [
-  | inl e ↦ let same : version_said reply ≡ s.number.0 = grind (arith, nat_tests, e) in rw e (taken s told (First reply) (serial_said reply) knows (same, refl))
-  | inr e ↦ let isnt : version_said reply ≢ s.number.0 = grind (arith, nat_tests, e) in
+seeking_keeps s LoadsCut told reply at knows = elim (truth (is_cut_of s.number.0 reply)) [
+  | inl e ↦ let same : version_said reply ≡ mark s.number.0 = grind (arith, nat_tests, e) in rw e (taken s told (First reply) (serial_said reply) knows (same, refl))
+  | inr e ↦ let isnt : version_said reply ≢ mark s.number.0 = grind (arith, nat_tests, e) in
       rw e (record { its_floor = refl; its_number = refl; its_sessions = refl; at = record { before = told; its = refl; isnt = isnt; at = record { room = knows.room; slot = knows.slot; holding = knows.holding; by = knows.by } } })
 ]
-seeking_keeps s (LoadsOther first) told reply at knows = elim (truth (nat_le (version_said reply) s.number.0)) [
-  | inl e ↦ let upto : version_said reply ≤ s.number.0 = grind (arith, nat_tests, e) in
-      rw (e, knows.its) (taken s knows.before (Both first reply) (max (serial_said first) (serial_said reply)) knows.at (knows.isnt, upto, refl))
-  | inr e ↦ let later : s.number.0 < version_said reply = grind (arith, nat_tests, e) in
+seeking_keeps s (LoadsOther first) told reply at knows = elim (truth (not (is_cut_of (s.number.0 + 1) reply))) [
+  | inl e ↦ let apart : version_said reply ≢ mark (s.number.0 + 1) = grind (arith, nat_tests, e) in
+      rw (e, knows.its) (taken s knows.before (Both first reply) (max (serial_said first) (serial_said reply)) knows.at (knows.isnt, apart, refl))
+  | inr e ↦ let later : version_said reply ≡ mark (s.number.0 + 1) = grind (arith, nat_tests, e) in
       rw (e, knows.its) (record {
         its_floor = refl;
         its_number = refl;

@@ -1,5 +1,6 @@
 -- What a cut word says, and which of a session's two it is.
 use Rattle.std.specs.Prelude.{ℕ, ◌/◌, ◌%◌, ◌^◌, ◌==◌, if◌then◌else◌, Bool}
+use Rattle.fkv_marks.specs.Marks.{mark}
 use Rattle.fkv_plane.specs.declared.places.SessionWord.{SessionWord}
 use Rattle.fkv_plane.specs.declared.places.SessionWord.TheVariants as own
 
@@ -7,12 +8,16 @@ use Rattle.fkv_plane.specs.declared.places.SessionWord.TheVariants as own
 abbrev pub is_cut : ℕ → Bool
 is_cut word = word / 2 ^ 61 == 0
 
--- a word that is none says serial 0 of version 0
+-- Of its version a word says the mark. A word that is none says serial 0 of version 0.
 unfoldable pub serial_said : ℕ → ℕ
 serial_said word = if is_cut word then word % 2 ^ 48 else 0
 
 unfoldable pub version_said : ℕ → ℕ
 version_said word = if is_cut word then word / 2 ^ 48 else 0
+
+-- the word says that it is of a version with this one's mark
+abbrev pub is_cut_of : ℕ → ℕ → Bool
+is_cut_of version word = version_said word == mark version
 
 -- the cut word of even versions, or of odd ones
 abbrev pub cut_of : ℕ → SessionWord

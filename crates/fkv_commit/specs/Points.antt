@@ -1,10 +1,11 @@
 -- How the points are shown by the cut words that were met.
-use Rattle.std.specs.Prelude.{◌≡◌, ◌≢◌, ℕ, ◌%◌, ◌<◌, ◌≤◌, max, ◌⊎◌, List, [], ◌∷◌, ◌++◌, length}
+use Rattle.std.specs.Prelude.{◌≡◌, ◌≢◌, ℕ, ◌+◌, ◌%◌, ◌<◌, max, ◌⊎◌, List, [], ◌∷◌, ◌++◌, length}
 use Rattle.fkv_base.specs.Limits.{drain_slots}
 use Rattle.fkv_base.specs.declared.numbers.Addr.{Addr}
 use Rattle.fkv_base.specs.declared.numbers.Serial.{Serial}
 use Rattle.fkv_base.specs.declared.numbers.Version.{Version}
 use Rattle.fkv_base.specs.declared.phases.Phase.TheVariants.{WaitFlush}
+use Rattle.fkv_marks.specs.Marks.{mark}
 use Rattle.fkv_plane.specs.declared.actions.Action.TheVariants.{SafeReadOnly}
 use Rattle.fkv_plane.specs.declared.asks.Ask.TheVariants.{Load, Store, Max}
 use Rattle.fkv_plane.specs.declared.places.SharedWord.TheVariants as one
@@ -29,12 +30,12 @@ pub data CutsMet : Type 0 where
   Again : ℕ → ℕ → ℕ → CutsMet
 
 -- The rule. The first word says where its version ends, and is believed where that is the version committed. A session that has slept
--- through it has two older words, and came as far as the greater serial says. One whose other word is of a later version has gone on in
--- between, and its first word says the point by now. The floor is the point where it is greater.
+-- through it has two older words, and came as far as the greater serial says. One whose other word is of the next version has gone on in
+-- between, and its first word says the point by now. The floor is the point where it is greater. Words say the marks of versions.
 abbrev pub IsPointShown : ℕ → ℕ → CutsMet → ℕ → Type 0
-IsPointShown floor v (First first) point = (version_said first ≡ v) × (point ≡ max floor (serial_said first))
-IsPointShown floor v (Both first other) point = (version_said first ≢ v) × (version_said other ≤ v) × (point ≡ max floor (max (serial_said first) (serial_said other)))
-IsPointShown floor v (Again first other again) point = (version_said first ≢ v) × (v < version_said other) × (point ≡ max floor (serial_said again))
+IsPointShown floor v (First first) point = (version_said first ≡ mark v) × (point ≡ max floor (serial_said first))
+IsPointShown floor v (Both first other) point = (version_said first ≢ mark v) × (version_said other ≢ mark (v + 1)) × (point ≡ max floor (max (serial_said first) (serial_said other)))
+IsPointShown floor v (Again first other again) point = (version_said first ≢ mark v) × (version_said other ≡ mark (v + 1)) × (point ≡ max floor (serial_said again))
 
 -- each session's point is shown by its floor and its words; those of the last session stand first
 abbrev pub ArePointsShown : List Serial → ℕ → List CutsMet → List Serial → Type 0

@@ -1,7 +1,7 @@
 -- How a commit finds each session's point, once no session owes an update of its version: by the session's cut words, and never below its
 -- point of the newest finished commit, its floor. Then wait-flush is stored, and the log is made read-only up to its tail, which is
 -- the commit's end.
-use Rattle.std.specs.Prelude.{ℕ, ◌+◌, ◌<◌, ◌==◌, nat_lt, nat_le, max, if◌then◌else◌, List, [], ◌∷◌, ◌++◌, length, slice_get, ⊤}
+use Rattle.std.specs.Prelude.{ℕ, ◌+◌, ◌<◌, ◌==◌, not, nat_lt, max, if◌then◌else◌, List, [], ◌∷◌, ◌++◌, length, slice_get, ⊤}
 use Rattle.fkv_base.specs.Limits.{max_sessions}
 use Rattle.fkv_base.specs.declared.numbers.Addr.{Addr}
 use Rattle.fkv_base.specs.declared.numbers.Serial.{Serial}
@@ -22,7 +22,7 @@ use Rattle.fkv_commit.specs.declared.seeking.SeekAnswer.TheVariants.{Idle, Owing
 use Rattle.fkv_commit.specs.declared.seeking.Seeking.{Seeking}
 use Rattle.fkv_commit.specs.declared.seeking.Seeking.TheVariants.{Ended, LoadsOwing, SeeksSlot, LoadsCut, LoadsOther, LoadsAgain, StoresWaitFlush, LoadsTail, RaisesReadOnly, Defers}
 use Rattle.fkv_commit.specs.Commits.{version_after}
-use Rattle.fkv_commit.specs.Cuts.{serial_said, version_said, cut_of, other_cut_of}
+use Rattle.fkv_commit.specs.Cuts.{serial_said, is_cut_of, cut_of, other_cut_of}
 use Rattle.fkv_commit.specs.Deferring.{DeferState, defer_begun, defer_ask, defer_next, defer_on}
 use Rattle.fkv_commit.specs.Finishing.{point_of}
 
@@ -92,11 +92,11 @@ slot_led s ask = s
 
 -- by the cut word of the version that is committed: it says where that ends, or the other one is loaded
 abbrev pub cut_met : SeekState → ℕ → SeekState
-cut_met s word = if version_said word == s.number.0 then point_taken s (serial_said word) else record s { step = LoadsOther word }
+cut_met s word = if is_cut_of s.number.0 word then point_taken s (serial_said word) else record s { step = LoadsOther word }
 
--- by the other one: where it is of no later version, the greater serial is taken; else the session has gone on in between
+-- by the other one: where it isn't of the next version, the greater serial is taken; else the session has gone on in between
 abbrev pub other_met : SeekState → ℕ → ℕ → SeekState
-other_met s first word = if nat_le (version_said word) s.number.0 then point_taken s (max (serial_said first) (serial_said word)) else record s { step = LoadsAgain }
+other_met s first word = if not (is_cut_of (s.number.0 + 1) word) then point_taken s (max (serial_said first) (serial_said word)) else record s { step = LoadsAgain }
 
 -- by what is asked next as the safe read-only offset is deferred
 unfoldable pub defer_led : Addr → SeekState → Ask DeferAnswer → SeekState

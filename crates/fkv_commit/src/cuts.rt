@@ -1,12 +1,14 @@
 //! The words in which a session says where its versions end.
-ghost use Rattle.std.specs.Prelude.{◌≡◌};
+ghost use Rattle.std.specs.Prelude.{◌≡◌, ◌+◌};
+ghost use Rattle.fkv_marks.specs.Marks.{mark};
 ghost use Rattle.fkv_commit.specs.Cuts.{serial_said, version_said, cut_of, other_cut_of};
 
 use fkv_base::Version;
+use fkv_marks::mark;
 use fkv_plane::SessionWord;
 use fkv_words::CutWord;
 
-/// What a cut word says: the last serial of a session in a version.
+/// What a cut word says: the last serial of a session in a version, of which it has the mark.
 #[derive(Clone, Copy)]
 pub(crate) struct Cut {
     pub serial: u64,
@@ -28,6 +30,15 @@ pub(crate) fn cut_said(word: u64) -> Cut
             version: 0,
         },
     }
+}
+
+/// The mark of the version after this one.
+#[tactic(auto, unfolding(fkv_marks::specs::Marks::mark))]
+pub(crate) fn mark_after(version: Version) -> u64
+    ensures { result ≡ mark (version.0 + 1) }
+{
+    let its = mark(version);
+    mark(Version(its.0 + 1)).0
 }
 
 /// The cut word in which a session says where this version ends.

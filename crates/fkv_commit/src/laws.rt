@@ -2,8 +2,8 @@
 ghost use Rattle.fkv_commit.specs.Points.{PointsAreRight, SeeksEndRight, CutsAreRead, OthersSayNothing, CutsAreByParity};
 ghost use Rattle.fkv_commit.specs.Phases.{StartsEndRight, EntersEndRight, WaitsEndRight, FinishesEndRight, EpochComesFirst, PhasesInOrder};
 
-/// Whatever is replied: each point that is taken is shown by the session's cut words as they were loaded, behind owing words that all
-/// were 0 and with a drain slot held; and nothing else is changed before the last point is taken. Where the search ends with the points,
+/// Whatever is replied: each point that is taken is shown by the session's floor and its cut words as they were loaded, behind owing words
+/// that all were 0 and with a drain slot held; and nothing else is changed before the last point is taken. Where the search ends with the points,
 /// wait-flush is stored behind them, the tail is loaded and the read-only offset raised to it, and the safe one deferred; where it
 /// ends otherwise, nothing is changed, no point is taken, and the reason was met. What a cut word says is what was packed into it.
 /// The word of even versions is met first where the commit's number is even, and that of odd ones where it is odd.

@@ -7,12 +7,13 @@ ghost use Rattle.fkv_commit.specs.Seeking.{IsSeekInRange, seek_begun, seek_ask, 
 ghost use Rattle.fkv_commit.specs.declared.seeking.Seeking.TheVariants.{Ended};
 ghost use Rattle.fkv_commit.specs.declared.seeking.SeekAnswer.TheVariants.{Idle};
 
-use crate::cuts::{cut_of, cut_said, other_cut_of};
+use crate::cuts::{cut_of, cut_said, mark_after, other_cut_of};
 use crate::deferring::{Defer, DeferAnswer, Deferred};
 use crate::finishing::point_of;
 use crate::phase_steps::{phase_stored, version_after};
 use arrayvec::ArrayVec;
 use fkv_base::{Addr, MAX_SESSIONS, Phase, Serial, Version};
+use fkv_marks::mark;
 use fkv_plane::{Ask, SessionWord, SharedWord, passed};
 use std::marker::Model;
 
@@ -229,7 +230,7 @@ impl SeekPoints {
         ensures { self.new ≡ cut_met self.old word }
     {
         let cut = cut_said(word);
-        if cut.version == self.number.0 {
+        if cut.version == mark(self.number).0 {
             self.takes(cut.serial);
         } else {
             self.step = Seeking::LoadsOther(word);
@@ -242,7 +243,7 @@ impl SeekPoints {
         ensures { self.new ≡ other_met self.old first word }
     {
         let other = cut_said(word);
-        if other.version <= self.number.0 {
+        if other.version != mark_after(self.number) {
             self.takes(cut_said(first).serial.max(other.serial));
         } else {
             self.step = Seeking::LoadsAgain;

@@ -1,6 +1,6 @@
 -- The drain slots of the parts of a commit are among the eight, whatever the replies.
 use Rattle.std.proofs.Common.{◌≡◌, ℕ, ◌+◌, List, [], sym, subst, Bool, true, false}
-use Rattle.std.specs.Prelude.{⊤, nat_lt, nat_le, ◌==◌, if◌then◌else◌, length, max}
+use Rattle.std.specs.Prelude.{not, ⊤, nat_lt, nat_le, ◌==◌, if◌then◌else◌, length, max}
 use Rattle.fkv_base.specs.Limits.{last_version}
 use Rattle.fkv_base.specs.declared.numbers.Addr.{Addr}
 use Rattle.fkv_base.specs.declared.numbers.Serial.{Serial}
@@ -19,7 +19,7 @@ use Rattle.fkv_commit.specs.declared.seeking.Seeking.{Seeking}
 use Rattle.fkv_commit.specs.declared.seeking.Seeking.TheVariants as seeks
 use Rattle.fkv_commit.specs.declared.starting.Starting.{Starting}
 use Rattle.fkv_commit.specs.declared.starting.Starting.TheVariants as starts
-use Rattle.fkv_commit.specs.Cuts.{version_said, serial_said}
+use Rattle.fkv_commit.specs.Cuts.{is_cut_of, serial_said}
 use Rattle.fkv_commit.specs.Deferring.{defer_ask, defer_next}
 use Rattle.fkv_commit.specs.Entering.{EnterState, entering_next, seek_led as enter_sought, defer_led as enter_deferred}
 use Rattle.fkv_commit.specs.Seeking.{SeekState, seeking_next, seek_begun, owing_from, points_from, point_taken, with_point, slot_led, defer_led as seek_deferred}
@@ -144,8 +144,8 @@ unfolding seeking_next
 seek_in s (seeks.Ended its) reply e fits = seek_at (seeks.Ended its) s e tt
 seek_in s (seeks.LoadsOwing session) reply e fits = either_seek (reply == 0) _ _ (owing_in s (session + 1)) tt
 seek_in s seeks.SeeksSlot reply e fits = slot_in (record s { defer = defer_next s.defer reply }) (defer_ask (defer_next s.defer reply)) e (defer_in s.defer reply fits)
-seek_in s seeks.LoadsCut reply e fits = either_seek (version_said reply == s.number.0) _ _ (taken_in s (serial_said reply) fits) fits
-seek_in s (seeks.LoadsOther first) reply e fits = either_seek (nat_le (version_said reply) s.number.0) _ _ (taken_in s (max (serial_said first) (serial_said reply)) fits) fits
+seek_in s seeks.LoadsCut reply e fits = either_seek (is_cut_of s.number.0 reply) _ _ (taken_in s (serial_said reply) fits) fits
+seek_in s (seeks.LoadsOther first) reply e fits = either_seek (not (is_cut_of (s.number.0 + 1) reply)) _ _ (taken_in s (max (serial_said first) (serial_said reply)) fits) fits
 seek_in s seeks.LoadsAgain reply e fits = taken_in s (serial_said reply) fits
 seek_in s seeks.StoresWaitFlush reply e fits = fits
 seek_in s seeks.LoadsTail reply e fits = fits

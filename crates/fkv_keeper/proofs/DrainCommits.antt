@@ -1,6 +1,6 @@
 -- What the parts of a commit have met of the drain slots, as each seeks one.
 use Rattle.std.proofs.Common.{◌≡◌, ℕ, ◌+◌, refl, sym, subst, List, Bool, true, false}
-use Rattle.std.specs.Prelude.{⊤, ◌++◌, ◌∷◌, [], ◌==◌, nat_lt, nat_le, max, if◌then◌else◌, length}
+use Rattle.std.specs.Prelude.{not, ⊤, ◌++◌, ◌∷◌, [], ◌==◌, nat_lt, nat_le, max, if◌then◌else◌, length}
 use Rattle.fkv_base.specs.Limits.{drain_slots, last_version}
 use Rattle.fkv_base.specs.declared.faults.Fault.{Fault}
 use Rattle.fkv_base.specs.declared.faults.Fault.TheVariants as fault
@@ -25,7 +25,7 @@ use Rattle.fkv_commit.specs.declared.seeking.SeekAnswer.TheVariants as seek
 use Rattle.fkv_commit.specs.declared.starting.Starting.{Starting}
 use Rattle.fkv_commit.specs.declared.starting.Starting.TheVariants as starts
 use Rattle.fkv_commit.specs.declared.starting.StartAnswer.TheVariants as start
-use Rattle.fkv_commit.specs.Cuts.{serial_said, version_said}
+use Rattle.fkv_commit.specs.Cuts.{serial_said, is_cut_of}
 use Rattle.fkv_commit.specs.Deferring.{defer_begun, defer_ask, defer_next}
 use Rattle.fkv_commit.specs.Entering.{EnterState, enter_begun, seek_led as enter_led, defer_led as enter_deferred, entering_ask, enter_ask, entering_next, enter_next}
 use Rattle.fkv_commit.specs.Seeking.{SeekState, seek_begun, owing_from, points_from, point_taken, with_point, slot_led, defer_led as seek_deferred, seeking_ask, seek_ask, seeking_next, seek_next}
@@ -127,9 +127,9 @@ seek_at s (seeks.LoadsOwing session) told reply e knows = either_seek (reply == 
 seek_at s seeks.SeeksSlot told reply e knows = rw (passed_told (defer_ask s.defer) seek.Idle reply told)
     (slot_sought (record s { defer = defer_next s.defer reply }) (exchanged (defer_ask s.defer) reply told) e (defer_step s.defer told reply knows))
 seek_at s seeks.LoadsCut told reply e knows =
-    either_seek (version_said reply == s.number.0) (point_taken s (serial_said reply)) (record s { step = seeks.LoadsOther reply }) _ (taken_knows s (serial_said reply) _) tt
+    either_seek (is_cut_of s.number.0 reply) (point_taken s (serial_said reply)) (record s { step = seeks.LoadsOther reply }) _ (taken_knows s (serial_said reply) _) tt
 seek_at s (seeks.LoadsOther first) told reply e knows =
-    either_seek (nat_le (version_said reply) s.number.0) (point_taken s (max (serial_said first) (serial_said reply))) (record s { step = seeks.LoadsAgain }) _ (taken_knows s (max (serial_said first) (serial_said reply)) _) tt
+    either_seek (not (is_cut_of (s.number.0 + 1) reply)) (point_taken s (max (serial_said first) (serial_said reply))) (record s { step = seeks.LoadsAgain }) _ (taken_knows s (max (serial_said first) (serial_said reply)) _) tt
 seek_at s seeks.LoadsAgain told reply e knows = taken_knows s (serial_said reply) _
 seek_at s seeks.StoresWaitFlush told reply e knows = tt
 seek_at s seeks.LoadsTail told reply e knows = tt

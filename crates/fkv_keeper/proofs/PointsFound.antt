@@ -1,6 +1,6 @@
 -- The points, the end and the epoch of the commit in hand are those that the search has told which has begun last.
 use Rattle.std.proofs.Common.{◌≡◌, ℕ, ◌∙◌, ◌⊎◌, inl, inr, List, [], ◌∷◌, refl, ap, sym, subst, Bool, true, false, length}
-use Rattle.std.specs.Prelude.{Option, Some, None, ◌==◌, ◌++◌, nat_lt, nat_le, max, if◌then◌else◌, ⊤}
+use Rattle.std.specs.Prelude.{not, ◌+◌, Option, Some, None, ◌==◌, ◌++◌, nat_lt, max, if◌then◌else◌, ⊤}
 use Rattle.fkv_base.specs.declared.numbers.Addr.{Addr}
 use Rattle.fkv_base.specs.declared.numbers.Serial.{Serial}
 use Rattle.fkv_base.specs.declared.numbers.Version.{Version}
@@ -17,7 +17,7 @@ use Rattle.fkv_commit.specs.declared.seeking.Seeking.{Seeking}
 use Rattle.fkv_commit.specs.declared.seeking.Seeking.TheVariants as seeks
 use Rattle.fkv_commit.specs.declared.starting.StartAnswer.{StartAnswer}
 use Rattle.fkv_commit.specs.declared.starting.StartAnswer.TheVariants as start
-use Rattle.fkv_commit.specs.Cuts.{serial_said, version_said}
+use Rattle.fkv_commit.specs.Cuts.{serial_said, is_cut_of}
 use Rattle.fkv_commit.specs.Deferring.{defer_begun, defer_ask, defer_next}
 use Rattle.fkv_commit.specs.Seeking.{SeekState, seek_begun, owing_from, points_from, point_taken, with_point, slot_led, defer_led, seeking_next, seek_ask, seek_next}
 use Rattle.fkv_commit.specs.Starting.{start_ask, start_next}
@@ -64,9 +64,9 @@ unfolding seeking_next
 next_number s (seeks.Ended its) reply = refl
 next_number s (seeks.LoadsOwing session) reply = either (reply == 0) (owing_from s _) (record s { step = seeks.Ended seek.Owing }) s.number (owing_number s _) refl
 next_number s seeks.SeeksSlot reply = slot_number (record s { defer = defer_next s.defer reply }) (defer_ask (defer_next s.defer reply))
-next_number s seeks.LoadsCut reply = either (version_said reply == s.number.0) (point_taken s (serial_said reply)) (record s { step = seeks.LoadsOther reply }) s.number (taken_number s (serial_said reply)) refl
+next_number s seeks.LoadsCut reply = either (is_cut_of s.number.0 reply) (point_taken s (serial_said reply)) (record s { step = seeks.LoadsOther reply }) s.number (taken_number s (serial_said reply)) refl
 next_number s (seeks.LoadsOther first) reply =
-    either (nat_le (version_said reply) s.number.0) (point_taken s (max (serial_said first) (serial_said reply))) (record s { step = seeks.LoadsAgain }) s.number (taken_number s (max (serial_said first) (serial_said reply))) refl
+    either (not (is_cut_of (s.number.0 + 1) reply)) (point_taken s (max (serial_said first) (serial_said reply))) (record s { step = seeks.LoadsAgain }) s.number (taken_number s (max (serial_said first) (serial_said reply))) refl
 next_number s seeks.LoadsAgain reply = taken_number s (serial_said reply)
 next_number s seeks.StoresWaitFlush reply = refl
 next_number s seeks.LoadsTail reply = refl

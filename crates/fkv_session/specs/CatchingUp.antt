@@ -4,8 +4,10 @@
 use Rattle.std.specs.Prelude.{ℕ, ◌-◌, ◌%◌, ◌==◌, ◌&&◌, not, min, if◌then◌else◌, Bool, true, false, Option, Some, None, List, slice_get, slice_set}
 use Rattle.std.specs.List.{position, count_by}
 use Rattle.std.proofs.Common.{arith}
-use Rattle.fkv_base.specs.Limits.{last_serial, last_version}
+use Rattle.fkv_base.specs.Limits.{last_serial}
 use Rattle.fkv_base.specs.declared.numbers.Version.{Version}
+use Rattle.fkv_marks.specs.Marks.{mark}
+use Rattle.fkv_marks.proofs.Shown.{mark_fits}
 use Rattle.fkv_words.specs.Layout.{cut_word}
 use Rattle.fkv_map.specs.Keys.{key_of}
 use Rattle.fkv_plane.specs.declared.asks.Ask.{Ask}
@@ -72,9 +74,9 @@ wake_begun c seen serial = record c { seen = seen; serial = serial; is_refresh =
 abbrev pub cut_of : ℕ → SessionWord
 cut_of version = if version % 2 == 0 then own.EvenCut else own.OddCut
 
--- where a version ends for a session: at this serial
+-- where a version ends for a session: at this serial. The word has the version's mark.
 abbrev pub cut_at : ℕ → ℕ → ℕ
-cut_at serial version = cut_word (record { serial = record { 0 = min serial last_serial }; version = record { 0 = min version last_version }; serial_fits = omega arith; version_fits = omega arith })
+cut_at serial version = cut_word (record { serial = record { 0 = min serial last_serial }; version = record { 0 = mark version }; serial_fits = omega arith; version_fits = mark_fits version })
 
 -- the version before the session's
 abbrev pub version_before : Seen → Version

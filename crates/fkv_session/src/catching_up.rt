@@ -12,6 +12,7 @@ use fkv_epoch::{Protect, Refresh, RefreshAnswer, Seen as LoadedValues};
 use fkv_index::home_of;
 use fkv_latch::{Latch, LatchAnswer, LatchTask};
 use fkv_log::SeenOffsets;
+use fkv_marks::mark;
 use fkv_ops::Seen;
 use fkv_pending::PendingList;
 use fkv_plane::{Ask, Places, SessionWord, passed};
@@ -356,13 +357,13 @@ pub fn cut_of(version: u64) -> SessionWord
     }
 }
 
-/// The cut word that says that a version ends for the session at this serial.
+/// The cut word that says that a version ends for the session at this serial. It has the version's mark.
 pub fn cut_at(serial: u64, version: u64) -> u64
     ensures { result ≡ cut_at serial version }
 {
     let cut = CutWord {
         serial: Serial(serial.min(Serial::LAST)),
-        version: Version(version.min(Version::LAST)),
+        version: mark(Version(version)),
     };
     cut.pack()
 }

@@ -1,8 +1,8 @@
 -- The points that commits take: the keeper makes them of cut words that it loads at different moments, and they are the sessions' points.
-use Rattle.std.specs.Prelude.{◌≡◌, ◌⊎◌, ◌<◌, ◌≤◌, ℕ, true, false, List, [], ◌∷◌, ◌++◌, Some, ⊤}
+use Rattle.std.specs.Prelude.{◌≡◌, ◌⊎◌, ◌+◌, ◌≤◌, ℕ, true, false, List, [], ◌∷◌, ◌++◌, Some, ⊤}
 use Rattle.fkv_base.specs.declared.numbers.Serial.{Serial}
 use Rattle.law_refine.specs.Below.fkv_commit.Commit.{Commit}
-use Rattle.law_refine.specs.Below.fkv_commit.Cuts.{cut_of, other_cut_of, version_said}
+use Rattle.law_refine.specs.Below.fkv_commit.Cuts.{cut_of, other_cut_of}
 use Rattle.law_refine.specs.Below.fkv_keeper.Keeping.{KeeperState}
 use Rattle.fkv_map.specs.History.{point_of}
 use Rattle.fkv_plane.specs.Places.{session_place}
@@ -33,10 +33,14 @@ first_cut opening events session version = word_now opening events (session_plac
 abbrev pub other_cut : World → List Event → ℕ → ℕ → ℕ
 other_cut opening events session version = word_now opening events (session_place session (other_cut_of version))
 
--- From a moment to a later one the first word stays, or becomes the cut of the version at the point. The other stays, or becomes one of a later version.
+-- a cut of the version behind this one, at some serial
+abbrev pub IsNextCut : ℕ → ℕ → Type 0
+IsNextCut version word = (serial : ℕ) × (word ≡ cut_at serial (version + 1))
+
+-- From a moment to a later one the first word stays, or becomes the cut of the version at the point. The other stays, or becomes a cut of the next one.
 pub record GoOn (version point word beside next_word next_beside : ℕ) : Type 0 where
   pub first : (next_word ≡ word) ⊎ (next_word ≡ cut_at point version)
-  pub other : (next_beside ≡ beside) ⊎ (version < version_said next_beside)
+  pub other : (next_beside ≡ beside) ⊎ IsNextCut version next_beside
 
 -- So they do while the phase is wait-pending.
 abbrev pub CutsGoOn : Type 0

@@ -125,7 +125,7 @@ abbrev pub CutsShowItsPoint : World → List Event → ℕ → SessionState → 
 CutsShowItsPoint opening events session first its =
     (version : ℕ) → rank_now opening events ≡ pending_rank version → ShowsPoint version (point opening events session (version - 1)) (point opening events session version) (first_cut opening events session version) (other_cut opening events session version)
 
--- as long as it is wait-pending, the first stays or becomes the cut at that point, and the other stays or becomes one of a later version
+-- as long as it is wait-pending, the first stays or becomes the cut at that point, and the other stays or becomes a cut of the next version
 abbrev pub ItsCutsGoOn : World → List Event → ℕ → SessionState → SessionState → Type 0
 ItsCutsGoOn opening events session first its =
     (version : ℕ) (later : List Event) → rank_now opening events ≡ pending_rank version → rank_now opening (later ++ events) ≡ pending_rank version

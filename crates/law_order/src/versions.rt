@@ -52,7 +52,7 @@ pub fn law_lives_end_versions()
 }
 
 /// In each such life commits take their sessions' points, as `law_cuts_show_points`, `law_points_taken` and `law_points_between` say. In wait-pending a session's
-/// two cut words show its point of the commit's number. Then the first stays or becomes the cut at that point, and the other stays or becomes one of a later
+/// two cut words show its point of the commit's number. Then the first stays or becomes the cut at that point, and the other stays or becomes a cut of the next
 /// version. Once taken, the points of the commit in hand are the sessions' points of its number. So are those of each commit that has begun, and of the newest
 /// finished one. None of the commit in hand is less than the newest finished one's. A point is no less than what its session had given as the commit was asked
 /// for, and no more than what it has given.

@@ -34,7 +34,7 @@ low_said word serial low = by_form (is_cut word)
     by_form true = low
     by_form false = omega arith
 
-said_most : (serial version : ℕ) → serial_said (cut_at serial version) ≤ serial
+pub said_most : (serial version : ℕ) → serial_said (cut_at serial version) ≤ serial
 said_most serial version =
     let low = min-le_left serial last_serial in
     let small = min-le_right serial last_serial in

@@ -1,6 +1,6 @@
 -- What the keeper knows of the moments at which a commit's first address and its end were the tail; and that each of its steps keeps it.
 use Rattle.std.proofs.Common.{◌≡◌, ℕ, ◌+◌, ◌∙◌, List, [], ◌∷◌, ◌++◌, length, refl, ap, sym, subst, Bool, true, false}
-use Rattle.std.specs.Prelude.{⊤, nat_le, nat_lt, max, ◌==◌, if◌then◌else◌, Option, Some, None, ◌||◌}
+use Rattle.std.specs.Prelude.{⊤, nat_le, nat_lt, max, ◌==◌, if◌then◌else◌, Option, Some, None, ◌||◌, not}
 use Rattle.fkv_base.specs.Limits.{last_version}
 use Rattle.fkv_base.specs.declared.commits.CommitKind.{CommitKind}
 use Rattle.fkv_base.specs.declared.faults.Fault.TheVariants as fault
@@ -33,7 +33,7 @@ use Rattle.law_refine.specs.Below.fkv_commit.TheStarting.{Starting}
 use Rattle.law_refine.specs.Below.fkv_commit.TheStarting.TheVariants as start
 use Rattle.law_refine.specs.Below.fkv_commit.WaitAnswer.{WaitAnswer}
 use Rattle.law_refine.specs.Below.fkv_commit.WaitAnswer.TheVariants as wait
-use Rattle.law_refine.specs.Below.fkv_commit.Cuts.{serial_said, version_said}
+use Rattle.law_refine.specs.Below.fkv_commit.Cuts.{serial_said, is_cut_of}
 use Rattle.law_refine.specs.Below.fkv_commit.Deferring.{defer_ask, defer_begun, defer_next}
 use Rattle.law_refine.specs.Below.fkv_commit.Entering.{enter_ask, enter_begun, enter_next}
 use Rattle.law_refine.specs.Below.fkv_commit.Finishing.{finish_ask, finish_next}
@@ -307,9 +307,9 @@ module _ (F : Version → Addr → Type 0) (E : Span → Type 0) where
   seek_ends commit copy s (seek.LoadsOwing session) reply at ends tail = either_seek commit copy (reply == 0) (owing_from s (session + 1)) (record s { step = seek.Ended sought.Owing }) (owing_ends commit copy s (session + 1)) tt
   seek_ends commit copy s seek.SeeksSlot reply at ends tail = held_ends commit copy (record s { defer = defer_next s.defer reply }) (defer_ask (defer_next s.defer reply)) at
   seek_ends commit copy s seek.LoadsCut reply at ends tail =
-      either_seek commit copy (version_said reply == s.number.0) (point_taken s (serial_said reply)) (record s { step = seek.LoadsOther reply }) (taken_ends commit copy s (serial_said reply)) tt
+      either_seek commit copy (is_cut_of s.number.0 reply) (point_taken s (serial_said reply)) (record s { step = seek.LoadsOther reply }) (taken_ends commit copy s (serial_said reply)) tt
   seek_ends commit copy s (seek.LoadsOther first) reply at ends tail =
-      either_seek commit copy (nat_le (version_said reply) s.number.0) (point_taken s (max (serial_said first) (serial_said reply))) (record s { step = seek.LoadsAgain }) (taken_ends commit copy s (max (serial_said first) (serial_said reply))) tt
+      either_seek commit copy (not (is_cut_of (s.number.0 + 1) reply)) (point_taken s (max (serial_said first) (serial_said reply))) (record s { step = seek.LoadsAgain }) (taken_ends commit copy s (max (serial_said first) (serial_said reply))) tt
   seek_ends commit copy s seek.LoadsAgain reply at ends tail = taken_ends commit copy s (serial_said reply)
   seek_ends commit copy s seek.StoresWaitFlush reply at ends tail = tt
   seek_ends commit copy s seek.LoadsTail reply at ends tail = tail refl

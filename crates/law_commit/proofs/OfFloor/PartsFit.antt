@@ -1,6 +1,6 @@
 -- Each reply to a part of a commit keeps what the keeper knows of its raises.
 use Rattle.std.proofs.Common.{◌≡◌, ℕ, ◌+◌, ◌^◌, ◌<◌, ◌≤◌, ◌∷◌, [], ◌++◌, length, refl, arith, sym, subst, Bool, true, false}
-use Rattle.std.specs.Prelude.{⊤, if◌then◌else◌, nat_le, nat_lt, ◌==◌, max, Option, None}
+use Rattle.std.specs.Prelude.{not, ⊤, if◌then◌else◌, nat_le, nat_lt, ◌==◌, max, Option, None}
 use Rattle.std.proofs.lemmas.Bool.Decides.{nat_tests}
 use Rattle.fkv_base.specs.Limits.{last_version}
 use Rattle.fkv_base.specs.declared.numbers.Addr.{Addr}
@@ -39,7 +39,7 @@ use Rattle.law_refine.specs.Below.fkv_commit.WaitAnswer.TheVariants.{Idle, NotYe
 use Rattle.law_refine.specs.Below.fkv_commit.TheWaiting.{Waiting}
 use Rattle.law_refine.specs.Below.fkv_commit.TheWaiting.TheVariants as waiting
 use Rattle.law_refine.specs.Below.fkv_commit.Commits.{version_after}
-use Rattle.law_refine.specs.Below.fkv_commit.Cuts.{version_said, serial_said}
+use Rattle.law_refine.specs.Below.fkv_commit.Cuts.{is_cut_of, serial_said}
 use Rattle.law_refine.specs.Below.fkv_commit.Deferring.{DeferState, arm_ledto, armed_epoch, defer_ask, defer_begun, defer_next, deferring_ask, deferring_next, raise_ledto}
 use Rattle.law_refine.specs.Below.fkv_commit.Entering as entering
 use Rattle.law_refine.specs.Below.fkv_commit.Entering.{EnterState, entering_next}
@@ -327,9 +327,9 @@ seek_goes_fits g l number stage s (seek.Ended told) reply at is knows none says 
 seek_goes_fits g l number stage s (seek.LoadsOwing session) reply at is knows none says fits = seek_either g (reply == 0) _ _ (owing_fits g s (session + 1)) tt
 seek_goes_fits g l number stage s seek.SeeksSlot reply at is knows none says fits = slot_fits g (record s { defer = defer_next s.defer reply }) (defer_ask (defer_next s.defer reply)) at
 seek_goes_fits g l number stage s seek.LoadsCut reply at is knows none says fits =
-    seek_either g (version_said reply == s.number.0) (point_taken s (serial_said reply)) (record s { step = seek.LoadsOther reply }) (taken_fits g s (serial_said reply)) tt
+    seek_either g (is_cut_of s.number.0 reply) (point_taken s (serial_said reply)) (record s { step = seek.LoadsOther reply }) (taken_fits g s (serial_said reply)) tt
 seek_goes_fits g l number stage s (seek.LoadsOther first) reply at is knows none says fits =
-    seek_either g (nat_le (version_said reply) s.number.0) (point_taken s (max (serial_said first) (serial_said reply))) (record s { step = seek.LoadsAgain }) (taken_fits g s (max (serial_said first) (serial_said reply))) tt
+    seek_either g (not (is_cut_of (s.number.0 + 1) reply)) (point_taken s (max (serial_said first) (serial_said reply))) (record s { step = seek.LoadsAgain }) (taken_fits g s (max (serial_said first) (serial_said reply))) tt
 seek_goes_fits g l number stage s seek.LoadsAgain reply at is knows none says fits = taken_fits g s (serial_said reply)
 seek_goes_fits g l number stage s seek.StoresWaitFlush reply at is knows none says fits = none refl
 seek_goes_fits g l number stage s seek.LoadsTail reply at is knows none says fits = (fits, says)

@@ -1,6 +1,6 @@
 -- Each reply to a part of a commit leaves it at the stage to which it leads.
 use Rattle.std.proofs.Common.{◌≡◌, ◌⊎◌, inl, ℕ, ◌+◌, ◌<◌, ◌∙◌, List, ◌∷◌, [], ◌++◌, length, refl, arith, sym, ap, subst, Bool, true, false}
-use Rattle.std.specs.Prelude.{⊤, if◌then◌else◌, nat_le, nat_lt, ◌==◌, max}
+use Rattle.std.specs.Prelude.{not, ⊤, if◌then◌else◌, nat_le, nat_lt, ◌==◌, max}
 use Rattle.std.proofs.lemmas.Bool.Decides.{nat_tests}
 use Rattle.fkv_base.specs.Limits.{last_version}
 use Rattle.fkv_base.specs.declared.numbers.Addr.{Addr}
@@ -35,7 +35,7 @@ use Rattle.law_refine.specs.Below.fkv_commit.Entering as entering
 use Rattle.law_refine.specs.Below.fkv_commit.Entering.{EnterState, entering_next}
 use Rattle.law_refine.specs.Below.fkv_commit.Seeking as seeking
 use Rattle.law_refine.specs.Below.fkv_commit.Seeking.{SeekState, owing_from, points_from, point_taken, with_point, slot_led, cut_met, other_met, seeking_next}
-use Rattle.law_refine.specs.Below.fkv_commit.Cuts.{version_said, serial_said}
+use Rattle.law_refine.specs.Below.fkv_commit.Cuts.{is_cut_of, serial_said}
 use Rattle.law_refine.specs.Below.fkv_commit.Starting as starting
 use Rattle.law_refine.specs.Below.fkv_commit.Starting.{StartState, is_lost_full, phase_found, starting_next}
 use Rattle.law_commit.specs.Phases.Staged.{Stage, Rests, Prepares, DefersProgress, Progresses, DefersPending, Pends, Flushes, DefersAt, IsReadOnly, DefersReadOnly, StartsIt, StartAt, EnterAt, SeekAt, stage_phase, stage_version, defer_moves, start_moves, enter_moves, seek_moves}
@@ -311,9 +311,9 @@ seek_goes number stage s (seek.Ended told) reply at same is = seek_stays number 
 seek_goes number stage s (seek.LoadsOwing session) reply at same is = seek_either number stage (reply == 0) _ _ (owing_at number stage s (session + 1) same is) (record { same = same; at = tt })
 seek_goes number stage s seek.SeeksSlot reply at same is = slot_at number stage (record s { defer = defer_next s.defer reply }) (defer_ask (defer_next s.defer reply)) at same is.0 (slot_sought s.defer reply is.1)
 seek_goes number stage s seek.LoadsCut reply at same is =
-    seek_either number stage (version_said reply == s.number.0) (point_taken s (serial_said reply)) (record s { step = seek.LoadsOther reply }) (taken_at number stage s (serial_said reply) same is.0 is.1) (record { same = same; at = is })
+    seek_either number stage (is_cut_of s.number.0 reply) (point_taken s (serial_said reply)) (record s { step = seek.LoadsOther reply }) (taken_at number stage s (serial_said reply) same is.0 is.1) (record { same = same; at = is })
 seek_goes number stage s (seek.LoadsOther first) reply at same is =
-    seek_either number stage (nat_le (version_said reply) s.number.0) (point_taken s (max (serial_said first) (serial_said reply))) (record s { step = seek.LoadsAgain }) (taken_at number stage s (max (serial_said first) (serial_said reply)) same is.0 is.1) (record { same = same; at = is })
+    seek_either number stage (not (is_cut_of (s.number.0 + 1) reply)) (point_taken s (max (serial_said first) (serial_said reply))) (record s { step = seek.LoadsAgain }) (taken_at number stage s (max (serial_said first) (serial_said reply)) same is.0 is.1) (record { same = same; at = is })
 seek_goes number stage s seek.LoadsAgain reply at same is = taken_at number stage s (serial_said reply) same is.0 is.1
 seek_goes number stage s seek.StoresWaitFlush reply at same is = record { same = same; at = (refl, is.1) }
 seek_goes number stage s seek.LoadsTail reply at same is = record { same = same; at = is }

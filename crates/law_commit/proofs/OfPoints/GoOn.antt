@@ -1,10 +1,9 @@
--- In wait-pending a session's two cut words go on: the first one stays or says the point, and the other stays or is of a later version.
+-- In wait-pending a session's two cut words go on: the first one stays or says the point, and the other stays or is a cut of the next version.
 use Rattle.std.proofs.Common.{◌≡◌, ◌≢◌, ◌⊎◌, inl, inr, ℕ, ◌+◌, ◌*◌, ◌<◌, ◌≤◌, ◌∙◌, List, [], ◌∷◌, ◌++◌, refl, arith, ap, sym, subst, Bool, true, false}
 use Rattle.std.specs.Prelude.{not, ◌==◌, ◌%◌, if◌then◌else◌, Option, Some, None, slice_get}
 use Rattle.std.proofs.lemmas.Bool.Decides.{nat_tests}
-use Rattle.fkv_base.specs.Limits.{last_version}
 use Rattle.fkv_base.specs.declared.numbers.Version.{Version}
-use Rattle.law_refine.specs.Below.fkv_commit.Cuts.{cut_of, other_cut_of, version_said}
+use Rattle.law_refine.specs.Below.fkv_commit.Cuts.{cut_of, other_cut_of}
 use Rattle.fkv_epoch.proofs.Shown.{some_same}
 use Rattle.law_refine.specs.Below.fkv_ops.Seen.{Seen}
 use Rattle.fkv_plane.specs.declared.asks.Ask.{Ask}
@@ -33,9 +32,8 @@ use Rattle.law_refine.proofs.Below.fkv_world.Shown.{same_seat, session_runs}
 use Rattle.law_refine.proofs.Below.law_world.OfSessions.OwnRun.{opened_so, seated}
 use Rattle.law_commit.specs.Accepted.{HasRisingVersion, point}
 use Rattle.law_commit.specs.Cuts.{HasItsWords, IsCutPlace, word_now}
-use Rattle.law_commit.specs.Floor.Stands.{PaperIsSound, stage_number}
+use Rattle.law_commit.specs.Floor.Stands.{PaperIsSound}
 use Rattle.law_commit.specs.PhaseVersions.{HasRisingPhase, phase_version}
-use Rattle.law_commit.specs.Phases.Staged.{DefersPending, DefersProgress, FitsVersion, Flushes, Pends, Prepares, Progresses, Rests, Stage}
 use Rattle.law_commit.specs.Points.{CutsGoOn, GoOn, first_cut, other_cut}
 use Rattle.law_commit.specs.Quiet.{LiveAreLater, OpensQuiet, pending_rank, rank_now}
 use Rattle.law_commit.specs.Views.{IsComing, IsTakenFrom, Sight, TakesUp, View, sight_of}
@@ -44,7 +42,7 @@ use Rattle.law_commit.proofs.OfCuts.Events.{event_words}
 use Rattle.law_commit.proofs.OfCuts.Marks.{Follows, follows_now, seat_of}
 use Rattle.law_commit.proofs.OfCuts.Serials.{cut_is_mark, not_owing}
 use Rattle.law_commit.proofs.OfPhases.LifeStages.{life_staged, none_ahead, rising_version, version_now}
-use Rattle.law_commit.proofs.OfPoints.Words.{FirstGoesOn, OtherGoesOn, said_version}
+use Rattle.law_commit.proofs.OfPoints.Words.{FirstGoesOn, OtherGoesOn}
 use Rattle.law_commit.proofs.OfQuiet.Coming.{coming_later}
 use Rattle.law_commit.proofs.OfQuiet.Owing.{Pending, pending_version}
 use Rattle.law_commit.proofs.OfQuiet.Points.{points_stay}
@@ -142,16 +140,6 @@ other_place_of : (n : ℕ) (c : Bool) → IsCutPlace n (session_place n (if c th
 other_place_of n true = inr refl
 other_place_of n false = inl refl
 
--- wait-pending isn't of the last version
-pub low_pending : (number : Version) (stage : Stage) (version : ℕ) → FitsVersion number stage → 5 * number.0 + stage_number stage ≡ pending_rank version → version < last_version
-low_pending number Pends version fits rank = let low = fits.lower refl in omega (arith, rank, low)
-low_pending number Rests version fits rank = absurd (omega (arith, rank))
-low_pending number Prepares version fits rank = absurd (omega (arith, rank))
-low_pending number DefersProgress version fits rank = absurd (omega (arith, rank))
-low_pending number Progresses version fits rank = absurd (omega (arith, rank))
-low_pending number DefersPending version fits rank = absurd (omega (arith, rank))
-low_pending number Flushes version fits rank = absurd (omega (arith, rank))
-
 -- ---- what it stores in wait-pending
 -- a session that catches up takes up this version, where it doesn't go by it yet
 from_coming : (found : Option View) (seen : Seen) (version : ℕ) → IsTakenFrom found seen → ((view : View) → found ≡ Some view → view.version.0 ≡ version) → seen.version.0 ≡ version
@@ -194,11 +182,6 @@ module _ (live : LiveAreLater) (paper_sound : PaperIsSound) (opening : World) (s
       let lived = life_staged opening start before opens.guarded opens.opened opens.seen.rests in
       let its = pending_version lived.number lived.stage version lived.staged.fits (sym (staged_rank (run opening before).now lived.number lived.stage lived.staged) ∙ rank) in
       subst (λ (n : ℕ). Pending version n) (sym (version_now (run opening before).now lived.number lived.stage lived.staged)) its
-
-  pub few : version < last_version
-  few =
-      let lived = life_staged opening start before opens.guarded opens.opened opens.seen.rests in
-      low_pending lived.number lived.stage version lived.staged.fits (sym (staged_rank (run opening before).now lived.number lived.stage lived.staged) ∙ rank)
 
   rises : HasRisingPhase opening before
   rises = (life_staged opening start before opens.guarded opens.opened opens.seen.rests).rises
@@ -289,11 +272,7 @@ module _ (live : LiveAreLater) (paper_sound : PaperIsSound) (opening : World) (s
         | inl same ↦ inl same
         | inr stores ↦ elim (stored place (other_cut opening (event ∷ before) session version) cut stores) [
           | inl tells ↦ absurd (other_apart session (version % 2 == 0) tells.at)
-          | inr next ↦
-              let is = ap version_said next.is in
-              let low = few in
-              let said = said_version next.serial (version + 1) (omega (arith, low)) in
-              inr (omega (arith, is, said))
+          | inr next ↦ inr (next.serial, next.is)
         ]
       ]
 
@@ -313,7 +292,7 @@ first_through version point a b c (inr first) (inl same) = inr (same ∙ first)
 other_through : (version a b c : ℕ) → OtherGoesOn version a b → OtherGoesOn version b c → OtherGoesOn version a c
 other_through version a b c one (inr now) = inr now
 other_through version a b c (inl first) (inl same) = inl (same ∙ first)
-other_through version a b c (inr first) (inl same) = let is = ap version_said same in inr (omega (arith, first, is))
+other_through version a b c (inr first) (inl same) = inr (first.0, same ∙ first.1)
 
 squeezed : (low mid high : ℕ) → low ≤ mid → mid ≤ high → high ≡ low → mid ≡ low
 squeezed low mid high one other same = omega (arith, one, other, same)

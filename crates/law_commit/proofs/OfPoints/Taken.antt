@@ -1,9 +1,8 @@
 -- In a life the points that the keeper takes are the sessions' points of the commit's number.
 use Rattle.std.proofs.Common.{◌≡◌, ◌⊎◌, inl, inr, ℕ, zero, suc, ◌-◌, ◌<◌, ◌≤◌, ◌∙◌, List, [], ◌∷◌, length, refl, arith, ap, sym, subst, true}
 use Rattle.std.specs.Prelude.{max, Option, Some, None, slice_get}
-use Rattle.std.proofs.Math.Nat.{max-eq_right}
 use Rattle.std.proofs.lemmas.Option.{slice_get_within}
-use Rattle.fkv_base.specs.Limits.{last_serial, last_version}
+use Rattle.fkv_base.specs.Limits.{last_serial}
 use Rattle.fkv_base.specs.declared.numbers.Serial.{Serial}
 use Rattle.fkv_base.specs.declared.numbers.Version.{Version}
 use Rattle.fkv_base.specs.declared.shapes.Shape.{Shape}
@@ -44,10 +43,10 @@ use Rattle.law_commit.proofs.Counted.{life_counted}
 use Rattle.law_commit.proofs.OfCuts.Fits.{run_fits}
 use Rattle.law_commit.proofs.OfPhases.LifeStages.{event_on, life_staged}
 use Rattle.law_commit.proofs.OfPhases.StageMoves.{LedOn, QuietKeeper, Quietly, RunBySession}
-use Rattle.law_commit.proofs.OfPoints.GoOn.{event_goes, few}
+use Rattle.law_commit.proofs.OfPoints.GoOn.{event_goes}
 use Rattle.law_commit.proofs.OfPoints.Rises.{point_opens, rises_by_version}
 use Rattle.law_commit.proofs.OfPoints.Taking.{AreTaken, KeeperTakes, KeepingReply, KeepingTakes, SeekReply, StepTakes, asked_takes, called_takes, commit_takes, given_takes, has_taken, opened_takes, replied_takes, takes_on, turn_takes}
-use Rattle.law_commit.proofs.OfPoints.Words.{Meets, again_says, first_meets, first_says, goes_again, other_says, still_meets, still_says}
+use Rattle.law_commit.proofs.OfPoints.Words.{Meets, both_low, first_low, first_meets, first_stays, other_low, shown_most, stays_most, still_meets}
 use Rattle.law_commit.proofs.OfQuiet.Left.{put_no_load}
 use Rattle.law_commit.proofs.OfQuiet.Points.{points_stay}
 use Rattle.law_commit.proofs.OfQuiet.Ranks.{ranks_rise, staged_rank}
@@ -101,16 +100,18 @@ module _ (live : LiveAreLater) (paper_sound : PaperIsSound) (cuts_show : CutsSho
   abbrev At : List Event → ℕ → ℕ → ℕ
   At events version session = point opening events session version
 
-  -- a word that was met as its first: while the phase is wait-pending its words say what follows
+  -- A word that was met as its first, and of another version. The session came no further since the version before, and the word says no more. While the phase
+  -- is wait-pending its other word says what follows.
   record Met (events : List Event) (version session word : ℕ) : Type 0 where
     from : pending_rank version ≤ rank_now opening events
-    meets : (first : SessionState) → slice_get opening.now.sessions session ≡ Some first → rank_now opening events ≡ pending_rank version
-        → Meets version (At events version session) word (first_cut opening events session version) (other_cut opening events session version)
+    stays : (first : SessionState) → slice_get opening.now.sessions session ≡ Some first → At events (version - 1) session ≡ At events version session
+    low : (first : SessionState) → slice_get opening.now.sessions session ≡ Some first → serial_said word ≤ At events version session
+    meets : (first : SessionState) → slice_get opening.now.sessions session ≡ Some first → rank_now opening events ≡ pending_rank version → Meets version (At events version session) (other_cut opening events session version)
 
-  -- its first word says the point
+  -- it came no further
   record Again (events : List Event) (version session : ℕ) : Type 0 where
     from : pending_rank version ≤ rank_now opening events
-    says : (first : SessionState) → slice_get opening.now.sessions session ≡ Some first → rank_now opening events ≡ pending_rank version → first_cut opening events session version ≡ cut_at (At events version session) version
+    stays : (first : SessionState) → slice_get opening.now.sessions session ≡ Some first → At events (version - 1) session ≡ At events version session
 
   -- a serial is its point
   record Point (events : List Event) (version session serial : ℕ) : Type 0 where
@@ -149,35 +150,31 @@ module _ (live : LiveAreLater) (paper_sound : PaperIsSound) (cuts_show : CutsSho
     still_pends : (version : ℕ) → pending_rank version ≤ rank_now opening before → rank_now opening (event ∷ before) ≡ pending_rank version → rank_now opening before ≡ pending_rank version
     still_pends version from here = let rise = up in omega (arith, rise, from, here)
 
+    same_before : (version session : ℕ) (first : SessionState) → slice_get opening.now.sessions session ≡ Some first → pending_rank version ≤ rank_now opening before
+        → At before (version - 1) session ≡ At before version session → At (event ∷ before) (version - 1) session ≡ At (event ∷ before) version session
+    same_before version session first was from is = same_point (version - 1) session first was (omega (arith, from)) ∙ (is ∙ sym (same_point version session first was from))
+
     met_on : (version session word : ℕ) → Met before version session word → Met (event ∷ before) version session word
     met_on version session word its =
         let rise = up in
         let from = its.from in
         record {
           from = omega (arith, rise, from);
+          stays = λ first was. same_before version session first was its.from (its.stays first was);
+          low = λ first was. let low = its.low first was in let same = same_point version session first was its.from in omega (arith, low, same);
           meets = λ first was here.
               let rank = still_pends version its.from here in
               let goes = event_goes live paper_sound opening start before version session first opens was rank event in
               let same = same_point version session first was its.from in
-              let shows_now = subst (λ (n : ℕ). ShowsPoint version (At (event ∷ before) (version - 1) session) n (first_cut opening (event ∷ before) session version) (other_cut opening (event ∷ before) session version)) same (shown (event ∷ before) version session first was here) in
-              subst (λ (n : ℕ). Meets version n word (first_cut opening (event ∷ before) session version) (other_cut opening (event ∷ before) session version)) (sym same)
-              (still_meets version (At (event ∷ before) (version - 1) session) (At before version session) (small before version session first was) word (first_cut opening before session version) (other_cut opening before session version) (first_cut opening (event ∷ before) session version)
-              (other_cut opening (event ∷ before) session version) goes.first goes.other shows_now (its.meets first was rank));
+              subst (λ (n : ℕ). Meets version n (other_cut opening (event ∷ before) session version)) (sym same)
+              (still_meets version (At before version session) (other_cut opening before session version) (other_cut opening (event ∷ before) session version) goes.other (its.meets first was rank));
         }
 
     again_on : (version session : ℕ) → Again before version session → Again (event ∷ before) version session
     again_on version session its =
         let rise = up in
         let from = its.from in
-        record {
-          from = omega (arith, rise, from);
-          says = λ first was here.
-              let rank = still_pends version its.from here in
-              let goes = event_goes live paper_sound opening start before version session first opens was rank event in
-              let same = same_point version session first was its.from in
-              still_says version (At before (version - 1) session) (At before version session) (small before version session first was) (first_cut opening before session version) (first_cut opening (event ∷ before) session version) goes.first (its.says first was rank)
-              ∙ ap (λ (n : ℕ). cut_at n version) (sym same);
-        }
+        record { from = omega (arith, rise, from); stays = λ first was. same_before version session first was its.from (its.stays first was) }
 
     point_on : (version session serial : ℕ) → Point before version session serial → Point (event ∷ before) version session serial
     point_on version session serial its =
@@ -223,40 +220,45 @@ module _ (live : LiveAreLater) (paper_sound : PaperIsSound) (cuts_show : CutsSho
           let within = slice_get_within opening.now.sessions session first was in
           ap (λ (points : List Serial). floor_of points session) sought.floor ∙ (takes.last session (omega (arith, many, within))).is first was
 
-      -- so it is no more than the one that is sought
-      floor_low : Takes events n.keeper → n.keeper.step ≡ Seeks → (first : SessionState) → slice_get opening.now.sessions session ≡ Some first → floor_of n.keeper.seek.floor session ≤ At events version session
-      floor_low takes at first was =
-          let is = floor_is takes at first was in
+      -- which is the version before
+      floor_before : Takes events n.keeper → n.keeper.step ≡ Seeks → (first : SessionState) → slice_get opening.now.sessions session ≡ Some first → floor_of n.keeper.seek.floor session ≡ At events (version - 1) session
+      floor_before takes at first was =
           let next = staged.keeper.has.next in
           let same = ap (λ (v : Version). v.0) (seek_at at).0 in
-          let up = rises_by_version opening events session n.keeper.last.number.0 version (omega (arith, next, same)) in
-          omega (arith, is, up)
+          let earlier : n.keeper.last.number.0 ≡ version - 1 = omega (arith, next, same) in
+          floor_is takes at first was ∙ ap (λ (v : ℕ). At events v session) earlier
 
-      -- and what the words say makes the point, with the floor or without
-      made : Takes events n.keeper → n.keeper.step ≡ Seeks → (first : SessionState) → slice_get opening.now.sessions session ≡ Some first → (serial : ℕ) → serial ≡ At events version session
+      made : Takes events n.keeper → n.keeper.step ≡ Seeks → (first : SessionState) → slice_get opening.now.sessions session ≡ Some first → (serial : ℕ) → max (At events (version - 1) session) serial ≡ At events version session
           → max (floor_of n.keeper.seek.floor session) serial ≡ At events version session
-      made takes at first was serial is = let low = floor_low takes at first was in max-eq_right (omega (arith, low, is)) ∙ is
+      made takes at first was serial is = ap (λ (n : ℕ). max n serial) (floor_before takes at first was) ∙ is
 
-      -- the version that it commits is no later than the last
-      few_versions : (first : SessionState) → slice_get opening.now.sessions session ≡ Some first → rank_now opening events ≡ pending_rank version → version ≤ last_version
-      few_versions first was rank = let low = few live paper_sound opening start events version session first opens was rank in omega (arith, low)
+      rises : At events (version - 1) session ≤ At events version session
+      rises = rises_by_version opening events session (version - 1) version (omega arith)
 
-      first_told : Takes events n.keeper → n.keeper.step ≡ Seeks → n.keeper.seek.step ≡ seek.LoadsCut → (first : SessionState) → slice_get opening.now.sessions session ≡ Some first → SeekReply count (Met events) (Again events) (Point events) n.keeper.seek seek.LoadsCut reply
+      first_told : Takes events n.keeper → n.keeper.step ≡ Seeks → n.keeper.seek.step ≡ seek.LoadsCut → (first : SessionState) → slice_get opening.now.sessions session ≡ Some first
+          → SeekReply count (Met events) (Again events) (Point events) n.keeper.seek seek.LoadsCut reply
       first_told takes at loads first was =
           let rank = pends_rank (seek_at at).0 (here at seek.LoadsCut loads).0 in
           let is : reply ≡ first_cut opening events session version = read (session_place session (cut_of version)) (asks_first n.shape n.places n.keeper at loads) in
-          let from : pending_rank version ≤ rank_now opening events = omega (arith, rank) in (
+          let from : pending_rank version ≤ rank_now opening events = omega (arith, rank) in
+          let shows = shown events version session first was rank in
+          let little = small events version session first was in (
             (λ same. record {
               from = from;
               is = λ other found. made takes at first was (serial_said reply)
-                  (ap serial_said is ∙ first_says version (At events (version - 1) session) (At events version session) (small events version session first was) (first_cut opening events session version) (other_cut opening events session version)
-                  (shown events version session first was rank) (ap version_said (sym is) ∙ same));
+                  (ap (λ (word : ℕ). max (At events (version - 1) session) (serial_said word)) is
+                  ∙ shown_most version (At events (version - 1) session) (At events version session) little (first_cut opening events session version) (other_cut opening events session version) rises shows);
             }),
             (λ apart. record {
               from = from;
-              meets = λ other found pending. subst (λ (word : ℕ). Meets version (At events version session) word (first_cut opening events session version) (other_cut opening events session version)) (sym is)
-                  (first_meets version (At events (version - 1) session) (At events version session) (small events version session first was) (first_cut opening events session version) (other_cut opening events session version) (few_versions first was rank)
-                  (shown events version session first was rank) (λ same. apart (ap version_said is ∙ same)));
+              stays = λ other found. first_stays version (At events (version - 1) session) (At events version session) little (first_cut opening events session version) (other_cut opening events session version) shows
+                  (λ same. apart (ap version_said is ∙ same));
+              low = λ other found.
+                  let said = ap serial_said is in
+                  let low = first_low version (At events (version - 1) session) (At events version session) little (first_cut opening events session version) (other_cut opening events session version) shows in
+                  omega (arith, said, low);
+              meets = λ other found pending. first_meets version (At events (version - 1) session) (At events version session) little (first_cut opening events session version) (other_cut opening events session version) shows
+                  (λ same. apart (ap version_said is ∙ same));
             }),
           )
 
@@ -266,18 +268,17 @@ module _ (live : LiveAreLater) (paper_sound : PaperIsSound) (cuts_show : CutsSho
           let rank = pends_rank (seek_at at).0 (here at (seek.LoadsOther met) loads).0 in
           let is : reply ≡ other_cut opening events session version = read (session_place session (other_cut_of version)) (asks_other n.shape n.places n.keeper met at loads) in
           let from : pending_rank version ≤ rank_now opening events = omega (arith, rank) in
-          let said = ap version_said is in
           let meets = known.meets first was rank in (
-            (λ low. record {
+            (λ apart. record {
               from = from;
               is = λ other found. made takes at first was (max (serial_said met) (serial_said reply))
-                  (ap (λ (word : ℕ). max (serial_said met) (serial_said word)) is
-                  ∙ other_says version (At events (version - 1) session) (At events version session) (small events version session first was) met (first_cut opening events session version) (other_cut opening events session version) meets (omega (arith, said, low)));
+                  (stays_most (At events (version - 1) session) (At events version session) (max (serial_said met) (serial_said reply)) (known.stays first was)
+                  (both_low (serial_said met) (serial_said reply) (At events version session) (known.low first was)
+                  (let said = ap serial_said is in
+                  let low = other_low version (At events version session) (other_cut opening events session version) meets (λ same. apart (ap version_said is ∙ same)) in
+                  omega (arith, said, low))));
             }),
-            (λ later. record {
-              from = from;
-              says = λ other found pending. goes_again version (At events (version - 1) session) (At events version session) (small events version session first was) met (first_cut opening events session version) (other_cut opening events session version) meets (omega (arith, said, later));
-            }),
+            (λ later. record { from = from; stays = known.stays }),
           )
 
       again_told : Takes events n.keeper → n.keeper.step ≡ Seeks → n.keeper.seek.step ≡ seek.LoadsAgain → Again events version session → (first : SessionState) → slice_get opening.now.sessions session ≡ Some first
@@ -288,7 +289,11 @@ module _ (live : LiveAreLater) (paper_sound : PaperIsSound) (cuts_show : CutsSho
           record {
             from = omega (arith, rank);
             is = λ other found. made takes at first was (serial_said reply)
-                (ap serial_said is ∙ again_says version (At events (version - 1) session) (At events version session) (small events version session first was) (first_cut opening events session version) (known.says first was rank));
+                (stays_most (At events (version - 1) session) (At events version session) (serial_said reply) (known.stays first was)
+                (let said = ap serial_said is in
+                let low = first_low version (At events (version - 1) session) (At events version session) (small events version session first was) (first_cut opening events session version) (other_cut opening events session version)
+                (shown events version session first was rank) in
+                omega (arith, said, low)));
           }
 
       -- the session whose point it seeks is there

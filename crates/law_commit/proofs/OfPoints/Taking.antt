@@ -1,6 +1,6 @@
 -- What the keeper knows of the points that it takes, whatever a point is, and whatever is known of words that it has met.
 use Rattle.std.proofs.Common.{◌≡◌, ℕ, zero, suc, ◌+◌, ◌<◌, ◌≤◌, ◌∙◌, List, [], ◌∷◌, ◌++◌, length, refl, arith, sym, ap, subst, Bool, true, false}
-use Rattle.std.specs.Prelude.{⊤, nat_le, nat_lt, max, ◌==◌, if◌then◌else◌, Option, Some, None, slice_get, ◌||◌}
+use Rattle.std.specs.Prelude.{⊤, nat_le, nat_lt, max, ◌==◌, if◌then◌else◌, Option, Some, None, slice_get, ◌||◌, not}
 use Rattle.std.proofs.lemmas.Bool.Decides.{nat_tests}
 use Rattle.fkv_base.specs.declared.commits.CommitKind.{CommitKind}
 use Rattle.fkv_base.specs.declared.faults.Fault.TheVariants as fault
@@ -12,6 +12,7 @@ use Rattle.fkv_base.specs.declared.shapes.Shape.{Shape}
 use Rattle.fkv_words.specs.declared.phase_words.PhaseSaid.{PhaseSaid}
 use Rattle.fkv_words.specs.declared.phase_words.PhaseSaid.TheVariants.{Says, Spoiled}
 use Rattle.fkv_words.specs.PhaseWords.{phase_said}
+use Rattle.fkv_marks.specs.Marks.{mark}
 use Rattle.fkv_plane.specs.declared.actions.Action.{Action}
 use Rattle.fkv_plane.specs.declared.asks.Ask.{Ask}
 use Rattle.fkv_plane.specs.declared.asks.Ask.TheVariants.{Load, Store, Swap, Cas, Add, Max, Put, Take, Done}
@@ -31,7 +32,7 @@ use Rattle.law_refine.specs.Below.fkv_commit.StartAnswer.{StartAnswer}
 use Rattle.law_refine.specs.Below.fkv_commit.StartAnswer.TheVariants as started
 use Rattle.law_refine.specs.Below.fkv_commit.WaitAnswer.{WaitAnswer}
 use Rattle.law_refine.specs.Below.fkv_commit.WaitAnswer.TheVariants as wait
-use Rattle.law_refine.specs.Below.fkv_commit.Cuts.{serial_said, version_said}
+use Rattle.law_refine.specs.Below.fkv_commit.Cuts.{serial_said, version_said, is_cut_of}
 use Rattle.law_refine.specs.Below.fkv_commit.Deferring.{defer_ask, defer_begun, defer_next}
 use Rattle.law_refine.specs.Below.fkv_commit.Entering.{enter_ask, enter_begun, enter_next}
 use Rattle.law_refine.specs.Below.fkv_commit.Finishing.{finish_ask, finish_next}
@@ -195,8 +196,8 @@ module _ (count : ℕ) (F : ℕ → ℕ → ℕ → Type 0) (A : ℕ → ℕ →
 
   -- what a reply tells, by what was known
   abbrev pub SeekReply : SeekState → Seeking → ℕ → Type 0
-  SeekReply s seek.LoadsCut reply = (version_said reply ≡ s.number.0 → Makes s (serial_said reply)) × ((version_said reply ≡ s.number.0 → ⊥) → F s.number.0 (length s.points) reply)
-  SeekReply s (seek.LoadsOther first) reply = (version_said reply ≤ s.number.0 → Makes s (max (serial_said first) (serial_said reply))) × (s.number.0 < version_said reply → A s.number.0 (length s.points))
+  SeekReply s seek.LoadsCut reply = (version_said reply ≡ mark s.number.0 → Makes s (serial_said reply)) × ((version_said reply ≡ mark s.number.0 → ⊥) → F s.number.0 (length s.points) reply)
+  SeekReply s (seek.LoadsOther first) reply = ((version_said reply ≡ mark (s.number.0 + 1) → ⊥) → Makes s (max (serial_said first) (serial_said reply))) × (version_said reply ≡ mark (s.number.0 + 1) → A s.number.0 (length s.points))
   SeekReply s seek.LoadsAgain reply = Makes s (serial_said reply)
   SeekReply s step reply = ⊤
 
@@ -207,11 +208,11 @@ module _ (count : ℕ) (F : ℕ → ℕ → ℕ → Type 0) (A : ℕ → ℕ →
       either_seek (reply == 0) (owing_from s (session + 1)) (record s { step = seek.Ended sought.Owing }) (λ zero. owing_takes s (session + 1) sessions knows) (λ some. record { sessions = sessions; taken = taken; step = tt })
   seek_takes s seek.SeeksSlot reply at sessions taken knows tells = slot_takes (record s { defer = defer_next s.defer reply }) (defer_ask (defer_next s.defer reply)) at sessions knows
   seek_takes s seek.LoadsCut reply at sessions taken knows tells =
-      either_seek (version_said reply == s.number.0) (point_taken s (serial_said reply)) (record s { step = seek.LoadsOther reply })
+      either_seek (is_cut_of s.number.0 reply) (point_taken s (serial_said reply)) (record s { step = seek.LoadsOther reply })
       (λ yes. point_takes s (serial_said reply) sessions taken knows (tells.0 (grind (arith, nat_tests, yes))))
       (λ no. record { sessions = sessions; taken = taken; step = (knows, tells.1 (grind (arith, nat_tests, no))) })
   seek_takes s (seek.LoadsOther first) reply at sessions taken knows tells =
-      either_seek (nat_le (version_said reply) s.number.0) (point_taken s (max (serial_said first) (serial_said reply))) (record s { step = seek.LoadsAgain })
+      either_seek (not (is_cut_of (s.number.0 + 1) reply)) (point_taken s (max (serial_said first) (serial_said reply))) (record s { step = seek.LoadsAgain })
       (λ yes. point_takes s (max (serial_said first) (serial_said reply)) sessions taken knows.0 (tells.0 (grind (arith, nat_tests, yes))))
       (λ no. record { sessions = sessions; taken = taken; step = (knows.0, tells.1 (grind (arith, nat_tests, no))) })
   seek_takes s seek.LoadsAgain reply at sessions taken knows tells = point_takes s (serial_said reply) sessions taken knows.0 tells
@@ -255,9 +256,9 @@ module _ (count : ℕ) (F : ℕ → ℕ → ℕ → Type 0) (A : ℕ → ℕ →
   seek_keeps s (seek.Ended its) reply = (refl, refl)
   seek_keeps s (seek.LoadsOwing session) reply = either_keeps (reply == 0) s (owing_from s (session + 1)) (record s { step = seek.Ended sought.Owing }) (owing_keeps s (session + 1)) (refl, refl)
   seek_keeps s seek.SeeksSlot reply = slot_keeps (record s { defer = defer_next s.defer reply }) (defer_ask (defer_next s.defer reply))
-  seek_keeps s seek.LoadsCut reply = either_keeps (version_said reply == s.number.0) s (point_taken s (serial_said reply)) (record s { step = seek.LoadsOther reply }) (taken_keeps s (serial_said reply)) (refl, refl)
+  seek_keeps s seek.LoadsCut reply = either_keeps (is_cut_of s.number.0 reply) s (point_taken s (serial_said reply)) (record s { step = seek.LoadsOther reply }) (taken_keeps s (serial_said reply)) (refl, refl)
   seek_keeps s (seek.LoadsOther first) reply =
-      either_keeps (nat_le (version_said reply) s.number.0) s (point_taken s (max (serial_said first) (serial_said reply))) (record s { step = seek.LoadsAgain }) (taken_keeps s (max (serial_said first) (serial_said reply))) (refl, refl)
+      either_keeps (not (is_cut_of (s.number.0 + 1) reply)) s (point_taken s (max (serial_said first) (serial_said reply))) (record s { step = seek.LoadsAgain }) (taken_keeps s (max (serial_said first) (serial_said reply))) (refl, refl)
   seek_keeps s seek.LoadsAgain reply = taken_keeps s (serial_said reply)
   seek_keeps s seek.StoresWaitFlush reply = (refl, refl)
   seek_keeps s seek.LoadsTail reply = (refl, refl)

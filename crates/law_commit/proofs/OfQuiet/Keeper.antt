@@ -1,6 +1,6 @@
 -- As the keeper seeks the points of a commit, the sessions whose owing words it has read as 0 leave the commit's version, whatever that is.
 use Rattle.std.proofs.Common.{◌≡◌, ℕ, ◌+◌, ◌<◌, ◌≤◌, List, [], ◌∷◌, ◌++◌, length, refl, arith, sym, subst, Bool, true, false}
-use Rattle.std.specs.Prelude.{⊤, nat_le, nat_lt, max, ◌==◌, if◌then◌else◌, Option, Some, None, ◌||◌}
+use Rattle.std.specs.Prelude.{⊤, nat_le, nat_lt, max, ◌==◌, if◌then◌else◌, Option, Some, None, ◌||◌, not}
 use Rattle.std.proofs.lemmas.Bool.Decides.{nat_tests}
 use Rattle.fkv_base.specs.declared.commits.CommitKind.{CommitKind}
 use Rattle.fkv_base.specs.declared.faults.Fault.TheVariants as fault
@@ -28,7 +28,7 @@ use Rattle.law_refine.specs.Below.fkv_commit.StartAnswer.{StartAnswer}
 use Rattle.law_refine.specs.Below.fkv_commit.StartAnswer.TheVariants as started
 use Rattle.law_refine.specs.Below.fkv_commit.WaitAnswer.{WaitAnswer}
 use Rattle.law_refine.specs.Below.fkv_commit.WaitAnswer.TheVariants as wait
-use Rattle.law_refine.specs.Below.fkv_commit.Cuts.{serial_said, version_said}
+use Rattle.law_refine.specs.Below.fkv_commit.Cuts.{serial_said, is_cut_of}
 use Rattle.law_refine.specs.Below.fkv_commit.Deferring.{defer_ask, defer_begun, defer_next}
 use Rattle.law_refine.specs.Below.fkv_commit.Entering.{enter_ask, enter_begun, enter_next}
 use Rattle.law_refine.specs.Below.fkv_commit.Finishing.{finish_ask, finish_next}
@@ -128,9 +128,9 @@ module _ (N : ℕ → ℕ → Type 0) (count : ℕ) where
       (λ zero. owing_knows s (session + 1) sessions (λ other low. one_more s.number.0 session other leaves (owes session refl (grind (arith, nat_tests, zero))) low)) (λ some. record { sessions = sessions; step = tt })
   seek_knows s seek.SeeksSlot reply at sessions leaves owes = slot_knows (record s { defer = defer_next s.defer reply }) (defer_ask (defer_next s.defer reply)) at sessions leaves
   seek_knows s seek.LoadsCut reply at sessions leaves owes =
-      either_seek (version_said reply == s.number.0) (point_taken s (serial_said reply)) (record s { step = seek.LoadsOther reply }) (λ yes. taken_knows s (serial_said reply) sessions leaves) (λ no. record { sessions = sessions; step = leaves })
+      either_seek (is_cut_of s.number.0 reply) (point_taken s (serial_said reply)) (record s { step = seek.LoadsOther reply }) (λ yes. taken_knows s (serial_said reply) sessions leaves) (λ no. record { sessions = sessions; step = leaves })
   seek_knows s (seek.LoadsOther first) reply at sessions leaves owes =
-      either_seek (nat_le (version_said reply) s.number.0) (point_taken s (max (serial_said first) (serial_said reply))) (record s { step = seek.LoadsAgain })
+      either_seek (not (is_cut_of (s.number.0 + 1) reply)) (point_taken s (max (serial_said first) (serial_said reply))) (record s { step = seek.LoadsAgain })
       (λ yes. taken_knows s (max (serial_said first) (serial_said reply)) sessions leaves) (λ no. record { sessions = sessions; step = leaves })
   seek_knows s seek.LoadsAgain reply at sessions leaves owes = taken_knows s (serial_said reply) sessions leaves
   seek_knows s seek.StoresWaitFlush reply at sessions leaves owes = record { sessions = sessions; step = tt }

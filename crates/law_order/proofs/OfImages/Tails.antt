@@ -1,6 +1,6 @@
 -- Where a commit's scan begins and its log ends: both are tails that the keeper has loaded, and the tail never falls.
 use Rattle.std.proofs.Common.{◌≡◌, ℕ, ◌+◌, ◌<◌, ◌≤◌, ◌∙◌, arith, refl, sym, ap, subst, Bool, true, false, List, [], ◌∷◌, ◌++◌, length}
-use Rattle.std.specs.Prelude.{⊤, ◌==◌, max, nat_le, nat_lt, if◌then◌else◌, Option, Some, None, ◌||◌}
+use Rattle.std.specs.Prelude.{⊤, ◌==◌, max, nat_le, nat_lt, if◌then◌else◌, Option, Some, None, ◌||◌, not}
 use Rattle.fkv_base.specs.Limits.{last_version}
 use Rattle.fkv_base.specs.declared.commits.CommitKind.{CommitKind}
 use Rattle.fkv_base.specs.declared.commits.CommitKind.TheVariants.{Full, Log}
@@ -26,7 +26,7 @@ use Rattle.law_commit.specs.Below.fkv_commit.TheStarting.{Starting}
 use Rattle.law_commit.specs.Below.fkv_commit.TheStarting.TheVariants as starting
 use Rattle.law_commit.specs.Below.fkv_commit.WaitAnswer.{WaitAnswer}
 use Rattle.law_commit.specs.Below.fkv_commit.WaitAnswer.TheVariants as wait
-use Rattle.law_commit.specs.Below.fkv_commit.Cuts.{serial_said, version_said}
+use Rattle.law_commit.specs.Below.fkv_commit.Cuts.{serial_said, is_cut_of}
 use Rattle.law_commit.specs.Below.fkv_commit.Deferring.{defer_ask, defer_next}
 use Rattle.law_commit.specs.Below.fkv_commit.Entering.{enter_ask, enter_next}
 use Rattle.law_commit.specs.Below.fkv_commit.Finishing.{finish_ask, finish_next}
@@ -215,11 +215,11 @@ taken_above : (last : Finality) (found : Option Commit) (m : SeekState) (serial 
 taken_above last found m serial = points_above last found (with_point m serial)
 
 cut_above : (last : Finality) (found : Option Commit) (m : SeekState) (word : ℕ) → SeeksAbove last found (cut_met m word).step
-cut_above last found m word = seek_either last found (version_said word == m.number.0) (point_taken m (serial_said word)) (record m { step = seeking.LoadsOther word }) (taken_above last found m (serial_said word)) tt
+cut_above last found m word = seek_either last found (is_cut_of m.number.0 word) (point_taken m (serial_said word)) (record m { step = seeking.LoadsOther word }) (taken_above last found m (serial_said word)) tt
 
 other_above : (last : Finality) (found : Option Commit) (m : SeekState) (first word : ℕ) → SeeksAbove last found (other_met m first word).step
 other_above last found m first word =
-    seek_either last found (nat_le (version_said word) m.number.0) (point_taken m (max (serial_said first) (serial_said word))) (record m { step = seeking.LoadsAgain }) (taken_above last found m (max (serial_said first) (serial_said word))) tt
+    seek_either last found (not (is_cut_of (m.number.0 + 1) word)) (point_taken m (max (serial_said first) (serial_said word))) (record m { step = seeking.LoadsAgain }) (taken_above last found m (max (serial_said first) (serial_said word))) tt
 
 untaken : (t : Bounds) (points : Bool) (last : Finality) (found : Option Commit) → Below t points last found → Below t false last found
 untaken t points last found is = (is.0, tt, is.2)

@@ -7,6 +7,8 @@ use Rattle.std.proofs.lemmas.List.{get_or-map}
 use Rattle.std.proofs.lemmas.Option.{slice_get-get_or, slice_get_within}
 use Rattle.fkv_base.specs.Limits.{last_serial, last_version}
 use Rattle.fkv_base.specs.declared.numbers.Serial.{Serial}
+use Rattle.fkv_marks.specs.Marks.{mark}
+use Rattle.fkv_marks.proofs.Shown.{mark_small}
 use Rattle.law_commit.specs.Below.fkv_commit.Cuts.{serial_said}
 use Rattle.law_commit.specs.Below.fkv_commit.Finishing as finishing
 use Rattle.law_opening.specs.Below.fkv_core.OpeningPlaces.{StandAsTold, StandOfSession}
@@ -39,7 +41,7 @@ module _ (o : Opened) (n : Now) (its : IsOpeningWorld o n) (told : StandAsTold o
   cut_so : (serial version : ℕ) → serial ≤ last_serial → version ≤ last_version → cut_at serial version ≡ serial + version * 2 ^ 48
   cut_so serial version small few =
       let a : min serial last_serial ≡ serial = min-eq_left small in
-      let b : min version last_version ≡ version = min-eq_left few in
+      let b : mark version ≡ version = mark_small version (omega (arith, few)) in
       omega (arith, a, b)
 
   -- neither cut word shows more than the point

@@ -1,6 +1,6 @@
 -- The machines of a commit spare each part.
 use Rattle.std.proofs.Common.{◌≡◌, ◌≢◌, ℕ, ◌+◌, ◌<◌, refl, sym, subst, arith, List, [], ◌∷◌, ◌++◌, length, Bool, true, false}
-use Rattle.std.specs.Prelude.{if◌then◌else◌, ◌==◌, nat_lt, nat_le, max, ⊤}
+use Rattle.std.specs.Prelude.{not, if◌then◌else◌, ◌==◌, nat_lt, nat_le, max, ⊤}
 use Rattle.std.proofs.lemmas.Bool.Decides.{nat_tests}
 use Rattle.fkv_base.specs.Limits.{last_version}
 use Rattle.fkv_base.specs.declared.faults.Fault.TheVariants as fault
@@ -30,7 +30,7 @@ use Rattle.law_world.specs.Below.fkv_commit.TheStarting.TheVariants as starting
 use Rattle.law_world.specs.Below.fkv_commit.TheWaiting.{Waiting}
 use Rattle.law_world.specs.Below.fkv_commit.TheWaiting.TheVariants as waiting
 use Rattle.law_world.specs.Below.fkv_commit.Commits.{version_after}
-use Rattle.law_world.specs.Below.fkv_commit.Cuts.{serial_said, version_said}
+use Rattle.law_world.specs.Below.fkv_commit.Cuts.{serial_said, is_cut_of}
 use Rattle.law_world.specs.Below.fkv_commit.Deferring.{defer_begun, defer_next}
 use Rattle.law_world.specs.Below.fkv_commit.Entering as enters
 use Rattle.law_world.specs.Below.fkv_commit.Entering.{EnterState, entering_ask, enter_ask, enter_begun, entering_next, enter_next}
@@ -209,11 +209,11 @@ seek_sought s (Done its) at bounds = tt
 seek_sought s ask at bounds = seek_stays s seeking.SeeksSlot at bounds
 
 cut_spares : (s : SeekState) (word : ℕ) → IsDeferSparing s.defer → IsSeekSparing (cut_met s word)
-cut_spares s word bounds = seek_either (version_said word == s.number.0) (point_taken s (serial_said word)) (record s { step = seeking.LoadsOther word }) (taken_spares s (serial_said word) bounds) bounds
+cut_spares s word bounds = seek_either (is_cut_of s.number.0 word) (point_taken s (serial_said word)) (record s { step = seeking.LoadsOther word }) (taken_spares s (serial_said word) bounds) bounds
 
 other_spares : (s : SeekState) (first word : ℕ) → IsDeferSparing s.defer → IsSeekSparing (other_met s first word)
 other_spares s first word bounds =
-    seek_either (nat_le (version_said word) s.number.0) (point_taken s (max (serial_said first) (serial_said word))) (record s { step = seeking.LoadsAgain }) (taken_spares s (max (serial_said first) (serial_said word)) bounds) bounds
+    seek_either (not (is_cut_of (s.number.0 + 1) word)) (point_taken s (max (serial_said first) (serial_said word))) (record s { step = seeking.LoadsAgain }) (taken_spares s (max (serial_said first) (serial_said word)) bounds) bounds
 
 seek_deferred : (end : Addr) (s : SeekState) (ask : Ask DeferAnswer) → s.step ≡ seeking.Defers end → IsDeferSparing s.defer → IsSeekSparing (seeks.defer_led end s ask)
 unfolding seeks.defer_led

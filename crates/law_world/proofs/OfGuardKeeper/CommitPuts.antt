@@ -1,6 +1,6 @@
 -- Where a part of a commit gives an action to a slot, this is empty: the epoch was raised for it.
 use Rattle.std.proofs.Common.{◌≡◌, ℕ, ◌∙◌, inl, inr, refl, ap, subst, false, List, [], ◌∷◌, ◌++◌, max}
-use Rattle.std.specs.Prelude.{Option, Some, slice_get, length, nat_lt, nat_le, ◌==◌, ◌+◌}
+use Rattle.std.specs.Prelude.{not, Option, Some, slice_get, length, nat_lt, nat_le, ◌==◌, ◌+◌}
 use Rattle.fkv_base.specs.Limits.{last_version}
 use Rattle.fkv_base.specs.declared.phases.Phase.TheVariants.{Rest, InProgress, WaitPending}
 use Rattle.fkv_base.specs.declared.numbers.Addr.{Addr}
@@ -31,7 +31,7 @@ use Rattle.fkv_commit.specs.declared.starting.StartAnswer.TheVariants as started
 use Rattle.fkv_commit.specs.declared.starting.Starting.{Starting}
 use Rattle.fkv_commit.specs.declared.starting.Starting.TheVariants as start
 use Rattle.fkv_commit.specs.Commits.{version_after}
-use Rattle.fkv_commit.specs.Cuts.{serial_said, version_said}
+use Rattle.fkv_commit.specs.Cuts.{serial_said, is_cut_of}
 use Rattle.fkv_commit.specs.Deferring.{DeferState, defer_ask, defer_next, defer_on, deferring_ask, deferring_next, deferring_on, raise_ledto, arm_ledto}
 use Rattle.fkv_commit.specs.Entering as entering
 use Rattle.fkv_commit.specs.Entering.{EnterState, enter_ask, enter_next, entering_ask, entering_next}
@@ -161,11 +161,11 @@ owing_off s session reply = elim (truth (reply == 0)) [ inl e ↦ rw e (owing_sl
 
 cut_off : (s : SeekState) (word : ℕ) → is_of_slot (seek_ask (cut_met s word)) ≡ false
 unfolding seeking_ask
-cut_off s word = elim (truth (version_said word == s.number.0)) [ inl e ↦ rw e (points_off (with_point s (serial_said word))) | inr e ↦ rw e refl ]
+cut_off s word = elim (truth (is_cut_of s.number.0 word)) [ inl e ↦ rw e (points_off (with_point s (serial_said word))) | inr e ↦ rw e refl ]
 
 other_off : (s : SeekState) (first word : ℕ) → is_of_slot (seek_ask (other_met s first word)) ≡ false
 unfolding seeking_ask
-other_off s first word = elim (truth (nat_le (version_said word) s.number.0)) [ inl e ↦ rw e (points_off (with_point s (max (serial_said first) (serial_said word)))) | inr e ↦ rw e refl ]
+other_off s first word = elim (truth (not (is_cut_of (s.number.0 + 1) word))) [ inl e ↦ rw e (points_off (with_point s (max (serial_said first) (serial_said word)))) | inr e ↦ rw e refl ]
 
 seek_seeks : (s : SeekState) (e : DeferState) (ask : Ask DeferAnswer) → defer_ask e ≡ ask → SeekGoes ask e → is_of_slot (seek_ask (slot_led (record s { defer = e; step = seek.SeeksSlot }) ask)) ≡ false
 unfolding slot_led seeking_ask

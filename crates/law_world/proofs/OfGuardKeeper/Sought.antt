@@ -1,6 +1,6 @@
 -- A step of a commit that seeks its points, and makes the log read-only up to its end.
 use Rattle.std.proofs.Common.{◌≡◌, ℕ, ◌≤◌, ◌<◌, List, [], ◌∷◌, ◌++◌, inl, inr, refl, ap, sym, subst, ◌∙◌, true, false, arith, max}
-use Rattle.std.specs.Prelude.{Option, Some, None, slice_get, slice_set, length, nat_lt, nat_le, ◌==◌, ◌+◌}
+use Rattle.std.specs.Prelude.{not, Option, Some, None, slice_get, slice_set, length, nat_lt, nat_le, ◌==◌, ◌+◌}
 use Rattle.std.proofs.lemmas.Bool.Decides.{nat_tests}
 use Rattle.std.proofs.lemmas.List.{set-get_or}
 use Rattle.fkv_base.specs.declared.numbers.Addr.{Addr}
@@ -26,7 +26,7 @@ use Rattle.fkv_commit.specs.declared.seeking.SeekAnswer.TheVariants as answer
 use Rattle.fkv_commit.specs.declared.seeking.Seeking.{Seeking}
 use Rattle.fkv_commit.specs.declared.seeking.Seeking.TheVariants as seek
 use Rattle.fkv_commit.specs.Commits.{version_after}
-use Rattle.fkv_commit.specs.Cuts.{serial_said, version_said, cut_of, other_cut_of}
+use Rattle.fkv_commit.specs.Cuts.{serial_said, is_cut_of, cut_of, other_cut_of}
 use Rattle.fkv_commit.specs.Deferring.{DeferState, action_of, armed_epoch, defer_ask, defer_next, deferring_ask, deferring_next, deferring_on, raise_ledto, arm_ledto}
 use Rattle.fkv_commit.specs.Seeking.{SeekState, owing_from, seek_ask, seek_next, seeking_ask, seeking_next, points_from, with_point, slot_led, defer_led}
 use Rattle.fkv_flush.specs.GuardLevels.{levels_of}
@@ -120,7 +120,7 @@ seeks_slot n a x seen s e words ask its k idle same none led =
 cut_goes : (n : GuardNow) (a : ℕ) (x : Actor) (seen : LastSeen) (s : SeekState) (word : ℕ) → slice_get n.actors a ≡ Some x → IsSlotHeld s.defer → Fits (likeness seen (defer_machine s.defer) None) x
     → SeekLed n a [] seen (seek_next (record s { step = seek.LoadsCut }) word) n.words
 unfolding seeking_next seeking_ask
-cut_goes n a x seen s word got held fits = elim (truth (version_said word == s.number.0)) [
+cut_goes n a x seen s word got held fits = elim (truth (is_cut_of s.number.0 word)) [
   | inl e ↦ rw e (points_go n a x seen (with_point (record s { step = seek.LoadsCut }) (serial_said word)) [] n.words (stays n a x got) held fits)
   | inr e ↦ rw e (slotless n a [] seen (record s { step = seek.LoadsOther word }) n.words refl (record { follows = record { actor = x; same = stays n a x got; fits = fits }; knows = held }))
 ]
@@ -128,7 +128,7 @@ cut_goes n a x seen s word got held fits = elim (truth (version_said word == s.n
 other_goes : (n : GuardNow) (a : ℕ) (x : Actor) (seen : LastSeen) (s : SeekState) (first word : ℕ) → slice_get n.actors a ≡ Some x → IsSlotHeld s.defer → Fits (likeness seen (defer_machine s.defer) None) x
     → SeekLed n a [] seen (seek_next (record s { step = seek.LoadsOther first }) word) n.words
 unfolding seeking_next seeking_ask
-other_goes n a x seen s first word got held fits = elim (truth (nat_le (version_said word) s.number.0)) [
+other_goes n a x seen s first word got held fits = elim (truth (not (is_cut_of (s.number.0 + 1) word))) [
   | inl e ↦ rw e (points_go n a x seen (with_point (record s { step = seek.LoadsOther first }) (max (serial_said first) (serial_said word))) [] n.words (stays n a x got) held fits)
   | inr e ↦ rw e (slotless n a [] seen (record s { step = seek.LoadsAgain }) n.words refl (record { follows = record { actor = x; same = stays n a x got; fits = fits }; knows = held }))
 ]

@@ -1,6 +1,6 @@
 -- Over every run of a keeper the buckets that its copy of the index is at are there, and so are the sessions whose points it seeks.
 use Rattle.std.proofs.Common.{◌≡◌, ℕ, ◌+◌, ◌-◌, ◌<◌, ◌≤◌, refl, sym, subst, arith, List, [], ◌∷◌, length, Bool, true, false, ◌∙◌, ap, inl, inr}
-use Rattle.std.specs.Prelude.{◌&&◌, ◌==◌, ◌++◌, nat_lt, nat_le, max, ⊤, if◌then◌else◌, Option, Some, None, ◌||◌}
+use Rattle.std.specs.Prelude.{◌&&◌, ◌==◌, ◌++◌, nat_lt, nat_le, max, ⊤, if◌then◌else◌, Option, Some, None, ◌||◌, not}
 use Rattle.std.proofs.lemmas.Bool.Decides.{nat_tests}
 use Rattle.fkv_base.specs.declared.numbers.Addr.{Addr}
 use Rattle.fkv_plane.specs.Places.{bucket_place}
@@ -13,7 +13,7 @@ use Rattle.fkv_commit.specs.declared.deferring.DeferAnswer.{DeferAnswer}
 use Rattle.fkv_commit.specs.declared.deferring.DeferAnswer.TheVariants as defer
 use Rattle.fkv_commit.specs.declared.seeking.Seeking.{Seeking}
 use Rattle.fkv_commit.specs.declared.seeking.Seeking.TheVariants as seeking
-use Rattle.fkv_commit.specs.Cuts.{serial_said, version_said}
+use Rattle.fkv_commit.specs.Cuts.{serial_said, is_cut_of}
 use Rattle.fkv_commit.specs.Deferring.{defer_next}
 use Rattle.fkv_commit.specs.Seeking.{SeekState, cut_met, defer_led, other_met, owing_from, point_taken, with_point, points_from, seek_next, seeking_next, slot_led}
 use Rattle.fkv_keeper.specs.CheckpointLaws.{CopiesOnce, IsCopyAfter}
@@ -90,10 +90,10 @@ defer_row end s (Done its) at = tt
 defer_row end s ask at = subst (λ (step : Seeking). SeekRow s step) (sym at) tt
 
 cut_row : (s : SeekState) (word : ℕ) → length s.points < s.sessions → IsSeekRow (cut_met s word)
-cut_row s word few = either_seek (version_said word == s.number.0) _ _ (λ e. taken_row s (serial_said word)) (λ e. few)
+cut_row s word few = either_seek (is_cut_of s.number.0 word) _ _ (λ e. taken_row s (serial_said word)) (λ e. few)
 
 other_row : (s : SeekState) (first word : ℕ) → length s.points < s.sessions → IsSeekRow (other_met s first word)
-other_row s first word few = either_seek (nat_le (version_said word) s.number.0) _ _ (λ e. taken_row s (max (serial_said first) (serial_said word))) (λ e. few)
+other_row s first word few = either_seek (not (is_cut_of (s.number.0 + 1) word)) _ _ (λ e. taken_row s (max (serial_said first) (serial_said word))) (λ e. few)
 
 seeks_row : (s : SeekState) (step : Seeking) (reply : ℕ) → s.step ≡ step → SeekRow s step → IsSeekRow (seeking_next s step reply)
 unfolding seeking_next

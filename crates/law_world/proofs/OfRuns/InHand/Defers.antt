@@ -1,6 +1,6 @@
 -- Behind an action that it has put a defer goes on: it arms the slot. So do the parts of a commit that defer.
 use Rattle.std.proofs.Common.{◌≡◌, ℕ, ◌+◌, ◌∙◌, ◌++◌, ◌∷◌, [], refl, ap, sym, subst, Bool, true, false, length}
-use Rattle.std.specs.Prelude.{⊤, nat_lt, nat_le, ◌==◌, max, if◌then◌else◌}
+use Rattle.std.specs.Prelude.{not, ⊤, nat_lt, nat_le, ◌==◌, max, if◌then◌else◌}
 use Rattle.fkv_base.specs.Limits.{last_version}
 use Rattle.fkv_base.specs.declared.numbers.Addr.{Addr}
 use Rattle.fkv_base.specs.declared.numbers.Version.{Version}
@@ -8,7 +8,7 @@ use Rattle.fkv_base.specs.declared.phases.Phase.TheVariants.{Rest}
 use Rattle.fkv_words.specs.declared.phase_words.PhaseSaid.{PhaseSaid}
 use Rattle.fkv_words.specs.declared.phase_words.PhaseSaid.TheVariants.{Says}
 use Rattle.fkv_words.specs.PhaseWords.{phase_said}
-use Rattle.fkv_commit.specs.Cuts.{serial_said, version_said}
+use Rattle.fkv_commit.specs.Cuts.{serial_said, is_cut_of}
 use Rattle.fkv_plane.specs.declared.asks.Ask.{Ask}
 use Rattle.fkv_plane.specs.declared.asks.Ask.TheVariants.{Done}
 use Rattle.fkv_plane.specs.Passing.{is_done}
@@ -283,9 +283,9 @@ unfolding seeking_next
 seeking_fits s (seek.Ended its) reply at now = seek_there s (seek.Ended its) at tt
 seeking_fits s (seek.LoadsOwing session) reply at now = either_seek (reply == 0) _ _ (owing_fits s (session + 1)) tt
 seeking_fits s seek.SeeksSlot reply at now = seek_slot (record s { defer = defer_next s.defer reply }) (defer_ask (defer_next s.defer reply)) at (defer_next_fits s.defer reply)
-seeking_fits s seek.LoadsCut reply at now = either_seek (version_said reply == s.number.0) (point_taken s (serial_said reply)) (record s { step = seek.LoadsOther reply }) (point_fits s (serial_said reply) now) now
+seeking_fits s seek.LoadsCut reply at now = either_seek (is_cut_of s.number.0 reply) (point_taken s (serial_said reply)) (record s { step = seek.LoadsOther reply }) (point_fits s (serial_said reply) now) now
 seeking_fits s (seek.LoadsOther first) reply at now =
-    either_seek (nat_le (version_said reply) s.number.0) (point_taken s (max (serial_said first) (serial_said reply))) (record s { step = seek.LoadsAgain }) (point_fits s (max (serial_said first) (serial_said reply)) now) now
+    either_seek (not (is_cut_of (s.number.0 + 1) reply)) (point_taken s (max (serial_said first) (serial_said reply))) (record s { step = seek.LoadsAgain }) (point_fits s (max (serial_said first) (serial_said reply)) now) now
 seeking_fits s seek.LoadsAgain reply at now = point_fits s (serial_said reply) now
 seeking_fits s seek.StoresWaitFlush reply at now = now
 seeking_fits s seek.LoadsTail reply at now = now
