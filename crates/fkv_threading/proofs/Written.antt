@@ -59,25 +59,25 @@ passed_on Says r (Ok x) same says = subst (λ q. IfOk q Says) same says
 passed_on Says r (Err e) same says = tt
 
 -- a report or a refusal is written, with its status
-pub run_written : (Says : List Line → Sizes → Report → Type 0) (lines lines' : List Line) (opening : Option Opening) (sizes : Sizes) (Wrote : List ℕ → Type 0) (status : ℕ) (reported : Result Report Fault)
-    → opening ≡ Some (openings.Shape sizes) → lines' ≡ lines → IfOk reported (Says lines' sizes) → Wrote (reported_text reported) → status ≡ reported_status reported → IsRunOnThreads (Says lines) opening Wrote status
-run_written Says lines lines' opening sizes Wrote status reported is same says wrote answers =
-    subst (λ (o : Option Opening). IsRunOnThreads (Says lines) o Wrote status) (sym is)
-    (reported, subst (λ (ls : List Line). IfOk reported (Says ls sizes)) same says, wrote, answers)
+pub run_written : (Ends : List Line → Sizes → Result Report Fault → Type 0) (lines lines' : List Line) (opening : Option Opening) (sizes : Sizes) (Wrote : List ℕ → Type 0) (status : ℕ) (reported : Result Report Fault)
+    → opening ≡ Some (openings.Shape sizes) → lines' ≡ lines → Ends lines' sizes reported → Wrote (reported_text reported) → status ≡ reported_status reported → IsRunOnThreads (Ends lines) opening Wrote status
+run_written Ends lines lines' opening sizes Wrote status reported is same ends wrote answers =
+    subst (λ (o : Option Opening). IsRunOnThreads (Ends lines) o Wrote status) (sym is)
+    (reported, subst (λ (ls : List Line). Ends ls sizes reported) same ends, wrote, answers)
 
 -- so it is of a result
-pub result_written : {F : Type 0} (Says : List Line → Sizes → Report → Type 0) (lines lines' : List Line) (opening : Option Opening) (sizes : Sizes) (before behind : Option (List ℕ)) (r : Result ℕ F) (reported : Result Report Fault)
-    → opening ≡ Some (openings.Shape sizes) → lines' ≡ lines → IfOk reported (Says lines' sizes) → OnOk r (Appends before behind (reported_text reported)) → IfOk r (λ status. status ≡ reported_status reported) → IfOk r (IsRunOnThreads (Says lines) opening (Appends before behind))
-result_written Says lines lines' opening sizes before behind (Ok status) reported is same says wrote answers = run_written Says lines lines' opening sizes (Appends before behind) status reported is same says wrote answers
-result_written Says lines lines' opening sizes before behind (Err e) reported is same says wrote answers = tt
+pub result_written : {F : Type 0} (Ends : List Line → Sizes → Result Report Fault → Type 0) (lines lines' : List Line) (opening : Option Opening) (sizes : Sizes) (before behind : Option (List ℕ)) (r : Result ℕ F) (reported : Result Report Fault)
+    → opening ≡ Some (openings.Shape sizes) → lines' ≡ lines → Ends lines' sizes reported → OnOk r (Appends before behind (reported_text reported)) → IfOk r (λ status. status ≡ reported_status reported) → IfOk r (IsRunOnThreads (Ends lines) opening (Appends before behind))
+result_written Ends lines lines' opening sizes before behind (Ok status) reported is same ends wrote answers = run_written Ends lines lines' opening sizes (Appends before behind) status reported is same ends wrote answers
+result_written Ends lines lines' opening sizes before behind (Err e) reported is same ends wrote answers = tt
 
 -- where the writer fails, a beginning of that is written
-pub run_breaks : (Says : List Line → Sizes → Report → Type 0) (lines lines' : List Line) (opening : Option Opening) (sizes : Sizes) (before behind : Option (List ℕ)) (reported : Result Report Fault)
-    → opening ≡ Some (openings.Shape sizes) → lines' ≡ lines → IfOk reported (Says lines' sizes) → BreaksOff (λ its. its ≡ reported_text reported) before behind → BreaksOff (WithSomeStatus (IsTextOnThreads (Says lines) opening)) before behind
-run_breaks Says lines lines' opening sizes before behind reported is same says =
+pub run_breaks : (Ends : List Line → Sizes → Result Report Fault → Type 0) (lines lines' : List Line) (opening : Option Opening) (sizes : Sizes) (before behind : Option (List ℕ)) (reported : Result Report Fault)
+    → opening ≡ Some (openings.Shape sizes) → lines' ≡ lines → Ends lines' sizes reported → BreaksOff (λ its. its ≡ reported_text reported) before behind → BreaksOff (WithSomeStatus (IsTextOnThreads (Ends lines) opening)) before behind
+run_breaks Ends lines lines' opening sizes before behind reported is same ends =
     let text : List ℕ = reported_text reported in
-    text_breaks (WithSomeStatus (IsTextOnThreads (Says lines) opening)) text before behind
-    (reported_status reported, run_written Says lines lines' opening sizes (λ its. its ≡ text) (reported_status reported) reported is same says refl refl)
+    text_breaks (WithSomeStatus (IsTextOnThreads (Ends lines) opening)) text before behind
+    (reported_status reported, run_written Ends lines lines' opening sizes (λ its. its ≡ text) (reported_status reported) reported is same ends refl refl)
 
 -- what holds anyway holds behind an error
 pub when_err : {T E X : Type 0} (r : Result T E) → X → OnErr r X

@@ -1,5 +1,5 @@
 -- What a script on threads writes, and its status.
-use Rattle.std.specs.Prelude.{◌≡◌, ◌↔◌, ℕ, List, [], true, if◌then◌else◌, Option, Some, None, Result, Ok, Err, IfOk}
+use Rattle.std.specs.Prelude.{◌≡◌, ◌↔◌, ℕ, List, [], true, if◌then◌else◌, Option, Some, None, Result, Ok, Err}
 use Rattle.fkv_base.specs.declared.faults.Fault.{Fault}
 use Rattle.fkv_base.specs.declared.faults.Fault.TheVariants.{BadShape}
 use Rattle.fkv_base.specs.declared.numbers.Key.{Key}
@@ -91,8 +91,8 @@ abbrev pub reported_status : Result Report Fault → ℕ
 reported_status (Ok report) = if agrees report then 0 else 1
 reported_status (Err fault) = refused_status fault
 
--- A script without a line that makes a store writes nothing. Else a report is written, of which this is so by the line's sizes, or a refusal, with its status.
-abbrev pub IsRunOnThreads : (Sizes → Report → Type 0) → Option Opening → (List ℕ → Type 0) → ℕ → Type 0
-IsRunOnThreads Says (Some (opening.Shape sizes)) Wrote status = (reported : Result Report Fault) × IfOk reported (Says sizes) × Wrote (reported_text reported) × (status ≡ reported_status reported)
-IsRunOnThreads Says (Some opening.Open) Wrote status = Wrote [] × (status ≡ 0)
-IsRunOnThreads Says None Wrote status = Wrote [] × (status ≡ 0)
+-- A script without a line that makes a store writes nothing. Else a report is written, or a refusal, of which this is so by the line's sizes, with its status.
+abbrev pub IsRunOnThreads : (Sizes → Result Report Fault → Type 0) → Option Opening → (List ℕ → Type 0) → ℕ → Type 0
+IsRunOnThreads Ends (Some (opening.Shape sizes)) Wrote status = (reported : Result Report Fault) × Ends sizes reported × Wrote (reported_text reported) × (status ≡ reported_status reported)
+IsRunOnThreads Ends (Some opening.Open) Wrote status = Wrote [] × (status ≡ 0)
+IsRunOnThreads Ends None Wrote status = Wrote [] × (status ≡ 0)

@@ -1,5 +1,5 @@
 //! A script on threads, from the line that makes its store to its report.
-ghost use Rattle.std.specs.Prelude.{◌≡◌, ⊤, if◌then◌else◌};
+ghost use Rattle.std.specs.Prelude.{◌≡◌, ◌⊎◌, ⊤, ⊥, Some, None, true, if◌then◌else◌};
 ghost use Rattle.fkv_threading.specs.Said as said;
 
 use crate::gates::Gate;
@@ -33,11 +33,11 @@ pub fn run_threads<G: Gate + Sync, W: Write, R: Threads + Wait + Sync>(
     output: &mut W,
     gate: &G,
 ) -> io::Result<u8>
-    ensures whole { said.IfOk result (said.IsRunOnThreads (said.IsReportOfRun ⟦<Fuse<MemDisk> as Device>⟧ ⟦<MemDisk as Device>⟧
+    ensures whole { said.IfOk result (said.IsRunOnThreads (said.IsEndOfRun ⟦<Fuse<MemDisk> as Device>⟧ ⟦<MemDisk as Device>⟧
         (said.HoldsLeft ⟦<Fuse<MemDisk> as Device>⟧ ⟦<MemDisk as Device>⟧) script.now.lines.items) script.now.opening
         (said.Appends (W.contents output.old) (W.contents output.new))) }
     ensures part { said.OnErr result (said.BreaksOff (said.WithSomeStatus (said.IsTextOnThreads
-        (said.IsReportOfRun ⟦<Fuse<MemDisk> as Device>⟧ ⟦<MemDisk as Device>⟧ (said.HoldsLeft ⟦<Fuse<MemDisk> as Device>⟧ ⟦<MemDisk as Device>⟧)
+        (said.IsEndOfRun ⟦<Fuse<MemDisk> as Device>⟧ ⟦<MemDisk as Device>⟧ (said.HoldsLeft ⟦<Fuse<MemDisk> as Device>⟧ ⟦<MemDisk as Device>⟧)
         script.now.lines.items) script.now.opening)) (W.contents output.old) (W.contents output.new)) }
 {
     let sizes = match script.opening {
@@ -62,11 +62,11 @@ pub fn run_threads_in_file<G: Gate + Sync, W: Write, R: Threads + Wait + Sync, H
 ) -> io::Result<(u8, Option<Trouble>)>
 where
     H::File: Lockable + Send,
-    ensures whole { said.IfOk result (λ end. said.IsRunOnThreads (said.IsReportOfRun ⟦<Mirror<FileDisk<H::File>> as Device>⟧
+    ensures whole { said.IfOk result (λ end. said.IsRunOnThreads (said.IsEndOfRun ⟦<Mirror<FileDisk<H::File>> as Device>⟧
         ⟦<ReadAhead<FileDisk<H::File>> as Device>⟧ (λ _ _. ⊤) script.now.lines.items) script.now.opening
         (said.Appends (W.contents output.old) (W.contents output.new)) end.0) }
     ensures part { said.OnErr result (said.BreaksOff (said.WithSomeStatus (said.IsTextOnThreads
-        (said.IsReportOfRun ⟦<Mirror<FileDisk<H::File>> as Device>⟧ ⟦<ReadAhead<FileDisk<H::File>> as Device>⟧ (λ _ _. ⊤) script.now.lines.items)
+        (said.IsEndOfRun ⟦<Mirror<FileDisk<H::File>> as Device>⟧ ⟦<ReadAhead<FileDisk<H::File>> as Device>⟧ (λ _ _. ⊤) script.now.lines.items)
         script.now.opening)) (W.contents output.old) (W.contents output.new)) }
 {
     let sizes = match script.opening {
@@ -79,14 +79,27 @@ where
     Ok((status, trouble))
 }
 
-/// What is written of a run, and what is wrong with the file where that is why there is no report.
-fn told_apart(reported: Result<Report, Trouble>) -> (Result<Report, Fault>, Option<Trouble>)
-    ensures { said.IfOk result.0 (λ report. reported ≡ said.Ok report) }
+/// Why there is no report of a run over a file.
+#[derive(Clone, Copy)]
+pub(crate) enum NoReport {
+    /// The run was refused, or the store that is recovered behind it.
+    Refused(Fault),
+    /// The file was, as it was opened.
+    Closed(Trouble),
+}
+
+/// What is written of a run, and what is wrong with the file where that is why there is no report. As a file is opened, memory may be refused or a call of
+/// the device fail, and no other fault is met.
+fn told_apart(reported: Result<Report, NoReport>) -> (Result<Report, Fault>, Option<Trouble>)
+    ensures ok { said.IfOk result.0 (λ report. reported ≡ said.Ok report) }
+    ensures err { said.IfErr result.0 (λ why. said.IsOfMedium why ⊎ (reported ≡ said.Err (said.Refused why))) }
 {
     match reported {
         Ok(report) => (Ok(report), None),
-        Err(Trouble::Fault(fault)) => (Err(fault), None),
-        Err(trouble) => (Err(Fault::Device), Some(trouble)),
+        Err(NoReport::Refused(fault)) => (Err(fault), None),
+        Err(NoReport::Closed(Trouble::Fault(Fault::Memory))) => (Err(Fault::Memory), None),
+        Err(NoReport::Closed(Trouble::Fault(_))) => (Err(Fault::Device), None),
+        Err(NoReport::Closed(trouble)) => (Err(Fault::Device), Some(trouble)),
     }
 }
 
@@ -142,7 +155,9 @@ fn report_in_memory<G: Gate + Sync, R: Threads + Wait + Sync>(
     lines: &[Line],
     gate: &G,
 ) -> Result<Report, Fault>
-    ensures { said.IfOk result (said.IsReportOfRun ⟦<Fuse<MemDisk> as Device>⟧ ⟦<MemDisk as Device>⟧
+    ensures ok { said.IfOk result (said.IsReportOfRun ⟦<Fuse<MemDisk> as Device>⟧ ⟦<MemDisk as Device>⟧
+        (said.HoldsLeft ⟦<Fuse<MemDisk> as Device>⟧ ⟦<MemDisk as Device>⟧) lines.now sizes) }
+    ensures err { said.IfErr result (said.IsWithoutReport ⟦<Fuse<MemDisk> as Device>⟧ ⟦<MemDisk as Device>⟧
         (said.HoldsLeft ⟦<Fuse<MemDisk> as Device>⟧ ⟦<MemDisk as Device>⟧) lines.now sizes) }
 {
     let shape = shape_of(sizes)?;
@@ -172,31 +187,57 @@ fn report_in_file<G: Gate + Sync, R: Threads + Wait + Sync, H: Files>(
 ) -> Result<Report, Trouble>
 where
     H::File: Lockable + Send,
-    ensures { said.IfOk result (said.IsReportOfRun ⟦<Mirror<FileDisk<H::File>> as Device>⟧ ⟦<ReadAhead<FileDisk<H::File>> as Device>⟧
+    ensures ok { said.IfOk result (said.IsReportOfRun ⟦<Mirror<FileDisk<H::File>> as Device>⟧ ⟦<ReadAhead<FileDisk<H::File>> as Device>⟧
         (λ _ _. ⊤) lines.now sizes) }
+    ensures err { said.IfErr result (said.WhyClosed (said.IsWithoutReport ⟦<Mirror<FileDisk<H::File>> as Device>⟧
+        ⟦<ReadAhead<FileDisk<H::File>> as Device>⟧ (λ _ _. ⊤) lines.now sizes)) }
 {
-    let shape = shape_of(sizes)?;
-    let (file, length) = make_alone(files, path)?;
-    let Some(length) = length else {
-        return Err(Trouble::Irregular);
-    };
-    let device = Mirror::new(alloc, file, length)?;
-    let Played { logs, keeper, .. } = play_new(rt, alloc, device, shape, lines, gate)?;
+    let shape = shape_of(sizes).map_err(NoReport::Refused)?;
+    let device = made(files, alloc, path).map_err(NoReport::Closed)?;
+    let played = play_new(rt, alloc, device, shape, lines, gate).map_err(NoReport::Refused)?;
+    let Played { logs, keeper, .. } = played;
     let KeeperEnd {
         device,
         finished,
         ..
     } = keeper;
     drop(device);
-    let (file, _) = open_alone(files, path)?;
-    let pages = Pages::new(alloc, PageSize::Kib4, PAGES)?;
-    let mut ahead = ReadAhead::new(file, pages);
-    let report = report_on(alloc, lines, &logs, &finished, &mut ahead)?;
-    Ok(report)
+    let mut ahead = opened_again(files, alloc, path).map_err(NoReport::Closed)?;
+    report_on(alloc, lines, &logs, &finished, &mut ahead).map_err(NoReport::Refused)
 }
 
-/// Plays lines over a new store of this shape on a device. A refusal that ended the run is its answer. Where that of no turn has stopped a session, memory
-/// was refused.
+/// The file of this path, which a new store is to lie in.
+fn made<H: Files>(
+    files: &H,
+    alloc: Global,
+    path: &str,
+) -> Result<Mirror<FileDisk<H::File>>, Trouble>
+where
+    H::File: Lockable,
+{
+    let (file, length) = make_alone(files, path)?;
+    let Some(length) = length else {
+        return Err(Trouble::Irregular);
+    };
+    let device = Mirror::new(alloc, file, length)?;
+    Ok(device)
+}
+
+/// The file of this path, which a store lies in.
+fn opened_again<H: Files>(
+    files: &H,
+    alloc: Global,
+    path: &str,
+) -> Result<ReadAhead<FileDisk<H::File>>, Trouble>
+where
+    H::File: Lockable,
+{
+    let (file, _) = open_alone(files, path)?;
+    let pages = Pages::new(alloc, PageSize::Kib4, PAGES)?;
+    Ok(ReadAhead::new(file, pages))
+}
+
+/// Plays lines over a new store of this shape on a device. A refusal that ended the run is its answer.
 fn play_new<D: Device + Drop + Send, G: Gate + Sync, R: Threads + Wait + Sync>(
     rt: &R,
     alloc: Global,
@@ -206,11 +247,21 @@ fn play_new<D: Device + Drop + Send, G: Gate + Sync, R: Threads + Wait + Sync>(
     gate: &G,
 ) -> Result<Played<D>, Fault>
     requires honest { D.honest device }
-    ensures { said.IfOk result (λ its. said.IsPlayedNew D.Device shape lines.now its.logs.items its.keeper.device its.keeper.finished) }
+    ensures ok { said.IfOk result (λ its. said.IsPlayedNew D.Device shape lines.now its.logs.items its.keeper.device its.keeper.finished) }
+    ensures err { said.IfErr result (said.IsUnplayed D.Device shape lines.now) }
 {
     let mut device = device;
     let opened = create_opened(alloc, &mut device, shape)?;
     let played = play(rt, alloc, opened, device, lines, gate)?;
+    whole(played)
+}
+
+/// What was played to its end: no turn was refused but for memory, and no session was stopped. Where the fault of no turn has stopped a session, memory
+/// was refused.
+fn whole<D: Device + Drop>(played: Played<D>) -> Result<Played<D>, Fault>
+    ensures ok { said.IfOk result (λ its. (its ≡ played) × (played.is_whole ≡ true) × (played.keeper.fault ≡ None)) }
+    ensures err { said.IfErr result (λ why. (why ≡ said.Memory) ⊎ (played.keeper.fault ≡ Some why)) }
+{
     match played.keeper.fault {
         Some(fault) => Err(fault),
         None if played.is_whole => Ok(played),
@@ -226,16 +277,18 @@ fn report_on<D: Device>(
     finished: &Option<Finished>,
     device: &mut D,
 ) -> Result<Report, Fault>
-    ensures { said.IfOk result (said.IsReportOn D.Device lines.now logs.now finished.now device.old) }
+    ensures ok { said.IfOk result (said.IsReportOn D.Device lines.now logs.now finished.now device.old) }
+    ensures err { said.IfErr result (said.IsUnreported D.Device device.old) }
 {
     let opened = recover(alloc, device)?;
     let pairs = content(alloc, &opened, device)?;
     report_of(alloc, lines, logs, finished, &opened, &pairs)
 }
 
-/// The shape of these sizes.
+/// The shape of these sizes. `BadShape` where no store has them.
 fn shape_of(sizes: Sizes) -> Result<Shape, Fault>
-    ensures { said.IfOk result (said.HasSizes sizes) }
+    ensures ok { said.IfOk result (said.HasSizes sizes) }
+    ensures err { said.IfErr result (λ why. (why ≡ said.BadShape) × (said.AreSizes sizes → ⊥)) }
 {
     let Sizes {
         class,

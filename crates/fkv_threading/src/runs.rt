@@ -35,13 +35,13 @@ pub fn run<R: Threads + Wait + Sync, H: Files, I: Read + Drop, W: Write, E: Writ
 ) -> io::Result<u8>
 where
     H::File: Lockable + Send,
-    ensures whole { said.IfOk result (λ status. said.Writes (said.IsRunOfInput (said.IsReportIn
-        (said.IsReportOfRun ⟦<Fuse<MemDisk> as Device>⟧ ⟦<MemDisk as Device>⟧ (said.HoldsLeft ⟦<Fuse<MemDisk> as Device>⟧ ⟦<MemDisk as Device>⟧))
-        (said.IsReportOfRun ⟦<Mirror<FileDisk<H::File>> as Device>⟧ ⟦<ReadAhead<FileDisk<H::File>> as Device>⟧ (λ _ _. ⊤)) (said.is_some file.entry))
+    ensures whole { said.IfOk result (λ status. said.Writes (said.IsRunOfInput (said.IsEndIn
+        (said.IsEndOfRun ⟦<Fuse<MemDisk> as Device>⟧ ⟦<MemDisk as Device>⟧ (said.HoldsLeft ⟦<Fuse<MemDisk> as Device>⟧ ⟦<MemDisk as Device>⟧))
+        (said.IsEndOfRun ⟦<Mirror<FileDisk<H::File>> as Device>⟧ ⟦<ReadAhead<FileDisk<H::File>> as Device>⟧ (λ _ _. ⊤)) (said.is_some file.entry))
         (I.remaining input) status) (W.contents output.old) (W.contents output.new)) }
-    ensures part { said.OnErr result (said.BreaksOff (said.WithSomeStatus (said.IsRunOfInput (said.IsReportIn
-        (said.IsReportOfRun ⟦<Fuse<MemDisk> as Device>⟧ ⟦<MemDisk as Device>⟧ (said.HoldsLeft ⟦<Fuse<MemDisk> as Device>⟧ ⟦<MemDisk as Device>⟧))
-        (said.IsReportOfRun ⟦<Mirror<FileDisk<H::File>> as Device>⟧ ⟦<ReadAhead<FileDisk<H::File>> as Device>⟧ (λ _ _. ⊤)) (said.is_some file.entry))
+    ensures part { said.OnErr result (said.BreaksOff (said.WithSomeStatus (said.IsRunOfInput (said.IsEndIn
+        (said.IsEndOfRun ⟦<Fuse<MemDisk> as Device>⟧ ⟦<MemDisk as Device>⟧ (said.HoldsLeft ⟦<Fuse<MemDisk> as Device>⟧ ⟦<MemDisk as Device>⟧))
+        (said.IsEndOfRun ⟦<Mirror<FileDisk<H::File>> as Device>⟧ ⟦<ReadAhead<FileDisk<H::File>> as Device>⟧ (λ _ _. ⊤)) (said.is_some file.entry))
         (I.remaining input))) (W.contents output.old) (W.contents output.new)) }
 {
     match script_bytes(alloc, input) {
@@ -94,13 +94,13 @@ fn run_bytes<R: Threads + Wait + Sync, H: Files, W: Write, E: Write>(
 ) -> io::Result<u8>
 where
     H::File: Lockable + Send,
-    ensures whole { said.IfOk result (λ status. said.Writes (said.IsRunOfBytes (said.IsReportIn
-        (said.IsReportOfRun ⟦<Fuse<MemDisk> as Device>⟧ ⟦<MemDisk as Device>⟧ (said.HoldsLeft ⟦<Fuse<MemDisk> as Device>⟧ ⟦<MemDisk as Device>⟧))
-        (said.IsReportOfRun ⟦<Mirror<FileDisk<H::File>> as Device>⟧ ⟦<ReadAhead<FileDisk<H::File>> as Device>⟧ (λ _ _. ⊤)) (said.is_some file.entry))
+    ensures whole { said.IfOk result (λ status. said.Writes (said.IsRunOfBytes (said.IsEndIn
+        (said.IsEndOfRun ⟦<Fuse<MemDisk> as Device>⟧ ⟦<MemDisk as Device>⟧ (said.HoldsLeft ⟦<Fuse<MemDisk> as Device>⟧ ⟦<MemDisk as Device>⟧))
+        (said.IsEndOfRun ⟦<Mirror<FileDisk<H::File>> as Device>⟧ ⟦<ReadAhead<FileDisk<H::File>> as Device>⟧ (λ _ _. ⊤)) (said.is_some file.entry))
         bytes.now status) (W.contents output.old) (W.contents output.new)) }
-    ensures part { said.OnErr result (said.BreaksOff (said.WithSomeStatus (said.IsRunOfBytes (said.IsReportIn
-        (said.IsReportOfRun ⟦<Fuse<MemDisk> as Device>⟧ ⟦<MemDisk as Device>⟧ (said.HoldsLeft ⟦<Fuse<MemDisk> as Device>⟧ ⟦<MemDisk as Device>⟧))
-        (said.IsReportOfRun ⟦<Mirror<FileDisk<H::File>> as Device>⟧ ⟦<ReadAhead<FileDisk<H::File>> as Device>⟧ (λ _ _. ⊤)) (said.is_some file.entry))
+    ensures part { said.OnErr result (said.BreaksOff (said.WithSomeStatus (said.IsRunOfBytes (said.IsEndIn
+        (said.IsEndOfRun ⟦<Fuse<MemDisk> as Device>⟧ ⟦<MemDisk as Device>⟧ (said.HoldsLeft ⟦<Fuse<MemDisk> as Device>⟧ ⟦<MemDisk as Device>⟧))
+        (said.IsEndOfRun ⟦<Mirror<FileDisk<H::File>> as Device>⟧ ⟦<ReadAhead<FileDisk<H::File>> as Device>⟧ (λ _ _. ⊤)) (said.is_some file.entry))
         bytes.now)) (W.contents output.old) (W.contents output.new)) }
 {
     match threads_script_of(alloc, bytes) {
@@ -120,11 +120,11 @@ fn run_in_memory<R: Threads + Wait + Sync, W: Write, E: Write>(
     output: &mut W,
     complaints: &mut E,
 ) -> io::Result<u8>
-    ensures whole { said.IfOk result (said.IsRunOnThreads (said.IsReportOfRun ⟦<Fuse<MemDisk> as Device>⟧ ⟦<MemDisk as Device>⟧
+    ensures whole { said.IfOk result (said.IsRunOnThreads (said.IsEndOfRun ⟦<Fuse<MemDisk> as Device>⟧ ⟦<MemDisk as Device>⟧
         (said.HoldsLeft ⟦<Fuse<MemDisk> as Device>⟧ ⟦<MemDisk as Device>⟧) script.now.lines.items) script.now.opening
         (said.Appends (W.contents output.old) (W.contents output.new))) }
     ensures part { said.OnErr result (said.BreaksOff (said.WithSomeStatus (said.IsTextOnThreads
-        (said.IsReportOfRun ⟦<Fuse<MemDisk> as Device>⟧ ⟦<MemDisk as Device>⟧ (said.HoldsLeft ⟦<Fuse<MemDisk> as Device>⟧ ⟦<MemDisk as Device>⟧)
+        (said.IsEndOfRun ⟦<Fuse<MemDisk> as Device>⟧ ⟦<MemDisk as Device>⟧ (said.HoldsLeft ⟦<Fuse<MemDisk> as Device>⟧ ⟦<MemDisk as Device>⟧)
         script.now.lines.items) script.now.opening)) (W.contents output.old) (W.contents output.new)) }
 {
     let status = run_threads(rt, alloc, script, output, &Open)?;
@@ -144,11 +144,11 @@ fn run_in_file<R: Threads + Wait + Sync, H: Files, W: Write, E: Write>(
 ) -> io::Result<u8>
 where
     H::File: Lockable + Send,
-    ensures whole { said.IfOk result (said.IsRunOnThreads (said.IsReportOfRun ⟦<Mirror<FileDisk<H::File>> as Device>⟧
+    ensures whole { said.IfOk result (said.IsRunOnThreads (said.IsEndOfRun ⟦<Mirror<FileDisk<H::File>> as Device>⟧
         ⟦<ReadAhead<FileDisk<H::File>> as Device>⟧ (λ _ _. ⊤) script.now.lines.items) script.now.opening
         (said.Appends (W.contents output.old) (W.contents output.new))) }
     ensures part { said.OnErr result (said.BreaksOff (said.WithSomeStatus (said.IsTextOnThreads
-        (said.IsReportOfRun ⟦<Mirror<FileDisk<H::File>> as Device>⟧ ⟦<ReadAhead<FileDisk<H::File>> as Device>⟧ (λ _ _. ⊤) script.now.lines.items)
+        (said.IsEndOfRun ⟦<Mirror<FileDisk<H::File>> as Device>⟧ ⟦<ReadAhead<FileDisk<H::File>> as Device>⟧ (λ _ _. ⊤) script.now.lines.items)
         script.now.opening)) (W.contents output.old) (W.contents output.new)) }
 {
     let (status, trouble) = run_threads_in_file(rt, files, alloc, path, script, output, &Open)?;
