@@ -1,5 +1,5 @@
 -- A run on threads that has no report: its refusal has its cause.
-use Rattle.std.proofs.Common.{◌≡◌, ◌⊎◌, ◌↔◌, inl, inr, ℕ, Bool, true, List, Option, Some, None, Result, Ok, Err, IfErr, IfOk, IsOk, OnErr, subst, sym}
+use Rattle.std.proofs.Common.{◌≡◌, ◌⊎◌, ◌↔◌, inl, inr, ℕ, Bool, true, false, List, Option, Some, None, Result, Ok, Err, IfErr, IfOk, IsOk, OnErr, refl, subst, sym}
 use Rattle.fkv_base.specs.Limits.{IsShape, IsSmall}
 use Rattle.fkv_base.specs.declared.classes.StoreClass.TheVariants.{Specified}
 use Rattle.fkv_base.specs.declared.faults.Fault.{Fault}
@@ -23,8 +23,8 @@ use Rattle.fkv_threading.specs.declared.programs.NoReport.{NoReport}
 use Rattle.fkv_threading.specs.declared.programs.NoReport.TheVariants.{Closed, Refused}
 
 -- an error is told
-is_error : {T : Type 0} (why which : Fault) → Err {T = T} why ≡ Err which → why ≡ which
-is_error why which is = cc
+is_error : {T : Type 0} (r : Result T Fault) (why which : Fault) → r ≡ Err why → r ≡ Err which → why ≡ which
+is_error r why which is its = cc
 
 -- a device that failed, or memory that was refused
 pub of_medium : (before now : ℕ) (why : Fault) → IsHindrance before now why → IsOfMedium why
@@ -57,8 +57,8 @@ module _ {D : Type 0} (device : Ghosts D) (shape : Shape) (lines : List Line) wh
   unmade before now why its = inl (of_medium before now why its)
 
   -- memory was refused as they were played
-  pub unstarted : {T : Type 0} (why : Fault) → Err {T = T} why ≡ Err fault.Memory → IsUnplayed device shape lines why
-  unstarted why is = subst (IsUnplayed device shape lines) (sym (is_error why fault.Memory is)) (inl tt)
+  pub unstarted : {T : Type 0} (r : Result T Fault) (why : Fault) → r ≡ Err why → r ≡ Err fault.Memory → IsUnplayed device shape lines why
+  unstarted r why is its = subst (IsUnplayed device shape lines) (sym (is_error r why fault.Memory is its)) (inl tt)
 
   -- a turn has told the fault, or a session was stopped
   pub unplayed : {X : Type 0} (opened : Opened) (first : D) (whole : Bool) (logs : List Log) (medium : D) (finished : Option Finished) (begun : Option Version) (its : Option Fault) (r : Result X Fault) → IsNewStore shape opened
@@ -113,9 +113,9 @@ module _ {D E : Type 0} (device : Ghosts D) (other : Ghosts E) (LeftBy : D → E
 pub no_specified : (sizes : Sizes) (r : Result Shape Fault) → sizes.class ≡ Specified → IsOk r ↔ (IsShape sizes.bucket_bits sizes.page sizes.frames sizes.mutable sizes.sessions sizes.overflow sizes.disk_pages × IsSmall sizes.bucket_bits sizes.page sizes.frames sizes.overflow sizes.disk_pages)
     → OnErr r (r ≡ Err fault.BadShape) → IfErr r (λ why. (why ≡ fault.BadShape) × (AreSizes sizes → ⊥))
 no_specified sizes (Ok shape) is accepted refused = tt
-no_specified sizes (Err why) is accepted refused = (is_error why fault.BadShape refused, λ its. accepted.1 (its.within, its.small is))
+no_specified sizes (Err why) is accepted refused = (is_error (Err why) why fault.BadShape refl refused, λ its. let wrong : false ≡ true = accepted.1 (its.within, its.small is) in cc)
 
 pub no_living : (sizes : Sizes) (r : Result Shape Fault) → IsOk r ↔ IsShape sizes.bucket_bits sizes.page sizes.frames sizes.mutable sizes.sessions sizes.overflow sizes.disk_pages
     → OnErr r (r ≡ Err fault.BadShape) → IfErr r (λ why. (why ≡ fault.BadShape) × (AreSizes sizes → ⊥))
 no_living sizes (Ok shape) accepted refused = tt
-no_living sizes (Err why) accepted refused = (is_error why fault.BadShape refused, λ its. accepted.1 its.within)
+no_living sizes (Err why) accepted refused = (is_error (Err why) why fault.BadShape refl refused, λ its. let wrong : false ≡ true = accepted.1 its.within in cc)

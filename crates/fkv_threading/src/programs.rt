@@ -1,5 +1,5 @@
 //! A script on threads, from the line that makes its store to its report.
-ghost use Rattle.std.specs.Prelude.{◌≡◌, ◌⊎◌, ⊤, ⊥, Some, None, true, if◌then◌else◌};
+ghost use Rattle.std.specs.Prelude.{◌≡◌, ◌⊎◌, ⊤, Some, None, true, if◌then◌else◌};
 ghost use Rattle.fkv_threading.specs.Said as said;
 
 use crate::gates::Gate;
@@ -184,7 +184,7 @@ fn report_in_file<G: Gate + Sync, R: Threads + Wait + Sync, H: Files>(
     sizes: Sizes,
     lines: &[Line],
     gate: &G,
-) -> Result<Report, Trouble>
+) -> Result<Report, NoReport>
 where
     H::File: Lockable + Send,
     ensures ok { said.IfOk result (said.IsReportOfRun ⟦<Mirror<FileDisk<H::File>> as Device>⟧ ⟦<ReadAhead<FileDisk<H::File>> as Device>⟧
@@ -192,18 +192,32 @@ where
     ensures err { said.IfErr result (said.WhyClosed (said.IsWithoutReport ⟦<Mirror<FileDisk<H::File>> as Device>⟧
         ⟦<ReadAhead<FileDisk<H::File>> as Device>⟧ (λ _ _. ⊤) lines.now sizes)) }
 {
-    let shape = shape_of(sizes).map_err(NoReport::Refused)?;
-    let device = made(files, alloc, path).map_err(NoReport::Closed)?;
-    let played = play_new(rt, alloc, device, shape, lines, gate).map_err(NoReport::Refused)?;
-    let Played { logs, keeper, .. } = played;
+    let shape = match shape_of(sizes) {
+        Ok(shape) => shape,
+        Err(why) => return Err(NoReport::Refused(why)),
+    };
+    let device = match made(files, alloc, path) {
+        Ok(device) => device,
+        Err(trouble) => return Err(NoReport::Closed(trouble)),
+    };
+    let Played { logs, keeper, .. } = match play_new(rt, alloc, device, shape, lines, gate) {
+        Ok(played) => played,
+        Err(why) => return Err(NoReport::Refused(why)),
+    };
     let KeeperEnd {
         device,
         finished,
         ..
     } = keeper;
     drop(device);
-    let mut ahead = opened_again(files, alloc, path).map_err(NoReport::Closed)?;
-    report_on(alloc, lines, &logs, &finished, &mut ahead).map_err(NoReport::Refused)
+    let mut ahead = match opened_again(files, alloc, path) {
+        Ok(ahead) => ahead,
+        Err(trouble) => return Err(NoReport::Closed(trouble)),
+    };
+    match report_on(alloc, lines, &logs, &finished, &mut ahead) {
+        Ok(report) => Ok(report),
+        Err(why) => Err(NoReport::Refused(why)),
+    }
 }
 
 /// The file of this path, which a new store is to lie in.

@@ -1,5 +1,5 @@
 -- A run without a fault of the keeper, in which no session was stopped; or why it wasn't played to its end.
-use Rattle.std.proofs.Common.{rules}
+use Rattle.std.proofs.Common.{refl, rules}
 use Rattle.fkv_threading.proofs.Refused.{unmade, unplayed, unstarted, whole_played}
 use Rattle.fkv_threading.proofs.programs.play_new.Goals as goal
 
@@ -10,7 +10,7 @@ returns-in_err-opened-clause-err g c =
 
 pub returns-in_err-played-clause-err : goal.returns-in_err-played-clause-err
 returns-in_err-played-clause-err g c =
-    let why = unstarted g.D.Device c.args.shape c.args.lines.now c.in_err-played.field-0.0 c.in_err-played.ensures.err in
+    let why = unstarted g.D.Device c.args.shape c.args.lines.now _ c.in_err-played.field-0.0 refl c.in_err-played.ensures.err in
     search (rules, why)
 
 pub returns-clause-ok : goal.returns-clause-ok

@@ -1,5 +1,6 @@
 -- What is recovered is the store that an honest device holds. If it is refused, its image has the fault.
 use Rattle.std.proofs.Common.{◌≡◌, List, subst, IfOk, rules}
+use Rattle.std.proofs.lemmas.Result.{err_from_is_err_and}
 use Rattle.fkv_base.specs.declared.numbers.Key.{Key}
 use Rattle.fkv_base.specs.declared.numbers.Value.{Value}
 use Rattle.fkv_thread_scripts.specs.Keys.{IsKeysLine, map_of, told_map}
@@ -17,8 +18,8 @@ returns-clause-ok g c =
 
 pub returns-in_err-opened-clause-err : goal.returns-in_err-opened-clause-err
 returns-in_err-opened-clause-err g c =
-    let why = unrecovered g.D.Device c.args.device.now _ _ c.in_err-opened.field-0.0 c.in_err-opened.ensures.err in
-    search (rules, why)
+    let p = err_from_is_err_and c.from_residual.result c.from_residual.ensures.1 in
+    rw (p.1, p.2) (unrecovered g.D.Device c.args.device.now _ _ c.in_err-opened.field-0.0 c.in_err-opened.ensures.err)
 
 pub returns-in_err-pairs-clause-err : goal.returns-in_err-pairs-clause-err
 returns-in_err-pairs-clause-err g c =
