@@ -8,7 +8,7 @@ pub use Rattle.fkv_runs.specs.Below.fkv_playing.InTurn.{Writes}
 pub use Rattle.fkv_thread_scripts.specs.Reports.{agrees, ended, threads_report_text}
 pub use Rattle.fkv_threading.specs.Program.{IsReportIn, IsRunOfBytes, IsRunOfInput, IsTextOnThreads, TellsLine, WithSomeStatus, line_fault_text, script_limit}
 pub use Rattle.fkv_threading.specs.Told.{AreLogs, AreSeated, HasMade, IsKept, IsPlayed, IsTold, Part, WasKept, WasTold, WerePlayed, begun_by, fault_by, finish_by, is_full, is_own, part_at, part_of, point_at}
-pub use Rattle.fkv_threading.specs.Written.{HasSizes, HoldsLeft, IsPlayedNew, IsReportOfRun, IsReportOn, IsRunOnThreads, refused_status, reported_status, reported_text}
+pub use Rattle.fkv_threading.specs.Written.{HasSizes, HoldsLeft, IsOpenedAgain, IsPlayedNew, IsReportOfRun, IsReportOn, IsRunOnThreads, refused_status, reported_status, reported_text}
 pub use Rattle.fkv_threads.specs.Begun.{AreFirst}
 pub use Rattle.fkv_threads.specs.Models.{Opening, opening}
 pub use Rattle.std.specs.Io.KnownBytes.{Appends, Keeps}
