@@ -1,5 +1,5 @@
 -- What the program writes comes of its input.
-use Rattle.std.proofs.Common.{◌≡◌, ◌∙◌, inl, inr, ℕ, List, [], ◌∷◌, ◌++◌, Option, Some, None, Result, Ok, Err, IfOk, IfSome, OnErr, refl, sym, ap, subst, take, append-nil, append_assoc, option_map, codes, is_some}
+use Rattle.std.proofs.Common.{◌≡◌, ◌∙◌, inl, inr, ℕ, List, [], ◌∷◌, ◌++◌, Option, Some, None, Result, Ok, Err, IfOk, IfSome, OnErr, refl, sym, ap, subst, take, append-nil, append_assoc, option_map, codes}
 use Rattle.std.specs.Io.KnownBytes.{Appends, Keeps}
 use Rattle.fkv_base.specs.declared.faults.Fault.{Fault}
 use Rattle.fkv_lines.specs.Script.{ScriptText}
@@ -91,18 +91,22 @@ module _ (Ends : List Line → Sizes → Result Report Fault → Type 0) where
       breaks_weaker (WithSomeStatus (IsTextOnThreads (Ends script.lines) script.opening)) (WithSomeStatus (IsRunOfBytes Ends bytes)) a b (λ text its. (its.0, inl (script, served, its.1))) h
 
 -- ---- over a store in memory, or in a file
-module _ {X E : Type 0} (OfMemory OfFile : List Line → Sizes → Result Report Fault → Type 0) (file : Option X) (bytes : List ℕ) (script : ScriptText) (a b : Option (List ℕ)) (r : Result ℕ E) (served : IsServedScript bytes script) where
-  pub runs_in_memory : file ≡ None → IfOk r (IsRunOnThreads (OfMemory script.lines) script.opening (Appends a b)) → IfOk r (λ status. Writes (IsRunOfBytes (IsEndIn OfMemory OfFile (is_some file)) bytes status) a b)
-  runs_in_memory is h = subst (λ (f : Option X). IfOk r (λ status. Writes (IsRunOfBytes (IsEndIn OfMemory OfFile (is_some f)) bytes status) a b)) (sym is) (result_runs OfMemory bytes script a b r served h)
+module _ {X E : Type 0} (OfMemory : List Line → Sizes → Result Report Fault → Type 0) (OfFile : List ℕ → List Line → Sizes → Result Report Fault → Type 0) (file : Option X) (path_of : X → List ℕ)
+    (bytes : List ℕ) (script : ScriptText) (a b : Option (List ℕ)) (r : Result ℕ E) (served : IsServedScript bytes script) where
+  pub runs_in_memory : file ≡ None → IfOk r (IsRunOnThreads (OfMemory script.lines) script.opening (Appends a b)) → IfOk r (λ status. Writes (IsRunOfBytes (IsEndIn OfMemory OfFile (option_map path_of file)) bytes status) a b)
+  runs_in_memory is h = subst (λ (f : Option X). IfOk r (λ status. Writes (IsRunOfBytes (IsEndIn OfMemory OfFile (option_map path_of f)) bytes status) a b)) (sym is) (result_runs OfMemory bytes script a b r served h)
 
-  pub breaks_in_memory : file ≡ None → OnErr r (BreaksOff (WithSomeStatus (IsTextOnThreads (OfMemory script.lines) script.opening)) a b) → OnErr r (BreaksOff (WithSomeStatus (IsRunOfBytes (IsEndIn OfMemory OfFile (is_some file)) bytes)) a b)
-  breaks_in_memory is h = subst (λ (f : Option X). OnErr r (BreaksOff (WithSomeStatus (IsRunOfBytes (IsEndIn OfMemory OfFile (is_some f)) bytes)) a b)) (sym is) (result_breaks OfMemory bytes script a b r served h)
+  pub breaks_in_memory : file ≡ None → OnErr r (BreaksOff (WithSomeStatus (IsTextOnThreads (OfMemory script.lines) script.opening)) a b) → OnErr r (BreaksOff (WithSomeStatus (IsRunOfBytes (IsEndIn OfMemory OfFile (option_map path_of file)) bytes)) a b)
+  breaks_in_memory is h = subst (λ (f : Option X). OnErr r (BreaksOff (WithSomeStatus (IsRunOfBytes (IsEndIn OfMemory OfFile (option_map path_of f)) bytes)) a b)) (sym is) (result_breaks OfMemory bytes script a b r served h)
 
-  pub runs_in_file : (path : X) → file ≡ Some path → IfOk r (IsRunOnThreads (OfFile script.lines) script.opening (Appends a b)) → IfOk r (λ status. Writes (IsRunOfBytes (IsEndIn OfMemory OfFile (is_some file)) bytes status) a b)
-  runs_in_file path is h = subst (λ (f : Option X). IfOk r (λ status. Writes (IsRunOfBytes (IsEndIn OfMemory OfFile (is_some f)) bytes status) a b)) (sym is) (result_runs OfFile bytes script a b r served h)
+  pub runs_in_file : (path : X) → file ≡ Some path → IfOk r (IsRunOnThreads (OfFile (path_of path) script.lines) script.opening (Appends a b)) → IfOk r (λ status. Writes (IsRunOfBytes (IsEndIn OfMemory OfFile (option_map path_of file)) bytes status) a b)
+  runs_in_file path is h =
+      subst (λ (f : Option X). IfOk r (λ status. Writes (IsRunOfBytes (IsEndIn OfMemory OfFile (option_map path_of f)) bytes status) a b)) (sym is) (result_runs (OfFile (path_of path)) bytes script a b r served h)
 
-  pub breaks_in_file : (path : X) → file ≡ Some path → OnErr r (BreaksOff (WithSomeStatus (IsTextOnThreads (OfFile script.lines) script.opening)) a b) → OnErr r (BreaksOff (WithSomeStatus (IsRunOfBytes (IsEndIn OfMemory OfFile (is_some file)) bytes)) a b)
-  breaks_in_file path is h = subst (λ (f : Option X). OnErr r (BreaksOff (WithSomeStatus (IsRunOfBytes (IsEndIn OfMemory OfFile (is_some f)) bytes)) a b)) (sym is) (result_breaks OfFile bytes script a b r served h)
+  pub breaks_in_file : (path : X) → file ≡ Some path → OnErr r (BreaksOff (WithSomeStatus (IsTextOnThreads (OfFile (path_of path) script.lines) script.opening)) a b)
+      → OnErr r (BreaksOff (WithSomeStatus (IsRunOfBytes (IsEndIn OfMemory OfFile (option_map path_of file)) bytes)) a b)
+  breaks_in_file path is h =
+      subst (λ (f : Option X). OnErr r (BreaksOff (WithSomeStatus (IsRunOfBytes (IsEndIn OfMemory OfFile (option_map path_of f)) bytes)) a b)) (sym is) (result_breaks (OfFile (path_of path)) bytes script a b r served h)
 
 -- ---- a line's text
 joined : (number name : List ℕ) → codes "script line " ++ (number ++ (codes " " ++ (name ++ (10 ∷ [])))) ≡ ended (codes "script line " ++ number ++ codes " " ++ name)

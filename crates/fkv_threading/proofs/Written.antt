@@ -1,12 +1,15 @@
 -- What is written is the report of a run, or a refusal.
-use Rattle.std.proofs.Common.{◌≡◌, ◌↔◌, ◌∙◌, inr, ℕ, List, [], true, Option, Some, Result, Ok, Err, IfOk, OnErr, OnOk, subst, sym, refl, append-nil}
+use Rattle.std.proofs.Common.{◌≡◌, ◌↔◌, ◌∙◌, inr, ℕ, List, [], true, false, Option, Some, Result, Ok, Err, IfOk, OnErr, OnOk, subst, sym, refl, append-nil}
 use Rattle.std.specs.Io.KnownBytes.{Appends, Keeps}
 use Rattle.fkv_base.specs.declared.classes.StoreClass.{StoreClass}
 use Rattle.fkv_base.specs.declared.faults.Fault.{Fault}
 use Rattle.fkv_base.specs.declared.numbers.Key.{Key}
 use Rattle.fkv_base.specs.declared.numbers.Value.{Value}
 use Rattle.fkv_base.specs.declared.shapes.Shape.{Shape}
+use Rattle.fkv_disk.specs.Done.{MayLeaveBytes}
 use Rattle.fkv_disk.specs.declared.devices.Device.{Ghosts}
+use Rattle.fkv_files.specs.Mirrors.{is_lost, mirror_after, mirror_calls, mirror_device, mirror_opening}
+use Rattle.fkv_files.specs.declared.mirrors.Mirror.{Mirror}
 use Rattle.fkv_keeper.specs.declared.answers.Finished.{Finished}
 use Rattle.fkv_lines.specs.declared.scripts.Line.{Line}
 use Rattle.fkv_lines.specs.declared.scripts.Opening.{Opening}
@@ -52,6 +55,10 @@ pub report_of_run : {D E F : Type 0} (device : Ghosts D) (other : Ghosts E) (Lef
 report_of_run device other LeftBy lines sizes (Ok report) shape logs logs' medium finished after same sized played left says =
     record { shape = shape; sized = sized; logs = logs; medium = medium; finished = finished; played = played; after = after; left = left; says = subst (λ (ls : List Log). IsReportOn other lines ls finished after report) same says }
 report_of_run device other LeftBy lines sizes (Err e) shape logs logs' medium finished after same sized played left says = tt
+
+-- what the device behind a mirror may leave, the mirror may
+pub opened_again : {D : Type 0} (device : Ghosts D) (closed : Mirror D device) (image : List ℕ) → is_lost closed ≡ false → device.honest (mirror_device closed) → device.may_leave (mirror_device closed) image → MayLeaveBytes (mirror_opening closed) (mirror_calls closed) image
+opened_again device closed image passed claim left = record { allowed = (mirror_after closed passed claim).leaves image left; are_bytes = device.leaves_bytes (mirror_device closed) image claim left }
 
 -- what is said of a report is said of it where it is passed on
 pub passed_on : {X E F : Type 0} (Says : X → Type 0) (r : Result X E) (r' : Result X F) → IfOk r' (λ x. r ≡ Ok x) → IfOk r Says → IfOk r' Says

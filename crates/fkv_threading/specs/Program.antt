@@ -1,5 +1,5 @@
 -- What the program writes that runs a script on threads, and its status, by what its input gives.
-use Rattle.std.specs.Prelude.{◌≡◌, ◌⊎◌, ◌*◌, ◌+◌, ℕ, Bool, true, false, List, [], ◌++◌, codes, decimal, take, Option, Result, IfSome}
+use Rattle.std.specs.Prelude.{◌≡◌, ◌⊎◌, ◌*◌, ◌+◌, ℕ, List, [], ◌++◌, codes, decimal, take, Option, Some, None, Result, IfSome}
 use Rattle.fkv_base.specs.Fault.{script_fault_name}
 use Rattle.fkv_base.specs.declared.faults.Fault.{Fault}
 use Rattle.fkv_base.specs.declared.faults.Fault.TheVariants.{Script}
@@ -29,10 +29,10 @@ TellsLine fault text = (line : ℕ) × (kind : ScriptFault) × (fault ≡ Script
 abbrev pub IsTextOnThreads : (Sizes → Result Report Fault → Type 0) → Option Opening → ℕ → List ℕ → Type 0
 IsTextOnThreads Ends opening status text = IsRunOnThreads Ends opening (λ its. its ≡ text) status
 
--- a run ends in memory, or in a file
-abbrev pub IsEndIn : (List Line → Sizes → Result Report Fault → Type 0) → (List Line → Sizes → Result Report Fault → Type 0) → Bool → List Line → Sizes → Result Report Fault → Type 0
-IsEndIn OfMemory OfFile false = OfMemory
-IsEndIn OfMemory OfFile true = OfFile
+-- a run ends in memory, or in the file of a path
+abbrev pub IsEndIn : (List Line → Sizes → Result Report Fault → Type 0) → (List ℕ → List Line → Sizes → Result Report Fault → Type 0) → Option (List ℕ) → List Line → Sizes → Result Report Fault → Type 0
+IsEndIn OfMemory OfFile None = OfMemory
+IsEndIn OfMemory OfFile (Some path) = OfFile path
 
 -- These bytes are a script that threads serve, and a run of it writes the text. Else the text is a line's fault, and the status 2.
 abbrev pub IsRunOfBytes : (List Line → Sizes → Result Report Fault → Type 0) → List ℕ → ℕ → List ℕ → Type 0

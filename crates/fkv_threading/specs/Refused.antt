@@ -1,5 +1,5 @@
 -- Why a run on threads has no report: a refusal has its cause.
-use Rattle.std.specs.Prelude.{◌≡◌, ◌⊎◌, Bool, List, Option, Some, Result, IfErr, IfOk}
+use Rattle.std.specs.Prelude.{◌≡◌, ◌⊎◌, ℕ, Bool, List, Option, Some, Result, IfErr, IfOk}
 use Rattle.fkv_base.specs.Limits.{IsShape, IsSmall}
 use Rattle.fkv_base.specs.declared.classes.StoreClass.TheVariants.{Specified}
 use Rattle.fkv_base.specs.declared.faults.Fault.{Fault}
@@ -7,7 +7,9 @@ use Rattle.fkv_base.specs.declared.faults.Fault.TheVariants.{BadShape, Device, M
 use Rattle.fkv_base.specs.declared.numbers.Version.{Version}
 use Rattle.fkv_base.specs.declared.shapes.Shape.{Shape}
 use Rattle.fkv_creating.specs.Created.{IsNewStore}
+use Rattle.fkv_disk.specs.declared.ahead.ReadAhead.{ReadAhead}
 use Rattle.fkv_disk.specs.declared.devices.Device.{Ghosts}
+use Rattle.fkv_files.specs.declared.mirrors.Mirror.{Mirror}
 use Rattle.fkv_keeper.specs.declared.answers.Finished.{Finished}
 use Rattle.fkv_lines.specs.declared.scripts.Line.{Line}
 use Rattle.fkv_lines.specs.declared.scripts.Sizes.{Sizes}
@@ -16,7 +18,7 @@ use Rattle.fkv_opening.specs.declared.opened_store.Opened.{Opened}
 use Rattle.fkv_thread_scripts.specs.declared.logs.Log.{Log}
 use Rattle.fkv_thread_scripts.specs.declared.reports.Report.{Report}
 use Rattle.fkv_threading.specs.Told.{IsPlayed}
-use Rattle.fkv_threading.specs.Written.{HasSizes, IsPlayedNew, IsReportOfRun}
+use Rattle.fkv_threading.specs.Written.{HasSizes, HoldsLeft, IsOpenedAgain, IsPlayedNew, IsReportOfRun}
 use Rattle.fkv_threading.specs.declared.programs.NoReport.{NoReport}
 use Rattle.fkv_threading.specs.declared.programs.NoReport.TheVariants.{Closed, Refused}
 
@@ -72,6 +74,14 @@ IsWithoutReport device other LeftBy lines sizes why =
 pub record IsEndOfRun {D E : Type 0} (device : Ghosts D) (other : Ghosts E) (LeftBy : D → E → Type 0) (lines : List Line) (sizes : Sizes) (reported : Result Report Fault) : Type 0 where
   pub report : IfOk reported (IsReportOfRun device other LeftBy lines sizes)
   pub refusal : IfErr reported (IsWithoutReport device other LeftBy lines sizes)
+
+-- so it is over a device in memory, which a crash leaves to the report
+abbrev pub IsEndInMemory : {D E : Type 0} → Ghosts D → Ghosts E → List Line → Sizes → Result Report Fault → Type 0
+IsEndInMemory device other = IsEndOfRun device other (HoldsLeft device other)
+
+-- and over a file behind a mirror, of which the file of a path is opened again for the report
+abbrev pub IsEndInFile : {D : Type 0} (device : Ghosts D) → Ghosts (Mirror D device) → Ghosts (ReadAhead D device) → (List ℕ → D → Type 0) → List ℕ → List Line → Sizes → Result Report Fault → Type 0
+IsEndInFile device mirrored ahead is_opened path = IsEndOfRun mirrored ahead (IsOpenedAgain device mirrored ahead (is_opened path))
 
 -- why there is no report of a run over a file; what is wrong with a file that isn't opened isn't said
 abbrev pub WhyClosed : (Fault → Type 0) → NoReport → Type 0

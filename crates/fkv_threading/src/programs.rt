@@ -1,5 +1,5 @@
 //! A script on threads, from the line that makes its store to its report.
-ghost use Rattle.std.specs.Prelude.{◌≡◌, ◌⊎◌, ⊤, Some, None, true, if◌then◌else◌};
+ghost use Rattle.std.specs.Prelude.{◌≡◌, ◌⊎◌, Some, None, true, if◌then◌else◌};
 ghost use Rattle.fkv_threading.specs.Said as said;
 
 use crate::gates::Gate;
@@ -7,8 +7,8 @@ use crate::keepers::KeeperEnd;
 use crate::playing::{Played, play};
 use fkv_base::{Fault, Shape, StoreClass};
 use fkv_creating::create_opened;
-use fkv_disk::{Device, FileDisk, Fuse, MemDisk, PageSize, Pages, ReadAhead};
-use fkv_files::{Lockable, Mirror, Trouble, make_alone, open_alone};
+use fkv_disk::{Device, Fuse, MemDisk, PageSize, Pages, ReadAhead};
+use fkv_files::{Mirror, StorePlaces, Trouble};
 use fkv_keeper::Finished;
 use fkv_lines::{Line, Opening, Script, Sizes};
 use fkv_opening::recover;
@@ -18,7 +18,6 @@ use fkv_texts::write_refusal;
 use fkv_thread_scripts::{Log, Report, report_of, write_threads_report};
 use std::alloc::Global;
 use std::io::{self, Write};
-use std::rt::Files;
 use std::sync::Wait;
 use std::thread::Threads;
 
@@ -33,12 +32,11 @@ pub fn run_threads<G: Gate + Sync, W: Write, R: Threads + Wait + Sync>(
     output: &mut W,
     gate: &G,
 ) -> io::Result<u8>
-    ensures whole { said.IfOk result (said.IsRunOnThreads (said.IsEndOfRun ⟦<Fuse<MemDisk> as Device>⟧ ⟦<MemDisk as Device>⟧
-        (said.HoldsLeft ⟦<Fuse<MemDisk> as Device>⟧ ⟦<MemDisk as Device>⟧) script.now.lines.items) script.now.opening
-        (said.Appends (W.contents output.old) (W.contents output.new))) }
+    ensures whole { said.IfOk result (said.IsRunOnThreads (said.IsEndInMemory ⟦<Fuse<MemDisk> as Device>⟧ ⟦<MemDisk as Device>⟧
+        script.now.lines.items) script.now.opening (said.Appends (W.contents output.old) (W.contents output.new))) }
     ensures part { said.OnErr result (said.BreaksOff (said.WithSomeStatus (said.IsTextOnThreads
-        (said.IsEndOfRun ⟦<Fuse<MemDisk> as Device>⟧ ⟦<MemDisk as Device>⟧ (said.HoldsLeft ⟦<Fuse<MemDisk> as Device>⟧ ⟦<MemDisk as Device>⟧)
-        script.now.lines.items) script.now.opening)) (W.contents output.old) (W.contents output.new)) }
+        (said.IsEndInMemory ⟦<Fuse<MemDisk> as Device>⟧ ⟦<MemDisk as Device>⟧ script.now.lines.items) script.now.opening))
+        (W.contents output.old) (W.contents output.new)) }
 {
     let sizes = match script.opening {
         Some(Opening::Shape(sizes)) => sizes,
@@ -51,9 +49,9 @@ pub fn run_threads<G: Gate + Sync, W: Write, R: Threads + Wait + Sync>(
 /// The same over a new store in the file of this path, which is opened again for the report. Behind the status stands what is wrong with the
 /// file, if that is why it is 3.
 #[tactic(auto, using(fkv_texts::proofs::Shown::appends_nothing))]
-pub fn run_threads_in_file<G: Gate + Sync, W: Write, R: Threads + Wait + Sync, H: Files>(
+pub fn run_threads_in_file<G: Gate + Sync, W: Write, R: Threads + Wait + Sync, S: StorePlaces>(
     rt: &R,
-    files: &H,
+    places: &S,
     alloc: Global,
     path: &str,
     script: &Script,
@@ -61,19 +59,19 @@ pub fn run_threads_in_file<G: Gate + Sync, W: Write, R: Threads + Wait + Sync, H
     gate: &G,
 ) -> io::Result<(u8, Option<Trouble>)>
 where
-    H::File: Lockable + Send,
-    ensures whole { said.IfOk result (λ end. said.IsRunOnThreads (said.IsEndOfRun ⟦<Mirror<FileDisk<H::File>> as Device>⟧
-        ⟦<ReadAhead<FileDisk<H::File>> as Device>⟧ (λ _ _. ⊤) script.now.lines.items) script.now.opening
+    S::Disk: Send,
+    ensures whole { said.IfOk result (λ end. said.IsRunOnThreads (said.IsEndInFile S.Disk.Device ⟦<Mirror<S::Disk> as Device>⟧
+        ⟦<ReadAhead<S::Disk> as Device>⟧ (S.is_opened places.now) path.now script.now.lines.items) script.now.opening
         (said.Appends (W.contents output.old) (W.contents output.new)) end.0) }
     ensures part { said.OnErr result (said.BreaksOff (said.WithSomeStatus (said.IsTextOnThreads
-        (said.IsEndOfRun ⟦<Mirror<FileDisk<H::File>> as Device>⟧ ⟦<ReadAhead<FileDisk<H::File>> as Device>⟧ (λ _ _. ⊤) script.now.lines.items)
-        script.now.opening)) (W.contents output.old) (W.contents output.new)) }
+        (said.IsEndInFile S.Disk.Device ⟦<Mirror<S::Disk> as Device>⟧ ⟦<ReadAhead<S::Disk> as Device>⟧ (S.is_opened places.now) path.now
+        script.now.lines.items) script.now.opening)) (W.contents output.old) (W.contents output.new)) }
 {
     let sizes = match script.opening {
         Some(Opening::Shape(sizes)) => sizes,
         _ => return Ok((0, None)),
     };
-    let reported = report_in_file(rt, files, alloc, path, sizes, &script.lines, gate);
+    let reported = report_in_file(rt, places, alloc, path, sizes, &script.lines, gate);
     let (reported, trouble) = told_apart(reported);
     let status = write_reported(alloc, output, reported)?;
     Ok((status, trouble))
@@ -176,9 +174,9 @@ fn report_in_memory<G: Gate + Sync, R: Threads + Wait + Sync>(
 const PAGES: usize = 256;
 
 /// The report of these lines over a new store in a file of these sizes. The file is closed as all have ended, and opened again.
-fn report_in_file<G: Gate + Sync, R: Threads + Wait + Sync, H: Files>(
+fn report_in_file<G: Gate + Sync, R: Threads + Wait + Sync, S: StorePlaces>(
     rt: &R,
-    files: &H,
+    places: &S,
     alloc: Global,
     path: &str,
     sizes: Sizes,
@@ -186,17 +184,18 @@ fn report_in_file<G: Gate + Sync, R: Threads + Wait + Sync, H: Files>(
     gate: &G,
 ) -> Result<Report, NoReport>
 where
-    H::File: Lockable + Send,
-    ensures ok { said.IfOk result (said.IsReportOfRun ⟦<Mirror<FileDisk<H::File>> as Device>⟧ ⟦<ReadAhead<FileDisk<H::File>> as Device>⟧
-        (λ _ _. ⊤) lines.now sizes) }
-    ensures err { said.IfErr result (said.WhyClosed (said.IsWithoutReport ⟦<Mirror<FileDisk<H::File>> as Device>⟧
-        ⟦<ReadAhead<FileDisk<H::File>> as Device>⟧ (λ _ _. ⊤) lines.now sizes)) }
+    S::Disk: Send,
+    ensures ok { said.IfOk result (said.IsReportOfRun ⟦<Mirror<S::Disk> as Device>⟧ ⟦<ReadAhead<S::Disk> as Device>⟧ (said.IsOpenedAgain
+        S.Disk.Device ⟦<Mirror<S::Disk> as Device>⟧ ⟦<ReadAhead<S::Disk> as Device>⟧ (S.is_opened places.now path.now)) lines.now sizes) }
+    ensures err { said.IfErr result (said.WhyClosed (said.IsWithoutReport ⟦<Mirror<S::Disk> as Device>⟧ ⟦<ReadAhead<S::Disk> as Device>⟧
+        (said.IsOpenedAgain S.Disk.Device ⟦<Mirror<S::Disk> as Device>⟧ ⟦<ReadAhead<S::Disk> as Device>⟧ (S.is_opened places.now path.now))
+        lines.now sizes)) }
 {
     let shape = match shape_of(sizes) {
         Ok(shape) => shape,
         Err(why) => return Err(NoReport::Refused(why)),
     };
-    let device = match made(files, alloc, path) {
+    let device = match made(places, alloc, path) {
         Ok(device) => device,
         Err(trouble) => return Err(NoReport::Closed(trouble)),
     };
@@ -210,7 +209,7 @@ where
         ..
     } = keeper;
     drop(device);
-    let mut ahead = match opened_again(files, alloc, path) {
+    let mut ahead = match opened_again(places, alloc, path) {
         Ok(ahead) => ahead,
         Err(trouble) => return Err(NoReport::Closed(trouble)),
     };
@@ -221,15 +220,12 @@ where
 }
 
 /// The file of this path, which a new store is to lie in.
-fn made<H: Files>(
-    files: &H,
+fn made<S: StorePlaces>(
+    places: &S,
     alloc: Global,
     path: &str,
-) -> Result<Mirror<FileDisk<H::File>>, Trouble>
-where
-    H::File: Lockable,
-{
-    let (file, length) = make_alone(files, path)?;
+) -> Result<Mirror<S::Disk>, Trouble> {
+    let (file, length) = places.make_alone(path)?;
     let Some(length) = length else {
         return Err(Trouble::Irregular);
     };
@@ -238,15 +234,14 @@ where
 }
 
 /// The file of this path, which a store lies in.
-fn opened_again<H: Files>(
-    files: &H,
+fn opened_again<S: StorePlaces>(
+    places: &S,
     alloc: Global,
     path: &str,
-) -> Result<ReadAhead<FileDisk<H::File>>, Trouble>
-where
-    H::File: Lockable,
+) -> Result<ReadAhead<S::Disk>, Trouble>
+    ensures { said.IfOk result (λ ahead. S.is_opened places.now path.now (said.ahead_device ahead)) }
 {
-    let (file, _) = open_alone(files, path)?;
+    let (file, _) = places.open_alone(path)?;
     let pages = Pages::new(alloc, PageSize::Kib4, PAGES)?;
     Ok(ReadAhead::new(file, pages))
 }
