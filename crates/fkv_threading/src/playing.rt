@@ -32,7 +32,8 @@ pub struct Played<D: Device + Drop> {
 
 /// Plays lines over a store that was opened from this device: each session's on a thread of its own, and the keeper's on the caller's. It returns
 /// when they have all ended. Each log is what its session was told by its calls at the table, which are those of its lines. The keeper's last commit is
-/// the last that a turn told as finished, of all turns, and its fault that for which a turn has ended the run. `Memory` where memory or a thread was refused; then the store is dropped, the device too.
+/// the last that a turn told as finished, of all turns, and its fault that for which a turn has ended the run. `Memory` where memory or a thread was
+/// refused; then the store is dropped, the device too.
 pub fn play<D: Device + Drop + Send, G: Gate + Sync, R: Threads + Wait + Sync>(
     rt: &R,
     alloc: Global,
@@ -44,7 +45,8 @@ pub fn play<D: Device + Drop + Send, G: Gate + Sync, R: Threads + Wait + Sync>(
     requires store { said.IsStoreOf (D.seen device) opened }
     requires honest { D.honest device }
     requires leaves { said.LeavesOnly (D.seen device) (D.may_leave device) }
-    ensures ok { said.IfOk result (λ its. said.IsPlayed D.Device opened lines.now device its.is_whole its.logs.items its.keeper.device its.keeper.finished its.keeper.begun its.keeper.fault) }
+    ensures ok { said.IfOk result (λ its. said.IsPlayed D.Device opened lines.now device its.is_whole its.logs.items its.keeper.device
+        its.keeper.finished its.keeper.begun its.keeper.fault) }
     ensures err { said.OnErr result (result ≡ said.Err said.Memory) }
 {
     let points = copy_of(alloc, &opened.points)?;
@@ -225,7 +227,8 @@ fn spawn_all<'s, 't: 's, E, D: Device + Drop + Send, G: Gate + Sync, R: Threads 
         let spawned = scope.spawn_with(
             promise,
             move || -> Result<SessionEnd, Fault>
-                ensures { said.IfOk result (λ end. said.IsTold (said.opening D.Device) player end.is_whole end.log) × said.OnErr result (result ≡ said.Err said.Memory) }
+                ensures { said.IfOk result (λ end. said.IsTold (said.opening D.Device) player end.is_whole end.log)
+                    × said.OnErr result (result ≡ said.Err said.Memory) }
             { play_session(rt, progress, gate, number, player) },
         );
         let Ok(handle) = spawned else {
