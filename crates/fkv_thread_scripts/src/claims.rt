@@ -1,7 +1,8 @@
 //! Which keys of a script are compared behind its run.
-ghost use Rattle.std.specs.Prelude.{◌≡◌, ◌∷◌, [], ◌||◌, ◌&&◌, nat_lt, Some, IfOk, OnOk};
+ghost use Rattle.std.specs.Prelude.{◌≡◌, ◌∷◌, [], ◌||◌, ◌&&◌, nat_lt, Some, Err, IfOk, OnErr, OnOk};
 ghost use Rattle.std.specs.BTreeMap.{get};
 ghost use Rattle.std.specs.Ordering.{nat_cmp};
+ghost use Rattle.fkv_base.specs.declared.faults.Fault.TheVariants.{Memory};
 ghost use Rattle.fkv_map.specs.Map.{absent_word};
 ghost use Rattle.fkv_thread_scripts.specs.Claims.{AreClaimed, AreClaims, claim_with};
 ghost use Rattle.fkv_thread_scripts.specs.Keys.{update_in_line, updates_of};
@@ -38,7 +39,8 @@ impl Claim {
 
 /// Each key that a line updates, with who updates it.
 pub(crate) fn claims_of(alloc: Global, lines: &[Line]) -> Result<BTreeMap<u64, Claim>, Fault>
-    ensures { IfOk result (λ claims. AreClaims (get nat_cmp claims) (updates_of lines.now)) }
+    ensures ok { IfOk result (λ claims. AreClaims (get nat_cmp claims) (updates_of lines.now)) }
+    ensures err { OnErr result (result ≡ Err Memory) }
 {
     let mut claims = BTreeMap::new(alloc);
     for line in lines {
@@ -48,7 +50,8 @@ pub(crate) fn claims_of(alloc: Global, lines: &[Line]) -> Result<BTreeMap<u64, C
 }
 
 fn claim_line(claims: &mut BTreeMap<u64, Claim>, line: Line) -> Result<(), Fault>
-    ensures { OnOk result (AreClaimed (get nat_cmp claims.old) (get nat_cmp claims.new) (update_in_line line)) }
+    ensures ok { OnOk result (AreClaimed (get nat_cmp claims.old) (get nat_cmp claims.new) (update_in_line line)) }
+    ensures err { OnErr result (result ≡ Err Memory) }
 {
     match line {
         Line::Call(_, Call::Op(Op::Read(_))) => Ok(()),
@@ -58,7 +61,8 @@ fn claim_line(claims: &mut BTreeMap<u64, Claim>, line: Line) -> Result<(), Fault
 }
 
 fn claim_key(claims: &mut BTreeMap<u64, Claim>, session: u64, op: Op) -> Result<(), Fault>
-    ensures { OnOk result (AreClaimed (get nat_cmp claims.old) (get nat_cmp claims.new) (record { session = session; op = op } ∷ [])) }
+    ensures ok { OnOk result (AreClaimed (get nat_cmp claims.old) (get nat_cmp claims.new) (record { session = session; op = op } ∷ [])) }
+    ensures err { OnErr result (result ≡ Err Memory) }
 {
     let key = op.key().0;
     let its = claim_behind(claims.get(&key).copied(), session, op);

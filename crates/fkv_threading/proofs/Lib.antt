@@ -1,3 +1,4 @@
 pub mod Program
+pub mod Refused
 pub mod Told
 pub mod Written

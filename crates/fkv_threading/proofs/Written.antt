@@ -1,12 +1,15 @@
 -- What is written is the report of a run, or a refusal.
-use Rattle.std.proofs.Common.{◌≡◌, ◌↔◌, ◌∙◌, inr, ℕ, List, [], true, Option, Some, Result, Ok, Err, IfOk, OnErr, OnOk, subst, sym, refl, append-nil}
+use Rattle.std.proofs.Common.{◌≡◌, ◌↔◌, ◌∙◌, inr, ℕ, List, [], true, false, Option, Some, Result, Ok, Err, IfOk, OnErr, OnOk, subst, sym, refl, append-nil}
 use Rattle.std.specs.Io.KnownBytes.{Appends, Keeps}
 use Rattle.fkv_base.specs.declared.classes.StoreClass.{StoreClass}
 use Rattle.fkv_base.specs.declared.faults.Fault.{Fault}
 use Rattle.fkv_base.specs.declared.numbers.Key.{Key}
 use Rattle.fkv_base.specs.declared.numbers.Value.{Value}
 use Rattle.fkv_base.specs.declared.shapes.Shape.{Shape}
+use Rattle.fkv_disk.specs.Done.{MayLeaveBytes}
 use Rattle.fkv_disk.specs.declared.devices.Device.{Ghosts}
+use Rattle.fkv_files.specs.Mirrors.{is_lost, mirror_after, mirror_calls, mirror_device, mirror_opening}
+use Rattle.fkv_files.specs.declared.mirrors.Mirror.{Mirror}
 use Rattle.fkv_keeper.specs.declared.answers.Finished.{Finished}
 use Rattle.fkv_lines.specs.declared.scripts.Line.{Line}
 use Rattle.fkv_lines.specs.declared.scripts.Opening.{Opening}
@@ -53,31 +56,35 @@ report_of_run device other LeftBy lines sizes (Ok report) shape logs logs' mediu
     record { shape = shape; sized = sized; logs = logs; medium = medium; finished = finished; played = played; after = after; left = left; says = subst (λ (ls : List Log). IsReportOn other lines ls finished after report) same says }
 report_of_run device other LeftBy lines sizes (Err e) shape logs logs' medium finished after same sized played left says = tt
 
+-- what the device behind a mirror may leave, the mirror may
+pub opened_again : {D : Type 0} (device : Ghosts D) (closed : Mirror D device) (image : List ℕ) → is_lost closed ≡ false → device.honest (mirror_device closed) → device.may_leave (mirror_device closed) image → MayLeaveBytes (mirror_opening closed) (mirror_calls closed) image
+opened_again device closed image passed claim left = record { allowed = (mirror_after closed passed claim).leaves image left; are_bytes = device.leaves_bytes (mirror_device closed) image claim left }
+
 -- what is said of a report is said of it where it is passed on
 pub passed_on : {X E F : Type 0} (Says : X → Type 0) (r : Result X E) (r' : Result X F) → IfOk r' (λ x. r ≡ Ok x) → IfOk r Says → IfOk r' Says
 passed_on Says r (Ok x) same says = subst (λ q. IfOk q Says) same says
 passed_on Says r (Err e) same says = tt
 
 -- a report or a refusal is written, with its status
-pub run_written : (Says : List Line → Sizes → Report → Type 0) (lines lines' : List Line) (opening : Option Opening) (sizes : Sizes) (Wrote : List ℕ → Type 0) (status : ℕ) (reported : Result Report Fault)
-    → opening ≡ Some (openings.Shape sizes) → lines' ≡ lines → IfOk reported (Says lines' sizes) → Wrote (reported_text reported) → status ≡ reported_status reported → IsRunOnThreads (Says lines) opening Wrote status
-run_written Says lines lines' opening sizes Wrote status reported is same says wrote answers =
-    subst (λ (o : Option Opening). IsRunOnThreads (Says lines) o Wrote status) (sym is)
-    (reported, subst (λ (ls : List Line). IfOk reported (Says ls sizes)) same says, wrote, answers)
+pub run_written : (Ends : List Line → Sizes → Result Report Fault → Type 0) (lines lines' : List Line) (opening : Option Opening) (sizes : Sizes) (Wrote : List ℕ → Type 0) (status : ℕ) (reported : Result Report Fault)
+    → opening ≡ Some (openings.Shape sizes) → lines' ≡ lines → Ends lines' sizes reported → Wrote (reported_text reported) → status ≡ reported_status reported → IsRunOnThreads (Ends lines) opening Wrote status
+run_written Ends lines lines' opening sizes Wrote status reported is same ends wrote answers =
+    subst (λ (o : Option Opening). IsRunOnThreads (Ends lines) o Wrote status) (sym is)
+    (reported, subst (λ (ls : List Line). Ends ls sizes reported) same ends, wrote, answers)
 
 -- so it is of a result
-pub result_written : {F : Type 0} (Says : List Line → Sizes → Report → Type 0) (lines lines' : List Line) (opening : Option Opening) (sizes : Sizes) (before behind : Option (List ℕ)) (r : Result ℕ F) (reported : Result Report Fault)
-    → opening ≡ Some (openings.Shape sizes) → lines' ≡ lines → IfOk reported (Says lines' sizes) → OnOk r (Appends before behind (reported_text reported)) → IfOk r (λ status. status ≡ reported_status reported) → IfOk r (IsRunOnThreads (Says lines) opening (Appends before behind))
-result_written Says lines lines' opening sizes before behind (Ok status) reported is same says wrote answers = run_written Says lines lines' opening sizes (Appends before behind) status reported is same says wrote answers
-result_written Says lines lines' opening sizes before behind (Err e) reported is same says wrote answers = tt
+pub result_written : {F : Type 0} (Ends : List Line → Sizes → Result Report Fault → Type 0) (lines lines' : List Line) (opening : Option Opening) (sizes : Sizes) (before behind : Option (List ℕ)) (r : Result ℕ F) (reported : Result Report Fault)
+    → opening ≡ Some (openings.Shape sizes) → lines' ≡ lines → Ends lines' sizes reported → OnOk r (Appends before behind (reported_text reported)) → IfOk r (λ status. status ≡ reported_status reported) → IfOk r (IsRunOnThreads (Ends lines) opening (Appends before behind))
+result_written Ends lines lines' opening sizes before behind (Ok status) reported is same ends wrote answers = run_written Ends lines lines' opening sizes (Appends before behind) status reported is same ends wrote answers
+result_written Ends lines lines' opening sizes before behind (Err e) reported is same ends wrote answers = tt
 
 -- where the writer fails, a beginning of that is written
-pub run_breaks : (Says : List Line → Sizes → Report → Type 0) (lines lines' : List Line) (opening : Option Opening) (sizes : Sizes) (before behind : Option (List ℕ)) (reported : Result Report Fault)
-    → opening ≡ Some (openings.Shape sizes) → lines' ≡ lines → IfOk reported (Says lines' sizes) → BreaksOff (λ its. its ≡ reported_text reported) before behind → BreaksOff (WithSomeStatus (IsTextOnThreads (Says lines) opening)) before behind
-run_breaks Says lines lines' opening sizes before behind reported is same says =
+pub run_breaks : (Ends : List Line → Sizes → Result Report Fault → Type 0) (lines lines' : List Line) (opening : Option Opening) (sizes : Sizes) (before behind : Option (List ℕ)) (reported : Result Report Fault)
+    → opening ≡ Some (openings.Shape sizes) → lines' ≡ lines → Ends lines' sizes reported → BreaksOff (λ its. its ≡ reported_text reported) before behind → BreaksOff (WithSomeStatus (IsTextOnThreads (Ends lines) opening)) before behind
+run_breaks Ends lines lines' opening sizes before behind reported is same ends =
     let text : List ℕ = reported_text reported in
-    text_breaks (WithSomeStatus (IsTextOnThreads (Says lines) opening)) text before behind
-    (reported_status reported, run_written Says lines lines' opening sizes (λ its. its ≡ text) (reported_status reported) reported is same says refl refl)
+    text_breaks (WithSomeStatus (IsTextOnThreads (Ends lines) opening)) text before behind
+    (reported_status reported, run_written Ends lines lines' opening sizes (λ its. its ≡ text) (reported_status reported) reported is same ends refl refl)
 
 -- what holds anyway holds behind an error
 pub when_err : {T E X : Type 0} (r : Result T E) → X → OnErr r X

@@ -1,5 +1,5 @@
 -- What a script on threads writes, and its status.
-use Rattle.std.specs.Prelude.{◌≡◌, ◌↔◌, ℕ, List, [], true, if◌then◌else◌, Option, Some, None, Result, Ok, Err, IfOk}
+use Rattle.std.specs.Prelude.{◌≡◌, ◌↔◌, ℕ, List, [], true, false, if◌then◌else◌, Option, Some, None, Result, Ok, Err}
 use Rattle.fkv_base.specs.declared.faults.Fault.{Fault}
 use Rattle.fkv_base.specs.declared.faults.Fault.TheVariants.{BadShape}
 use Rattle.fkv_base.specs.declared.numbers.Key.{Key}
@@ -7,7 +7,11 @@ use Rattle.fkv_base.specs.declared.numbers.Value.{Value}
 use Rattle.fkv_base.specs.declared.numbers.Version.{Version}
 use Rattle.fkv_base.specs.declared.shapes.Shape.{Shape}
 use Rattle.fkv_creating.specs.Created.{IsNewStore}
+use Rattle.fkv_disk.specs.Ahead.{ahead_device}
+use Rattle.fkv_disk.specs.declared.ahead.ReadAhead.{ReadAhead}
 use Rattle.fkv_disk.specs.declared.devices.Device.{Ghosts}
+use Rattle.fkv_files.specs.Mirrors.{is_lost, mirror_device}
+use Rattle.fkv_files.specs.declared.mirrors.Mirror.{Mirror}
 use Rattle.fkv_keeper.specs.declared.answers.Finished.{Finished}
 use Rattle.fkv_lines.specs.declared.scripts.Line.{Line}
 use Rattle.fkv_lines.specs.declared.scripts.Opening.{Opening}
@@ -76,6 +80,12 @@ pub record IsReportOfRun {D E : Type 0} (device : Ghosts D) (other : Ghosts E) (
 abbrev pub HoldsLeft : {D E : Type 0} → Ghosts D → Ghosts E → D → E → Type 0
 HoldsLeft device other medium after = device.may_leave medium (other.seen after)
 
+-- The file behind a mirror is closed, and a file is opened again. Say that the closed device is honest and has refused no call, and that the other one reads as a crash may leave it.
+-- Then that one reads as a crash may leave the mirror.
+pub record IsOpenedAgain {D : Type 0} (device : Ghosts D) (mirrored : Ghosts (Mirror D device)) (ahead : Ghosts (ReadAhead D device)) (is_opened : D → Type 0) (closed : Mirror D device) (again : ReadAhead D device) : Type 0 where
+  pub opened : is_opened (ahead_device again)
+  pub left : is_lost closed ≡ false → device.honest (mirror_device closed) → device.may_leave (mirror_device closed) (device.seen (ahead_device again)) → HoldsLeft mirrored ahead closed again
+
 -- ---- what is written
 -- a report's lines, or the refusal that stands in their place
 abbrev pub reported_text : Result Report Fault → List ℕ
@@ -91,8 +101,8 @@ abbrev pub reported_status : Result Report Fault → ℕ
 reported_status (Ok report) = if agrees report then 0 else 1
 reported_status (Err fault) = refused_status fault
 
--- A script without a line that makes a store writes nothing. Else a report is written, of which this is so by the line's sizes, or a refusal, with its status.
-abbrev pub IsRunOnThreads : (Sizes → Report → Type 0) → Option Opening → (List ℕ → Type 0) → ℕ → Type 0
-IsRunOnThreads Says (Some (opening.Shape sizes)) Wrote status = (reported : Result Report Fault) × IfOk reported (Says sizes) × Wrote (reported_text reported) × (status ≡ reported_status reported)
-IsRunOnThreads Says (Some opening.Open) Wrote status = Wrote [] × (status ≡ 0)
-IsRunOnThreads Says None Wrote status = Wrote [] × (status ≡ 0)
+-- A script without a line that makes a store writes nothing. Else a report is written, or a refusal, of which this is so by the line's sizes, with its status.
+abbrev pub IsRunOnThreads : (Sizes → Result Report Fault → Type 0) → Option Opening → (List ℕ → Type 0) → ℕ → Type 0
+IsRunOnThreads Ends (Some (opening.Shape sizes)) Wrote status = (reported : Result Report Fault) × Ends sizes reported × Wrote (reported_text reported) × (status ≡ reported_status reported)
+IsRunOnThreads Ends (Some opening.Open) Wrote status = Wrote [] × (status ≡ 0)
+IsRunOnThreads Ends None Wrote status = Wrote [] × (status ≡ 0)

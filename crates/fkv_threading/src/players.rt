@@ -54,7 +54,8 @@ impl<D: Device> Player<D> {
     /// Makes the next call of its lines, and notes its answer. Whether it is answered, or none is left: else too many requests are pending, and it is to
     /// be made again. `Memory` where memory was refused.
     pub(crate) fn call_next(self) -> Result<(Player<D>, bool), Fault>
-        ensures { said.IfOk result (λ its. its.0 ≡ self) }
+        ensures ok { said.IfOk result (λ its. its.0 ≡ self) }
+        ensures err { said.OnErr result (result ≡ said.Err said.Memory) }
     {
         let Player {
             mut seat,
@@ -89,7 +90,8 @@ impl<D: Device> Player<D> {
     /// Makes a call that is none of its lines, and notes its answer: a refresh, a poll, or that it sleeps. `Memory` where memory was refused.
     pub(crate) fn call_own(self, call: Call) -> Result<(Player<D>, Answer), Fault>
         requires { said.is_own call ≡ true }
-        ensures { said.IfOk result (λ its. its.0 ≡ self) }
+        ensures ok { said.IfOk result (λ its. its.0 ≡ self) }
+        ensures err { said.OnErr result (result ≡ said.Err said.Memory) }
     {
         let Player {
             mut seat,
@@ -148,7 +150,8 @@ fn are_all(calls: &[Call], answered: usize) -> bool
 
 /// Makes a call, and notes its answer.
 fn make<D: Device>(seat: &mut Seated<D>, log: &mut Log, call: Call) -> Result<Answer, Fault>
-    ensures { said.IfOk result (λ answer. said.HasMade (said.opening D.Device) seat.old seat.new call answer log.old log.new) }
+    ensures ok { said.IfOk result (λ answer. said.HasMade (said.opening D.Device) seat.old seat.new call answer log.old log.new) }
+    ensures err { said.OnErr result (result ≡ said.Err said.Memory) }
 {
     let told = seat.call(call);
     let answer = answer_of(told, seat.finished());

@@ -32,7 +32,8 @@ pub struct Played<D: Device + Drop> {
 
 /// Plays lines over a store that was opened from this device: each session's on a thread of its own, and the keeper's on the caller's. It returns
 /// when they have all ended. Each log is what its session was told by its calls at the table, which are those of its lines. The keeper's last commit is
-/// the last that a turn told as finished, of all turns, and its fault that for which a turn has ended the run. `Memory` where memory or a thread was refused; then the store is dropped, the device too.
+/// the last that a turn told as finished, of all turns, and its fault that for which a turn has ended the run. `Memory` where memory or a thread was
+/// refused; then the store is dropped, the device too.
 pub fn play<D: Device + Drop + Send, G: Gate + Sync, R: Threads + Wait + Sync>(
     rt: &R,
     alloc: Global,
@@ -44,7 +45,9 @@ pub fn play<D: Device + Drop + Send, G: Gate + Sync, R: Threads + Wait + Sync>(
     requires store { said.IsStoreOf (D.seen device) opened }
     requires honest { D.honest device }
     requires leaves { said.LeavesOnly (D.seen device) (D.may_leave device) }
-    ensures { said.IfOk result (λ its. said.IsPlayed D.Device opened lines.now device its.is_whole its.logs.items its.keeper.device its.keeper.finished its.keeper.begun its.keeper.fault) }
+    ensures ok { said.IfOk result (λ its. said.IsPlayed D.Device opened lines.now device its.is_whole its.logs.items its.keeper.device
+        its.keeper.finished its.keeper.begun its.keeper.fault) }
+    ensures err { said.OnErr result (result ≡ said.Err said.Memory) }
 {
     let points = copy_of(alloc, &opened.points)?;
     let OpenSeats {
@@ -74,8 +77,9 @@ fn play_over<'t, D: Device + Drop + Send, G: Gate + Sync, R: Threads + Wait + Sy
 ) -> Result<Played<D>, Fault>
     requires first { said.AreFirst table.now.table.shared.key table.now.table.shared.table_id sessions.items }
     requires keeper { keeping ≡ table.now.table.shared.key }
-    ensures { said.IfOk result (λ its. said.WerePlayed D.Device table.now.table.shared.key points.now lines.now
+    ensures ok { said.IfOk result (λ its. said.WerePlayed D.Device table.now.table.shared.key points.now lines.now
         (length sessions.items) its.is_whole its.logs.items its.keeper.device its.keeper.finished its.keeper.begun its.keeper.fault) }
+    ensures err { said.OnErr result (result ≡ said.Err said.Memory) }
 {
     let players = seated(alloc, table, sessions, points, lines)?;
     play_seats(rt, alloc, table, players, keeping, points, lines, gate)
@@ -92,6 +96,7 @@ fn seated<D: Device>(
     requires first { said.AreFirst table.now.table.shared.key table.now.table.shared.table_id sessions.items }
     ensures count { said.IfOk result (λ players. length players.items ≡ length sessions.items) }
     ensures players { said.IfOk result (λ players. said.AreSeated table.now.table.shared.key points.now lines.now players.items) }
+    ensures err { said.OnErr result (result ≡ said.Err said.Memory) }
 {
     let mut players = Vec::new(alloc);
     for seat in sessions {
@@ -134,8 +139,9 @@ fn play_seats<'t, D: Device + Drop + Send, G: Gate + Sync, R: Threads + Wait + S
 ) -> Result<Played<D>, Fault>
     requires seats { said.AreSeated table.now.table.shared.key points.now lines.now players.items }
     requires keeper { keeping ≡ table.now.table.shared.key }
-    ensures { said.IfOk result (λ its. said.WerePlayed D.Device table.now.table.shared.key points.now lines.now
+    ensures ok { said.IfOk result (λ its. said.WerePlayed D.Device table.now.table.shared.key points.now lines.now
         (length players.items) its.is_whole its.logs.items its.keeper.device its.keeper.finished its.keeper.begun its.keeper.fault) }
+    ensures err { said.OnErr result (result ≡ said.Err said.Memory) }
 {
     let progress = Progress::new();
     let shared = &progress;
@@ -144,8 +150,9 @@ fn play_seats<'t, D: Device + Drop + Send, G: Gate + Sync, R: Threads + Wait + S
         rt,
         |scope| -> Result<Played<D>, Fault>
             requires { said.AreSeated table.now.table.shared.key points.now lines.now players.items × (keeping ≡ table.now.table.shared.key) }
-            ensures { said.IfOk result (λ its. said.WerePlayed D.Device table.entry.now.table.shared.key points.entry.now lines.entry.now
+            ensures ok { said.IfOk result (λ its. said.WerePlayed D.Device table.entry.now.table.shared.key points.entry.now lines.entry.now
                 (length players.items) its.is_whole its.logs.items its.keeper.device its.keeper.finished its.keeper.begun its.keeper.fault) }
+            ensures err { said.OnErr result (result ≡ said.Err said.Memory) }
         {
             let played = play_in(
                 scope, rt, alloc, shared, gate, lines, table, points, players, keeping,
@@ -173,8 +180,9 @@ fn play_in<'s, 't: 's, E, D: Device + Drop + Send, G: Gate + Sync, R: Threads + 
 ) -> Result<Played<D>, Fault>
     requires seats { said.AreSeated table.now.table.shared.key points.now lines.now players.items }
     requires keeper { keeping ≡ table.now.table.shared.key }
-    ensures { said.IfOk result (λ its. said.WerePlayed D.Device table.now.table.shared.key points.now lines.now
+    ensures ok { said.IfOk result (λ its. said.WerePlayed D.Device table.now.table.shared.key points.now lines.now
         (length players.items) its.is_whole its.logs.items its.keeper.device its.keeper.finished its.keeper.begun its.keeper.fault) }
+    ensures err { said.OnErr result (result ≡ said.Err said.Memory) }
 {
     let count = players.len() as u64;
     let handles = spawn_all(
@@ -205,6 +213,7 @@ fn spawn_all<'s, 't: 's, E, D: Device + Drop + Send, G: Gate + Sync, R: Threads 
     ensures count { said.IfOk result (λ handles. length handles.items ≡ length players.items) }
     ensures promised { said.IfOk result (λ handles. said.EachAt handles.items (λ i h. said.part_of h.promise.table.now.table.shared.key h.promise.number
         h.promise.point h.promise.lines.now ≡ said.part_at table.now.table.shared.key points.now lines.now i)) }
+    ensures err { said.OnErr result (result ≡ said.Err said.Memory) }
 {
     let mut handles = Vec::new(alloc);
     for player in players {
@@ -218,7 +227,8 @@ fn spawn_all<'s, 't: 's, E, D: Device + Drop + Send, G: Gate + Sync, R: Threads 
         let spawned = scope.spawn_with(
             promise,
             move || -> Result<SessionEnd, Fault>
-                ensures { said.IfOk result (λ end. said.IsTold (said.opening D.Device) player end.is_whole end.log) }
+                ensures { said.IfOk result (λ end. said.IsTold (said.opening D.Device) player end.is_whole end.log)
+                    × said.OnErr result (result ≡ said.Err said.Memory) }
             { play_session(rt, progress, gate, number, player) },
         );
         let Ok(handle) = spawned else {
@@ -242,6 +252,7 @@ fn joined<'t, D: Device, R: Threads>(
         said.part_at table.now.table.shared.key points.now lines.now i) }
     ensures count { said.IfOk result (λ its. length its.0.items ≡ length handles.entry.items) }
     ensures told { said.IfOk result (λ its. said.AreLogs (said.opening D.Device) table.now.table.shared.key points.now lines.now its.1 its.0.items) }
+    ensures err { said.OnErr result (result ≡ said.Err said.Memory) }
 {
     let mut logs = Vec::new(alloc);
     let mut are_whole = true;
@@ -254,7 +265,8 @@ fn joined<'t, D: Device, R: Threads>(
 }
 
 fn copy_of(alloc: Global, points: &[Serial]) -> Result<Vec<Serial>, Fault>
-    ensures { said.IfOk result (λ copy. copy.items ≡ points.now) }
+    ensures ok { said.IfOk result (λ copy. copy.items ≡ points.now) }
+    ensures err { said.OnErr result (result ≡ said.Err said.Memory) }
 {
     let mut copy = Vec::new(alloc);
     for point in points {

@@ -1,5 +1,5 @@
 //! A script on threads, from the line that makes its store to its report.
-ghost use Rattle.std.specs.Prelude.{◌≡◌, ⊤, if◌then◌else◌};
+ghost use Rattle.std.specs.Prelude.{◌≡◌, ◌⊎◌, Some, None, true, if◌then◌else◌};
 ghost use Rattle.fkv_threading.specs.Said as said;
 
 use crate::gates::Gate;
@@ -7,8 +7,8 @@ use crate::keepers::KeeperEnd;
 use crate::playing::{Played, play};
 use fkv_base::{Fault, Shape, StoreClass};
 use fkv_creating::create_opened;
-use fkv_disk::{Device, FileDisk, Fuse, MemDisk, PageSize, Pages, ReadAhead};
-use fkv_files::{Lockable, Mirror, Trouble, make_alone, open_alone};
+use fkv_disk::{Device, Fuse, MemDisk, PageSize, Pages, ReadAhead};
+use fkv_files::{Mirror, StorePlaces, Trouble};
 use fkv_keeper::Finished;
 use fkv_lines::{Line, Opening, Script, Sizes};
 use fkv_opening::recover;
@@ -18,7 +18,6 @@ use fkv_texts::write_refusal;
 use fkv_thread_scripts::{Log, Report, report_of, write_threads_report};
 use std::alloc::Global;
 use std::io::{self, Write};
-use std::rt::Files;
 use std::sync::Wait;
 use std::thread::Threads;
 
@@ -33,12 +32,11 @@ pub fn run_threads<G: Gate + Sync, W: Write, R: Threads + Wait + Sync>(
     output: &mut W,
     gate: &G,
 ) -> io::Result<u8>
-    ensures whole { said.IfOk result (said.IsRunOnThreads (said.IsReportOfRun ⟦<Fuse<MemDisk> as Device>⟧ ⟦<MemDisk as Device>⟧
-        (said.HoldsLeft ⟦<Fuse<MemDisk> as Device>⟧ ⟦<MemDisk as Device>⟧) script.now.lines.items) script.now.opening
-        (said.Appends (W.contents output.old) (W.contents output.new))) }
+    ensures whole { said.IfOk result (said.IsRunOnThreads (said.IsEndInMemory ⟦<Fuse<MemDisk> as Device>⟧ ⟦<MemDisk as Device>⟧
+        script.now.lines.items) script.now.opening (said.Appends (W.contents output.old) (W.contents output.new))) }
     ensures part { said.OnErr result (said.BreaksOff (said.WithSomeStatus (said.IsTextOnThreads
-        (said.IsReportOfRun ⟦<Fuse<MemDisk> as Device>⟧ ⟦<MemDisk as Device>⟧ (said.HoldsLeft ⟦<Fuse<MemDisk> as Device>⟧ ⟦<MemDisk as Device>⟧)
-        script.now.lines.items) script.now.opening)) (W.contents output.old) (W.contents output.new)) }
+        (said.IsEndInMemory ⟦<Fuse<MemDisk> as Device>⟧ ⟦<MemDisk as Device>⟧ script.now.lines.items) script.now.opening))
+        (W.contents output.old) (W.contents output.new)) }
 {
     let sizes = match script.opening {
         Some(Opening::Shape(sizes)) => sizes,
@@ -51,9 +49,9 @@ pub fn run_threads<G: Gate + Sync, W: Write, R: Threads + Wait + Sync>(
 /// The same over a new store in the file of this path, which is opened again for the report. Behind the status stands what is wrong with the
 /// file, if that is why it is 3.
 #[tactic(auto, using(fkv_texts::proofs::Shown::appends_nothing))]
-pub fn run_threads_in_file<G: Gate + Sync, W: Write, R: Threads + Wait + Sync, H: Files>(
+pub fn run_threads_in_file<G: Gate + Sync, W: Write, R: Threads + Wait + Sync, S: StorePlaces>(
     rt: &R,
-    files: &H,
+    places: &S,
     alloc: Global,
     path: &str,
     script: &Script,
@@ -61,32 +59,45 @@ pub fn run_threads_in_file<G: Gate + Sync, W: Write, R: Threads + Wait + Sync, H
     gate: &G,
 ) -> io::Result<(u8, Option<Trouble>)>
 where
-    H::File: Lockable + Send,
-    ensures whole { said.IfOk result (λ end. said.IsRunOnThreads (said.IsReportOfRun ⟦<Mirror<FileDisk<H::File>> as Device>⟧
-        ⟦<ReadAhead<FileDisk<H::File>> as Device>⟧ (λ _ _. ⊤) script.now.lines.items) script.now.opening
+    S::Disk: Send,
+    ensures whole { said.IfOk result (λ end. said.IsRunOnThreads (said.IsEndInFile S.Disk.Device ⟦<Mirror<S::Disk> as Device>⟧
+        ⟦<ReadAhead<S::Disk> as Device>⟧ (S.is_opened places.now) path.now script.now.lines.items) script.now.opening
         (said.Appends (W.contents output.old) (W.contents output.new)) end.0) }
     ensures part { said.OnErr result (said.BreaksOff (said.WithSomeStatus (said.IsTextOnThreads
-        (said.IsReportOfRun ⟦<Mirror<FileDisk<H::File>> as Device>⟧ ⟦<ReadAhead<FileDisk<H::File>> as Device>⟧ (λ _ _. ⊤) script.now.lines.items)
-        script.now.opening)) (W.contents output.old) (W.contents output.new)) }
+        (said.IsEndInFile S.Disk.Device ⟦<Mirror<S::Disk> as Device>⟧ ⟦<ReadAhead<S::Disk> as Device>⟧ (S.is_opened places.now) path.now
+        script.now.lines.items) script.now.opening)) (W.contents output.old) (W.contents output.new)) }
 {
     let sizes = match script.opening {
         Some(Opening::Shape(sizes)) => sizes,
         _ => return Ok((0, None)),
     };
-    let reported = report_in_file(rt, files, alloc, path, sizes, &script.lines, gate);
+    let reported = report_in_file(rt, places, alloc, path, sizes, &script.lines, gate);
     let (reported, trouble) = told_apart(reported);
     let status = write_reported(alloc, output, reported)?;
     Ok((status, trouble))
 }
 
-/// What is written of a run, and what is wrong with the file where that is why there is no report.
-fn told_apart(reported: Result<Report, Trouble>) -> (Result<Report, Fault>, Option<Trouble>)
-    ensures { said.IfOk result.0 (λ report. reported ≡ said.Ok report) }
+/// Why there is no report of a run over a file.
+#[derive(Clone, Copy)]
+pub(crate) enum NoReport {
+    /// The run was refused, or the store that is recovered behind it.
+    Refused(Fault),
+    /// The file was, as it was opened.
+    Closed(Trouble),
+}
+
+/// What is written of a run, and what is wrong with the file where that is why there is no report. As a file is opened, memory may be refused or a call of
+/// the device fail, and no other fault is met.
+fn told_apart(reported: Result<Report, NoReport>) -> (Result<Report, Fault>, Option<Trouble>)
+    ensures ok { said.IfOk result.0 (λ report. reported ≡ said.Ok report) }
+    ensures err { said.IfErr result.0 (λ why. said.IsOfMedium why ⊎ (reported ≡ said.Err (said.Refused why))) }
 {
     match reported {
         Ok(report) => (Ok(report), None),
-        Err(Trouble::Fault(fault)) => (Err(fault), None),
-        Err(trouble) => (Err(Fault::Device), Some(trouble)),
+        Err(NoReport::Refused(fault)) => (Err(fault), None),
+        Err(NoReport::Closed(Trouble::Fault(Fault::Memory))) => (Err(Fault::Memory), None),
+        Err(NoReport::Closed(Trouble::Fault(_))) => (Err(Fault::Device), None),
+        Err(NoReport::Closed(trouble)) => (Err(Fault::Device), Some(trouble)),
     }
 }
 
@@ -142,7 +153,9 @@ fn report_in_memory<G: Gate + Sync, R: Threads + Wait + Sync>(
     lines: &[Line],
     gate: &G,
 ) -> Result<Report, Fault>
-    ensures { said.IfOk result (said.IsReportOfRun ⟦<Fuse<MemDisk> as Device>⟧ ⟦<MemDisk as Device>⟧
+    ensures ok { said.IfOk result (said.IsReportOfRun ⟦<Fuse<MemDisk> as Device>⟧ ⟦<MemDisk as Device>⟧
+        (said.HoldsLeft ⟦<Fuse<MemDisk> as Device>⟧ ⟦<MemDisk as Device>⟧) lines.now sizes) }
+    ensures err { said.IfErr result (said.IsWithoutReport ⟦<Fuse<MemDisk> as Device>⟧ ⟦<MemDisk as Device>⟧
         (said.HoldsLeft ⟦<Fuse<MemDisk> as Device>⟧ ⟦<MemDisk as Device>⟧) lines.now sizes) }
 {
     let shape = shape_of(sizes)?;
@@ -161,42 +174,79 @@ fn report_in_memory<G: Gate + Sync, R: Threads + Wait + Sync>(
 const PAGES: usize = 256;
 
 /// The report of these lines over a new store in a file of these sizes. The file is closed as all have ended, and opened again.
-fn report_in_file<G: Gate + Sync, R: Threads + Wait + Sync, H: Files>(
+fn report_in_file<G: Gate + Sync, R: Threads + Wait + Sync, S: StorePlaces>(
     rt: &R,
-    files: &H,
+    places: &S,
     alloc: Global,
     path: &str,
     sizes: Sizes,
     lines: &[Line],
     gate: &G,
-) -> Result<Report, Trouble>
+) -> Result<Report, NoReport>
 where
-    H::File: Lockable + Send,
-    ensures { said.IfOk result (said.IsReportOfRun ⟦<Mirror<FileDisk<H::File>> as Device>⟧ ⟦<ReadAhead<FileDisk<H::File>> as Device>⟧
-        (λ _ _. ⊤) lines.now sizes) }
+    S::Disk: Send,
+    ensures ok { said.IfOk result (said.IsReportOfRun ⟦<Mirror<S::Disk> as Device>⟧ ⟦<ReadAhead<S::Disk> as Device>⟧ (said.IsOpenedAgain
+        S.Disk.Device ⟦<Mirror<S::Disk> as Device>⟧ ⟦<ReadAhead<S::Disk> as Device>⟧ (S.is_opened places.now path.now)) lines.now sizes) }
+    ensures err { said.IfErr result (said.WhyClosed (said.IsWithoutReport ⟦<Mirror<S::Disk> as Device>⟧ ⟦<ReadAhead<S::Disk> as Device>⟧
+        (said.IsOpenedAgain S.Disk.Device ⟦<Mirror<S::Disk> as Device>⟧ ⟦<ReadAhead<S::Disk> as Device>⟧ (S.is_opened places.now path.now))
+        lines.now sizes)) }
 {
-    let shape = shape_of(sizes)?;
-    let (file, length) = make_alone(files, path)?;
-    let Some(length) = length else {
-        return Err(Trouble::Irregular);
+    let shape = match shape_of(sizes) {
+        Ok(shape) => shape,
+        Err(why) => return Err(NoReport::Refused(why)),
     };
-    let device = Mirror::new(alloc, file, length)?;
-    let Played { logs, keeper, .. } = play_new(rt, alloc, device, shape, lines, gate)?;
+    let device = match made(places, alloc, path) {
+        Ok(device) => device,
+        Err(trouble) => return Err(NoReport::Closed(trouble)),
+    };
+    let Played { logs, keeper, .. } = match play_new(rt, alloc, device, shape, lines, gate) {
+        Ok(played) => played,
+        Err(why) => return Err(NoReport::Refused(why)),
+    };
     let KeeperEnd {
         device,
         finished,
         ..
     } = keeper;
     drop(device);
-    let (file, _) = open_alone(files, path)?;
-    let pages = Pages::new(alloc, PageSize::Kib4, PAGES)?;
-    let mut ahead = ReadAhead::new(file, pages);
-    let report = report_on(alloc, lines, &logs, &finished, &mut ahead)?;
-    Ok(report)
+    let mut ahead = match opened_again(places, alloc, path) {
+        Ok(ahead) => ahead,
+        Err(trouble) => return Err(NoReport::Closed(trouble)),
+    };
+    match report_on(alloc, lines, &logs, &finished, &mut ahead) {
+        Ok(report) => Ok(report),
+        Err(why) => Err(NoReport::Refused(why)),
+    }
 }
 
-/// Plays lines over a new store of this shape on a device. A refusal that ended the run is its answer. Where that of no turn has stopped a session, memory
-/// was refused.
+/// The file of this path, which a new store is to lie in.
+fn made<S: StorePlaces>(
+    places: &S,
+    alloc: Global,
+    path: &str,
+) -> Result<Mirror<S::Disk>, Trouble> {
+    let (file, length) = places.make_alone(path)?;
+    let Some(length) = length else {
+        return Err(Trouble::Irregular);
+    };
+    let device = Mirror::new(alloc, file, length)?;
+    Ok(device)
+}
+
+/// The file of this path, which a store lies in.
+fn opened_again<S: StorePlaces>(
+    places: &S,
+    alloc: Global,
+    path: &str,
+) -> Result<ReadAhead<S::Disk>, Trouble>
+    ensures { said.IfOk result (λ ahead. S.is_opened places.now path.now (said.ahead_device ahead)) }
+{
+    let (file, _) = places.open_alone(path)?;
+    let pages = Pages::new(alloc, PageSize::Kib4, PAGES)?;
+    Ok(ReadAhead::new(file, pages))
+}
+
+/// Plays lines over a new store of this shape on a device. A refusal that ended the run is its answer.
 fn play_new<D: Device + Drop + Send, G: Gate + Sync, R: Threads + Wait + Sync>(
     rt: &R,
     alloc: Global,
@@ -206,11 +256,21 @@ fn play_new<D: Device + Drop + Send, G: Gate + Sync, R: Threads + Wait + Sync>(
     gate: &G,
 ) -> Result<Played<D>, Fault>
     requires honest { D.honest device }
-    ensures { said.IfOk result (λ its. said.IsPlayedNew D.Device shape lines.now its.logs.items its.keeper.device its.keeper.finished) }
+    ensures ok { said.IfOk result (λ its. said.IsPlayedNew D.Device shape lines.now its.logs.items its.keeper.device its.keeper.finished) }
+    ensures err { said.IfErr result (said.IsUnplayed D.Device shape lines.now) }
 {
     let mut device = device;
     let opened = create_opened(alloc, &mut device, shape)?;
     let played = play(rt, alloc, opened, device, lines, gate)?;
+    whole(played)
+}
+
+/// What was played to its end: no turn was refused but for memory, and no session was stopped. Where the fault of no turn has stopped a session, memory
+/// was refused.
+fn whole<D: Device + Drop>(played: Played<D>) -> Result<Played<D>, Fault>
+    ensures ok { said.IfOk result (λ its. (its ≡ played) × (played.is_whole ≡ true) × (played.keeper.fault ≡ None)) }
+    ensures err { said.IfErr result (λ why. (why ≡ said.Memory) ⊎ (played.keeper.fault ≡ Some why)) }
+{
     match played.keeper.fault {
         Some(fault) => Err(fault),
         None if played.is_whole => Ok(played),
@@ -226,16 +286,18 @@ fn report_on<D: Device>(
     finished: &Option<Finished>,
     device: &mut D,
 ) -> Result<Report, Fault>
-    ensures { said.IfOk result (said.IsReportOn D.Device lines.now logs.now finished.now device.old) }
+    ensures ok { said.IfOk result (said.IsReportOn D.Device lines.now logs.now finished.now device.old) }
+    ensures err { said.IfErr result (said.IsUnreported D.Device device.old) }
 {
     let opened = recover(alloc, device)?;
     let pairs = content(alloc, &opened, device)?;
     report_of(alloc, lines, logs, finished, &opened, &pairs)
 }
 
-/// The shape of these sizes.
+/// The shape of these sizes. `BadShape` where no store has them.
 fn shape_of(sizes: Sizes) -> Result<Shape, Fault>
-    ensures { said.IfOk result (said.HasSizes sizes) }
+    ensures ok { said.IfOk result (said.HasSizes sizes) }
+    ensures err { said.IfErr result (λ why. (why ≡ said.BadShape) × (said.AreSizes sizes → ⊥)) }
 {
     let Sizes {
         class,

@@ -7,7 +7,7 @@ use fkv_threads::Table;
 use std::thread::Promise;
 
 /// The thread of the session of this number, which goes on from this point at the table, and plays its calls of these lines: its log is what that session
-/// was told there.
+/// was told there. Where it gives nothing back, memory was refused.
 #[derive(Drop)]
 pub(crate) struct SessionLog<'t, D: Device> {
     pub(crate) table: &'t Table<D>,
@@ -17,8 +17,9 @@ pub(crate) struct SessionLog<'t, D: Device> {
 }
 
 impl<'t, D: Device> Promise<Result<SessionEnd, Fault>> for SessionLog<'t, D> {
+    ghost use Rattle.std.specs.Prelude.{◌≡◌};
     ghost use Rattle.fkv_threading.specs.Said as said;
 
     ghost kept_by = { λ its r. said.IfOk r (λ end. said.IsTold (said.opening D.Device) (said.part_of its.table.now.table.shared.key its.number its.point
-        its.lines.now) end.is_whole end.log) };
+        its.lines.now) end.is_whole end.log) × said.OnErr r (r ≡ said.Err said.Memory) };
 }

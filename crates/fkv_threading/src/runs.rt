@@ -1,19 +1,18 @@
 //! Runs of the program whose words ask for threads.
-ghost use Rattle.std.specs.Prelude.{◌≡◌, ⊤};
+ghost use Rattle.std.specs.Prelude.{◌≡◌};
 ghost use Rattle.fkv_threading.specs.Said as said;
 
 use crate::complaints::{Faulty, complain, complain_of_end, complain_of_status};
 use crate::gates::Open;
 use crate::programs::{run_threads, run_threads_in_file};
 use fkv_base::{Fault, ScriptFault};
-use fkv_disk::{Device, FileDisk, Fuse, MemDisk, ReadAhead};
-use fkv_files::{Lockable, Mirror};
+use fkv_disk::{Device, Fuse, MemDisk, ReadAhead};
+use fkv_files::{Mirror, StorePlaces};
 use fkv_lines::Script;
 use fkv_runs::write_text;
 use fkv_thread_scripts::threads_script_of;
 use std::alloc::Global;
 use std::io::{self, Read, Write};
-use std::rt::Files;
 use std::sync::Wait;
 use std::thread::Threads;
 
@@ -24,9 +23,9 @@ const SCRIPT_LIMIT: u64 = 65536 * 201 + 1;
 /// input gives. The status: 0; 1 where something differs; 2 where the script or its shape is refused; 3 where a store or a turn is; 4 where the input
 /// could not be read. Where it is above 0, a line of complaint says in words what it means. An `Err` is memory, a thread, or a stream that failed: then
 /// what is written is a beginning.
-pub fn run<R: Threads + Wait + Sync, H: Files, I: Read + Drop, W: Write, E: Write>(
+pub fn run<R: Threads + Wait + Sync, S: StorePlaces, I: Read + Drop, W: Write, E: Write>(
     rt: &R,
-    files: &H,
+    places: &S,
     alloc: Global,
     file: Option<&str>,
     input: I,
@@ -34,19 +33,21 @@ pub fn run<R: Threads + Wait + Sync, H: Files, I: Read + Drop, W: Write, E: Writ
     complaints: &mut E,
 ) -> io::Result<u8>
 where
-    H::File: Lockable + Send,
-    ensures whole { said.IfOk result (λ status. said.Writes (said.IsRunOfInput (said.IsReportIn
-        (said.IsReportOfRun ⟦<Fuse<MemDisk> as Device>⟧ ⟦<MemDisk as Device>⟧ (said.HoldsLeft ⟦<Fuse<MemDisk> as Device>⟧ ⟦<MemDisk as Device>⟧))
-        (said.IsReportOfRun ⟦<Mirror<FileDisk<H::File>> as Device>⟧ ⟦<ReadAhead<FileDisk<H::File>> as Device>⟧ (λ _ _. ⊤)) (said.is_some file.entry))
+    S::Disk: Send,
+    ensures whole { said.IfOk result (λ status. said.Writes (said.IsRunOfInput (said.IsEndIn
+        (said.IsEndInMemory ⟦<Fuse<MemDisk> as Device>⟧ ⟦<MemDisk as Device>⟧)
+        (said.IsEndInFile S.Disk.Device ⟦<Mirror<S::Disk> as Device>⟧ ⟦<ReadAhead<S::Disk> as Device>⟧ (S.is_opened places.now))
+        (said.option_map (λ path. path.now) file.entry))
         (I.remaining input) status) (W.contents output.old) (W.contents output.new)) }
-    ensures part { said.OnErr result (said.BreaksOff (said.WithSomeStatus (said.IsRunOfInput (said.IsReportIn
-        (said.IsReportOfRun ⟦<Fuse<MemDisk> as Device>⟧ ⟦<MemDisk as Device>⟧ (said.HoldsLeft ⟦<Fuse<MemDisk> as Device>⟧ ⟦<MemDisk as Device>⟧))
-        (said.IsReportOfRun ⟦<Mirror<FileDisk<H::File>> as Device>⟧ ⟦<ReadAhead<FileDisk<H::File>> as Device>⟧ (λ _ _. ⊤)) (said.is_some file.entry))
+    ensures part { said.OnErr result (said.BreaksOff (said.WithSomeStatus (said.IsRunOfInput (said.IsEndIn
+        (said.IsEndInMemory ⟦<Fuse<MemDisk> as Device>⟧ ⟦<MemDisk as Device>⟧)
+        (said.IsEndInFile S.Disk.Device ⟦<Mirror<S::Disk> as Device>⟧ ⟦<ReadAhead<S::Disk> as Device>⟧ (S.is_opened places.now))
+        (said.option_map (λ path. path.now) file.entry))
         (I.remaining input))) (W.contents output.old) (W.contents output.new)) }
 {
     match script_bytes(alloc, input) {
         Ok(bytes) => {
-            let status = run_bytes(rt, files, alloc, file, &bytes, output, complaints)?;
+            let status = run_bytes(rt, places, alloc, file, &bytes, output, complaints)?;
             output.flush()?;
             Ok(status)
         }
@@ -83,9 +84,9 @@ fn refuse_input<W: Write, E: Write>(
 }
 
 /// Runs the script of these bytes, or writes its first faulty line.
-fn run_bytes<R: Threads + Wait + Sync, H: Files, W: Write, E: Write>(
+fn run_bytes<R: Threads + Wait + Sync, S: StorePlaces, W: Write, E: Write>(
     rt: &R,
-    files: &H,
+    places: &S,
     alloc: Global,
     file: Option<&str>,
     bytes: &[u8],
@@ -93,19 +94,21 @@ fn run_bytes<R: Threads + Wait + Sync, H: Files, W: Write, E: Write>(
     complaints: &mut E,
 ) -> io::Result<u8>
 where
-    H::File: Lockable + Send,
-    ensures whole { said.IfOk result (λ status. said.Writes (said.IsRunOfBytes (said.IsReportIn
-        (said.IsReportOfRun ⟦<Fuse<MemDisk> as Device>⟧ ⟦<MemDisk as Device>⟧ (said.HoldsLeft ⟦<Fuse<MemDisk> as Device>⟧ ⟦<MemDisk as Device>⟧))
-        (said.IsReportOfRun ⟦<Mirror<FileDisk<H::File>> as Device>⟧ ⟦<ReadAhead<FileDisk<H::File>> as Device>⟧ (λ _ _. ⊤)) (said.is_some file.entry))
+    S::Disk: Send,
+    ensures whole { said.IfOk result (λ status. said.Writes (said.IsRunOfBytes (said.IsEndIn
+        (said.IsEndInMemory ⟦<Fuse<MemDisk> as Device>⟧ ⟦<MemDisk as Device>⟧)
+        (said.IsEndInFile S.Disk.Device ⟦<Mirror<S::Disk> as Device>⟧ ⟦<ReadAhead<S::Disk> as Device>⟧ (S.is_opened places.now))
+        (said.option_map (λ path. path.now) file.entry))
         bytes.now status) (W.contents output.old) (W.contents output.new)) }
-    ensures part { said.OnErr result (said.BreaksOff (said.WithSomeStatus (said.IsRunOfBytes (said.IsReportIn
-        (said.IsReportOfRun ⟦<Fuse<MemDisk> as Device>⟧ ⟦<MemDisk as Device>⟧ (said.HoldsLeft ⟦<Fuse<MemDisk> as Device>⟧ ⟦<MemDisk as Device>⟧))
-        (said.IsReportOfRun ⟦<Mirror<FileDisk<H::File>> as Device>⟧ ⟦<ReadAhead<FileDisk<H::File>> as Device>⟧ (λ _ _. ⊤)) (said.is_some file.entry))
+    ensures part { said.OnErr result (said.BreaksOff (said.WithSomeStatus (said.IsRunOfBytes (said.IsEndIn
+        (said.IsEndInMemory ⟦<Fuse<MemDisk> as Device>⟧ ⟦<MemDisk as Device>⟧)
+        (said.IsEndInFile S.Disk.Device ⟦<Mirror<S::Disk> as Device>⟧ ⟦<ReadAhead<S::Disk> as Device>⟧ (S.is_opened places.now))
+        (said.option_map (λ path. path.now) file.entry))
         bytes.now)) (W.contents output.old) (W.contents output.new)) }
 {
     match threads_script_of(alloc, bytes) {
         Ok(script) => match file {
-            Some(path) => run_in_file(rt, files, alloc, path, &script, output, complaints),
+            Some(path) => run_in_file(rt, places, alloc, path, &script, output, complaints),
             None => run_in_memory(rt, alloc, &script, output, complaints),
         },
         Err(fault) => refuse_script(alloc, output, complaints, fault),
@@ -120,12 +123,11 @@ fn run_in_memory<R: Threads + Wait + Sync, W: Write, E: Write>(
     output: &mut W,
     complaints: &mut E,
 ) -> io::Result<u8>
-    ensures whole { said.IfOk result (said.IsRunOnThreads (said.IsReportOfRun ⟦<Fuse<MemDisk> as Device>⟧ ⟦<MemDisk as Device>⟧
-        (said.HoldsLeft ⟦<Fuse<MemDisk> as Device>⟧ ⟦<MemDisk as Device>⟧) script.now.lines.items) script.now.opening
-        (said.Appends (W.contents output.old) (W.contents output.new))) }
+    ensures whole { said.IfOk result (said.IsRunOnThreads (said.IsEndInMemory ⟦<Fuse<MemDisk> as Device>⟧ ⟦<MemDisk as Device>⟧
+        script.now.lines.items) script.now.opening (said.Appends (W.contents output.old) (W.contents output.new))) }
     ensures part { said.OnErr result (said.BreaksOff (said.WithSomeStatus (said.IsTextOnThreads
-        (said.IsReportOfRun ⟦<Fuse<MemDisk> as Device>⟧ ⟦<MemDisk as Device>⟧ (said.HoldsLeft ⟦<Fuse<MemDisk> as Device>⟧ ⟦<MemDisk as Device>⟧)
-        script.now.lines.items) script.now.opening)) (W.contents output.old) (W.contents output.new)) }
+        (said.IsEndInMemory ⟦<Fuse<MemDisk> as Device>⟧ ⟦<MemDisk as Device>⟧ script.now.lines.items) script.now.opening))
+        (W.contents output.old) (W.contents output.new)) }
 {
     let status = run_threads(rt, alloc, script, output, &Open)?;
     complain_of_status(complaints, status);
@@ -133,9 +135,9 @@ fn run_in_memory<R: Threads + Wait + Sync, W: Write, E: Write>(
 }
 
 /// Runs a script over a new store in the file of this path.
-fn run_in_file<R: Threads + Wait + Sync, H: Files, W: Write, E: Write>(
+fn run_in_file<R: Threads + Wait + Sync, S: StorePlaces, W: Write, E: Write>(
     rt: &R,
-    files: &H,
+    places: &S,
     alloc: Global,
     path: &str,
     script: &Script,
@@ -143,15 +145,15 @@ fn run_in_file<R: Threads + Wait + Sync, H: Files, W: Write, E: Write>(
     complaints: &mut E,
 ) -> io::Result<u8>
 where
-    H::File: Lockable + Send,
-    ensures whole { said.IfOk result (said.IsRunOnThreads (said.IsReportOfRun ⟦<Mirror<FileDisk<H::File>> as Device>⟧
-        ⟦<ReadAhead<FileDisk<H::File>> as Device>⟧ (λ _ _. ⊤) script.now.lines.items) script.now.opening
+    S::Disk: Send,
+    ensures whole { said.IfOk result (said.IsRunOnThreads (said.IsEndInFile S.Disk.Device ⟦<Mirror<S::Disk> as Device>⟧
+        ⟦<ReadAhead<S::Disk> as Device>⟧ (S.is_opened places.now) path.now script.now.lines.items) script.now.opening
         (said.Appends (W.contents output.old) (W.contents output.new))) }
     ensures part { said.OnErr result (said.BreaksOff (said.WithSomeStatus (said.IsTextOnThreads
-        (said.IsReportOfRun ⟦<Mirror<FileDisk<H::File>> as Device>⟧ ⟦<ReadAhead<FileDisk<H::File>> as Device>⟧ (λ _ _. ⊤) script.now.lines.items)
-        script.now.opening)) (W.contents output.old) (W.contents output.new)) }
+        (said.IsEndInFile S.Disk.Device ⟦<Mirror<S::Disk> as Device>⟧ ⟦<ReadAhead<S::Disk> as Device>⟧ (S.is_opened places.now) path.now
+        script.now.lines.items) script.now.opening)) (W.contents output.old) (W.contents output.new)) }
 {
-    let (status, trouble) = run_threads_in_file(rt, files, alloc, path, script, output, &Open)?;
+    let (status, trouble) = run_threads_in_file(rt, places, alloc, path, script, output, &Open)?;
     complain_of_end(complaints, path, status, trouble);
     Ok(status)
 }

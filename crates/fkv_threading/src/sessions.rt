@@ -21,7 +21,8 @@ pub(crate) fn play_session<D: Device, G: Gate, R: Wait>(
     number: usize,
     player: Player<D>,
 ) -> Result<SessionEnd, Fault>
-    ensures { said.IfOk result (λ its. said.IsTold (said.opening D.Device) player its.is_whole its.log) }
+    ensures ok { said.IfOk result (λ its. said.IsTold (said.opening D.Device) player its.is_whole its.log) }
+    ensures err { said.OnErr result (result ≡ said.Err said.Memory) }
 {
     let played = play_calls(rt, progress, gate, number, player);
     if played.is_err() {
@@ -41,7 +42,8 @@ fn play_calls<D: Device, G: Gate, R: Wait>(
     number: usize,
     player: Player<D>,
 ) -> Result<Player<D>, Fault>
-    ensures { said.IfOk result (λ end. end ≡ player) }
+    ensures ok { said.IfOk result (λ end. end ≡ player) }
+    ensures err { said.OnErr result (result ≡ said.Err said.Memory) }
 {
     let calls = player.count_left() as u64;
     let mut at = player;
@@ -58,7 +60,8 @@ fn play_call<D: Device, R: Wait>(
     progress: &Progress,
     player: Player<D>,
 ) -> Result<Player<D>, Fault>
-    ensures { said.IfOk result (λ end. end ≡ player) }
+    ensures ok { said.IfOk result (λ end. end ≡ player) }
+    ensures err { said.OnErr result (result ≡ said.Err said.Memory) }
 {
     let mut at = player;
     for _ in rt.forever() {
@@ -79,7 +82,8 @@ fn play_call<D: Device, R: Wait>(
 
 /// A refresh and a poll, and how many requests are left.
 fn catch_up<D: Device>(player: Player<D>) -> Result<(Player<D>, usize), Fault>
-    ensures { said.IfOk result (λ its. its.0 ≡ player) }
+    ensures ok { said.IfOk result (λ its. its.0 ≡ player) }
+    ensures err { said.OnErr result (result ≡ said.Err said.Memory) }
 {
     let (refreshed, _) = player.call_own(Call::Refresh)?;
     let (polled, answer) = refreshed.call_own(Call::Poll)?;
@@ -95,7 +99,8 @@ fn end<D: Device, R: Wait>(
     progress: &Progress,
     player: Player<D>,
 ) -> Result<Player<D>, Fault>
-    ensures { said.IfOk result (λ end. end ≡ player) }
+    ensures ok { said.IfOk result (λ end. end ≡ player) }
+    ensures err { said.OnErr result (result ≡ said.Err said.Memory) }
 {
     let at = catch_up_whole(rt, progress, player)?;
     if progress.is_stopped() {
@@ -111,7 +116,8 @@ fn catch_up_whole<D: Device, R: Wait>(
     progress: &Progress,
     player: Player<D>,
 ) -> Result<Player<D>, Fault>
-    ensures { said.IfOk result (λ end. end ≡ player) }
+    ensures ok { said.IfOk result (λ end. end ≡ player) }
+    ensures err { said.OnErr result (result ≡ said.Err said.Memory) }
 {
     let mut at = player;
     for _ in rt.forever() {

@@ -15,5 +15,5 @@ loop-handle-preserved g c =
     let promised = c.requires at c.in-Some.handle there ∙ ap (λ (n : ℕ). part_at c.args.table.now.table.shared.key c.args.points.now c.args.lines.now n) (sym inv.0) in
     let pushed = c.in_ok-push.ensures.items in (
       counted _ _ _ _ _ pushed inv.0,
-      logs_more (opening_of g.D.Device.seen) c.args.table.now.table.shared.key c.args.points.now c.args.lines.now c.loop-handle.are_whole _ c.in_ok-log.field-0.is_whole c.loop-handle.logs.items c.push.new.self.items c.in_ok-log.field-0.log _ pushed refl inv.1 promised c.in_ok-log.ensures,
+      logs_more (opening_of g.D.Device.seen) c.args.table.now.table.shared.key c.args.points.now c.args.lines.now c.loop-handle.are_whole _ c.in_ok-log.field-0.is_whole c.loop-handle.logs.items c.push.new.self.items c.in_ok-log.field-0.log _ pushed refl inv.1 promised c.in_ok-log.ensures.0,
     )

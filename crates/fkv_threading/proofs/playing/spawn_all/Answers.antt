@@ -14,7 +14,7 @@ spawn_with-spawned-requires-clause-keeps g c =
     let there = next_at items c.loop-player.yielded _ c.loop-player.player-iterator c.next.new.self c.next.result c.in-Some.player gives.0 (gives.1 ∙ c.args.players.ok.0) c.loop-player.yielded_by c.in-Some.is c.next.ensures.steps in
     let number : c.len-number.result ≡ at = omega (arith, inv.0, c.len-number.ensures, c.loop-player.handles.ok.0) in
     let seat = c.requires at c.in-Some.player there ∙ sym (promised_at c.args.table.now.table.shared.key at c.len-number.result c.args.points.now _ c.args.lines.now number c.point_of.ensures) in
-    λ lifetimes outlives r given. subst (λ part. IfOk r (λ end. IsTold (opening_of g.D.Device.seen) part end.is_whole end.log)) seat given
+    λ lifetimes outlives r given. (subst (λ part. IfOk r (λ end. IsTold (opening_of g.D.Device.seen) part end.is_whole end.log)) seat given.0, given.1)
 
 pub loop-player-preserved : goal.loop-player-preserved
 loop-player-preserved g c =

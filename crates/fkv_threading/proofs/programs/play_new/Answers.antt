@@ -1,15 +1,26 @@
--- A run without a fault of the keeper, in which no session was stopped.
-use Rattle.std.proofs.Common.{Bool, Option, subst}
-use Rattle.fkv_base.specs.declared.faults.Fault.{Fault}
-use Rattle.fkv_threading.specs.Told.{IsPlayed}
+-- A run without a fault of the keeper, in which no session was stopped; or why it wasn't played to its end.
+use Rattle.std.proofs.Common.{refl, rules}
+use Rattle.fkv_threading.proofs.Refused.{unmade, unplayed, unstarted, whole_played}
 use Rattle.fkv_threading.proofs.programs.play_new.Goals as goal
 
-pub returns-in-None : goal.returns-in-None
-returns-in-None g c = record {
-  opened = c.in_ok-opened.opened;
-  first = c.create_opened.new.d;
-  new = c.in_ok-opened.ensures.new;
-  begun = c.in_ok-played.played.keeper.begun;
-  played = subst (λ (z : Bool × Option Fault). IsPlayed g.D.Device c.in_ok-opened.opened c.args.lines.now c.create_opened.new.d z.0 c.in_ok-played.played.logs.items c.in_ok-played.played.keeper.device c.in_ok-played.played.keeper.finished
-      c.in_ok-played.played.keeper.begun z.1) (λ i. (c.if-played.true i, c.in-None.is i)) c.in_ok-played.ensures;
-}
+pub returns-in_err-opened-clause-err : goal.returns-in_err-opened-clause-err
+returns-in_err-opened-clause-err g c =
+    let why = unmade g.D.Device c.args.shape c.args.lines.now _ _ c.in_err-opened.field-0.0 c.in_err-opened.ensures.err in
+    search (rules, why)
+
+pub returns-in_err-played-clause-err : goal.returns-in_err-played-clause-err
+returns-in_err-played-clause-err g c =
+    let why = unstarted g.D.Device c.args.shape c.args.lines.now _ c.in_err-played.field-0.0 refl c.in_err-played.ensures.err in
+    search (rules, why)
+
+pub returns-clause-ok : goal.returns-clause-ok
+returns-clause-ok g c =
+    let its = c.in_ok-played.played in
+    whole_played g.D.Device c.args.shape c.args.lines.now c.in_ok-opened.opened c.create_opened.new.d its its.is_whole (λ x. x.logs.items) (λ x. x.keeper.device) (λ x. x.keeper.finished) its.keeper.begun its.keeper.fault
+    c.whole.result c.in_ok-opened.ensures.new c.in_ok-played.ensures.ok c.whole.ensures.ok
+
+pub returns-clause-err : goal.returns-clause-err
+returns-clause-err g c =
+    let its = c.in_ok-played.played in
+    unplayed g.D.Device c.args.shape c.args.lines.now c.in_ok-opened.opened c.create_opened.new.d its.is_whole its.logs.items its.keeper.device its.keeper.finished its.keeper.begun its.keeper.fault
+    c.whole.result c.in_ok-opened.ensures.new c.in_ok-played.ensures.ok c.whole.ensures.err

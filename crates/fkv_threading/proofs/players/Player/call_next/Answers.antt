@@ -16,4 +16,4 @@ pub invariant_of-next : goal.invariant_of-next
 invariant_of-next g c =
     let found : slice_get c.self.inside.calls.items c.self.inside.answered ≡ Some c.in-Some.call = ap (λ (xs : List Call). slice_get xs c.self.inside.answered) (sym c.deref.ensures.value) ∙ (sym c.call_at.ensures ∙ c.in-Some.is) in
     told_next (opening_of g.D.Device.seen) c.self.inside.seat c.make.new.seat c.self.inside.point c.self.inside.calls.items c.self.inside.answered c.count_behind-answered.result c.self.inside.log c.make.new.log c.in-Some.call c.in_ok-answer.answer
-    c.is_full-is_answered.result _ c.in_ok-answer.ensures found c.is_full-is_answered.ensures refl c.count_behind-answered.ensures c.self.invariant
+    c.is_full-is_answered.result _ c.in_ok-answer.ensures.ok found c.is_full-is_answered.ensures refl c.count_behind-answered.ensures c.self.invariant

@@ -4,4 +4,4 @@ use Rattle.fkv_threading.proofs.Told.{told_own}
 use Rattle.fkv_threading.proofs.players.Player.call_own.Goals as goal
 
 pub invariant_of-next : goal.invariant_of-next
-invariant_of-next g c = told_own (opening_of g.D.Device.seen) c.self.inside.seat c.make.new.seat c.self.inside.point c.self.inside.calls.items _ c.self.inside.log c.make.new.log c.args.call c.in_ok-answer.answer c.in_ok-answer.ensures c.requires c.self.invariant
+invariant_of-next g c = told_own (opening_of g.D.Device.seen) c.self.inside.seat c.make.new.seat c.self.inside.point c.self.inside.calls.items _ c.self.inside.log c.make.new.log c.args.call c.in_ok-answer.answer c.in_ok-answer.ensures.ok c.requires c.self.invariant
