@@ -220,11 +220,7 @@ where
 }
 
 /// The file of this path, which a new store is to lie in.
-fn made<S: StorePlaces>(
-    places: &S,
-    alloc: Global,
-    path: &str,
-) -> Result<Mirror<S::Disk>, Trouble> {
+fn made<S: StorePlaces>(places: &S, alloc: Global, path: &str) -> Result<Mirror<S::Disk>, Trouble> {
     let (file, length) = places.make_alone(path)?;
     let Some(length) = length else {
         return Err(Trouble::Irregular);
