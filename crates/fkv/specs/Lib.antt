@@ -1,4 +1,5 @@
 pub mod AllLives
 pub mod Lives
+pub mod Media
 pub mod Replies
 pub mod Said
