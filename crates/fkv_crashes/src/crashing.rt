@@ -1,6 +1,8 @@
 //! A device in memory whose calls are made here, and which is crashed behind them.
-ghost use Rattle.std.specs.Prelude.{◌≡◌, ◌∷◌, [], IfOk, OnOk};
+ghost use Rattle.std.specs.Prelude.{◌≡◌, ◌∷◌, [], IfErr, IfOk, OnOk};
+ghost use Rattle.fkv_base.specs.declared.faults.Fault.TheVariants as fault;
 ghost use Rattle.fkv_crashes.specs.Made.{as_call, as_calls};
+ghost use Rattle.fkv_crashes.specs.Refused.{IsCallRefused, IsRefused};
 ghost use Rattle.fkv_crashes.specs.Torn.{IsTornBehind};
 ghost use Rattle.fkv_disk.specs.Memory.{disk_calls, disk_opening};
 
@@ -16,10 +18,11 @@ pub enum MadeCall {
 }
 
 /// Makes these calls of a new device in memory, and crashes it behind the last one. Each byte that was written and not synced since is torn. Each other one is
-/// what was written last. So a memory that syncs behind each write, or that tears a byte more or less, isn't proved. An `Err` is a call that was
-/// refused, or memory.
+/// what was written last. So a memory that syncs behind each write, or that tears a byte more or less, isn't proved. `Device` where one of the
+/// calls was refused, and `Memory` where memory was refused for the image.
 pub fn crash_behind(alloc: Global, calls: &[MadeCall], torn: u8) -> Result<MemDisk, Fault>
-    ensures { IfOk result (λ disk. IsTornBehind calls.now torn (⟦<MemDisk as Device>⟧.seen disk)) }
+    ensures image { IfOk result (λ disk. IsTornBehind calls.now torn (⟦<MemDisk as Device>⟧.seen disk)) }
+    ensures why { IfErr result (λ its. IsRefused calls.now its) }
 {
     let mut disk = MemDisk::new(alloc);
     make_all(&mut disk, calls)?;
@@ -31,6 +34,7 @@ fn make_all(disk: &mut MemDisk, calls: &[MadeCall]) -> Result<(), Fault>
     requires { disk_calls disk.old ≡ [] }
     ensures opening { OnOk result (disk_opening disk.new ≡ disk_opening disk.old) }
     ensures calls { OnOk result (disk_calls disk.new ≡ as_calls calls.now) }
+    ensures why { IfErr result (λ its. IsCallRefused calls.now its) }
 {
     for call in calls {
         make(disk, call)?;
@@ -41,6 +45,7 @@ fn make_all(disk: &mut MemDisk, calls: &[MadeCall]) -> Result<(), Fault>
 fn make(disk: &mut MemDisk, call: &MadeCall) -> Result<(), Fault>
     ensures opening { OnOk result (disk_opening disk.new ≡ disk_opening disk.old) }
     ensures calls { OnOk result (disk_calls disk.new ≡ as_call call.now ∷ disk_calls disk.old) }
+    ensures why { IfErr result (λ its. its ≡ fault.Device) }
 {
     match call {
         MadeCall::Write(at, bytes) => disk.write(*at, bytes),
