@@ -6,6 +6,7 @@ use Rattle.fkv_base.specs.declared.faults.Fault.{Fault}
 use Rattle.fkv_base.specs.declared.numbers.Key.{Key}
 use Rattle.fkv_base.specs.declared.numbers.Value.{Value}
 use Rattle.fkv_base.specs.declared.shapes.Shape.{Shape}
+use Rattle.fkv_disk.specs.Bytes.{AreBytes}
 use Rattle.fkv_disk.specs.Done.{MayLeaveBytes}
 use Rattle.fkv_disk.specs.declared.devices.Device.{Ghosts}
 use Rattle.fkv_files.specs.Mirrors.{is_lost, mirror_after, mirror_calls, mirror_device, mirror_opening}
@@ -57,8 +58,9 @@ report_of_run device other LeftBy lines sizes (Ok report) shape logs logs' mediu
 report_of_run device other LeftBy lines sizes (Err e) shape logs logs' medium finished after same sized played left says = tt
 
 -- what the device behind a mirror may leave, the mirror may
-pub opened_again : {D : Type 0} (device : Ghosts D) (closed : Mirror D device) (image : List ℕ) → is_lost closed ≡ false → device.honest (mirror_device closed) → device.may_leave (mirror_device closed) image → MayLeaveBytes (mirror_opening closed) (mirror_calls closed) image
-opened_again device closed image passed claim left = record { allowed = (mirror_after closed passed claim).leaves image left; are_bytes = device.leaves_bytes (mirror_device closed) image claim left }
+pub opened_again : {D : Type 0} (device : Ghosts D) → ((d : D) (image : List ℕ) → device.honest d → device.may_leave d image → AreBytes image) → (closed : Mirror D device) (image : List ℕ) → is_lost closed ≡ false
+    → device.honest (mirror_device closed) → device.may_leave (mirror_device closed) image → MayLeaveBytes (mirror_opening closed) (mirror_calls closed) image
+opened_again device fits closed image passed claim left = record { allowed = (mirror_after closed passed claim).leaves image left; are_bytes = fits (mirror_device closed) image claim left }
 
 -- what is said of a report is said of it where it is passed on
 pub passed_on : {X E F : Type 0} (Says : X → Type 0) (r : Result X E) (r' : Result X F) → IfOk r' (λ x. r ≡ Ok x) → IfOk r Says → IfOk r' Says
