@@ -12,6 +12,7 @@ use Rattle.fkv_session.specs.declared.answers.Told.{Told}
 use Rattle.fkv_threads.specs.Below.fkv_world.Runs.{World}
 use Rattle.fkv_threads.specs.Below.fkv_table.Calls.{IsLastGiven}
 use Rattle.fkv_threads.specs.Calling.{IsCallOf}
+use Rattle.fkv_threads.specs.Meetings.{AreAtOneTable, SittingsMeet}
 use Rattle.fkv_threads.specs.Models.{Sitting}
 
 -- what the session's last poll has finished: a handle that was ended has none
@@ -19,7 +20,19 @@ abbrev pub finished_in : {K : Type 0} → Option (Sitting K) → List Finished
 finished_in (Some s) = s.finished
 finished_in None = []
 
+-- two handles of one store, neither of which was ended
+abbrev pub AreOfOneStore : {K : Type 0} → Option (Sitting K) → Option (Sitting K) → Type 0
+AreOfOneStore (Some s) (Some t) = AreAtOneTable s t
+AreOfOneStore s t = Unit {0}
+
 module _ {K : Type 0} (at : K → World) where
+  -- Two handles have met. Where one was ended, they answer `NoSession`, and stay as they are.
+  abbrev pub HandlesMeet : Option (Sitting K) → Option (Sitting K) → Result (Unit {0}) Fault → Option (Sitting K) → Option (Sitting K) → Type 0
+  HandlesMeet (Some s) (Some t) (Ok nothing) (Some s') (Some t') = SittingsMeet at s t s' t'
+  HandlesMeet (Some s) (Some t) result s' t' = ⊥
+  HandlesMeet None t result s' t' = (result ≡ Err NoSession) × (s' ≡ None) × (t' ≡ t)
+  HandlesMeet (Some s) None result s' t' = (result ≡ Err NoSession) × (s' ≡ Some s) × (t' ≡ None)
+
   -- The last serial that the session has given. A handle that was ended answers `NoSession`.
   abbrev pub IsLastSerial : Option (Sitting K) → Result Serial Fault → Type 0
   IsLastSerial (Some s) (Ok serial) = IsLastGiven at s.key s.seen s.number serial.0

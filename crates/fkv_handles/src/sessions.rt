@@ -95,6 +95,29 @@ impl Session {
         }
     }
 
+    /// Two handles of one store meet, as where the threads that have them have. Each then has seen what either had seen. It waits for nobody. `NoSession` once
+    /// one of them is ended.
+    pub fn meet(&mut self, other: &mut Session) -> Result<(), Fault>
+        requires one_store { said.AreOfOneStore (said.sitting_of self.old) (said.sitting_of other.old) }
+        ensures met { said.HandlesMeet (said.opening ⟦<Posted<'static> as Device>⟧) (said.sitting_of self.old) (said.sitting_of other.old) result
+            (said.sitting_of self.new) (said.sitting_of other.new) }
+        ensures keys { (said.keys_of self.new ≡ said.keys_of self.old) × (said.keys_of other.new ≡ said.keys_of other.old) }
+    {
+        match (self.seated.take(), other.seated.take()) {
+            (Some(one), Some(its)) => {
+                let (one, its) = one.meet(its);
+                self.seated = Some(one);
+                other.seated = Some(its);
+                Ok(())
+            }
+            (one, its) => {
+                self.seated = one;
+                other.seated = its;
+                Err(Fault::NoSession)
+            }
+        }
+    }
+
     /// Fetches the cache line of the key's bucket into the processor's cache, for an operation that comes soon. It is worth it where the index doesn't fit
     /// there, for several keys in a row: they are waited for at once. Nothing changes. The key is the caller's.
     #[inline(always)]

@@ -12,6 +12,7 @@ pub use Rattle.law_threads.specs.Below.fkv_table.Meets.{AreTwoReady, HaveMet, St
 pub use Rattle.law_threads.specs.Below.fkv_table.Starts.{EachAt}
 pub use Rattle.fkv_threads.specs.Begun.{AreFirst, HasBegun, IsFirstWatch, IsOverStore, KeeperHasBegun}
 pub use Rattle.fkv_threads.specs.Calling.{HaveRun, IsToldCallOf}
+pub use Rattle.fkv_threads.specs.Meetings.{AreAtOneTable, SittingsMeet}
 pub use Rattle.fkv_threads.specs.Models.{IsWatching, opening, sitting_at, sitting_of, watch_of}
 pub use Rattle.fkv_threads.specs.Watches.{HasStepped, IsAskedToCommit, IsDriven, IsHonestlyTold, IsTold, IsTurnOf, is_posted}
 pub use Rattle.std.specs.Prelude.{Err, IfOk, OnErr, map}

@@ -2,6 +2,7 @@
 ghost use Rattle.std.specs.Prelude.{◌≡◌, ◌<◌, ◌≤◌, ◌^◌, length};
 ghost use Rattle.fkv_threads.specs.Said as said;
 
+use crate::passes::join;
 use fkv_base::{Addr, Key, Serial};
 use fkv_disk::Device;
 use fkv_map::{Call, Op};
@@ -73,6 +74,31 @@ impl<D: Device> Seated<D> {
     {
         law_threads::<Snapshot<World<D>>>();
         self.session.op(&self.table, &mut self.pass, op)
+    }
+
+    /// Two sessions of one table meet, as where a thread has told another one of its calls. Each then has seen what either had seen, so its next calls stand
+    /// behind those. It waits for nobody, and has no error.
+    pub fn meet(self, other: Seated<D>) -> (Seated<D>, Seated<D>)
+        requires one_table { said.AreAtOneTable self other }
+        ensures met { said.SittingsMeet (said.opening D.Device) self other result.0 result.1 }
+    {
+        let Seated {
+            table,
+            session,
+            pass,
+            ..
+        } = self;
+        let Seated {
+            table: its_table,
+            session: its_session,
+            pass: its_pass,
+            ..
+        } = other;
+        let (pass, its_pass) = join(&table, pass, its_pass);
+        (
+            Seated::new(table, session, pass),
+            Seated::new(its_table, its_session, its_pass),
+        )
     }
 
     /// What the last poll has finished, in the order of acceptance.
