@@ -46,7 +46,7 @@ use Rattle.law_commit.specs.Below.fkv_session.Sitting.TheVariants.{Attempts, Pol
 use Rattle.law_commit.specs.Below.fkv_session.Sessions.{Seat, SessionState, sitting_ask}
 use Rattle.law_commit.specs.Below.fkv_world.Opened.{HasBecome}
 use Rattle.law_commit.specs.Below.fkv_world.Runs.{run}
-use Rattle.law_commit.specs.Below.fkv_world.World.{Event, Now}
+use Rattle.law_commit.specs.Below.fkv_world.World.{Event, Now, seat_at}
 use Rattle.law_commit.proofs.Below.fkv_world.Shown.{shape_stays}
 use Rattle.law_apart.specs.Apart.Rows.{AttemptApart, IsLater, SearchTells, TellsApart, TellsPhase, TellsSharer, TryApart, VersionsFit, has_linked, is_linking, is_lost}
 use Rattle.law_apart.proofs.OfApart.Links.{full_links}
