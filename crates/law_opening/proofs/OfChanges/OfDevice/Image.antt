@@ -19,7 +19,7 @@ use Rattle.law_refine.specs.Below.law_local.Tries.MailRows.{LeadsTo}
 use Rattle.fkv_words.specs.Layout.{header_word}
 use Rattle.law_refine.specs.Below.fkv_world.World.{Now}
 use Rattle.law_opening.specs.Changes.Images.{IsInImage}
-use Rattle.law_refine.proofs.OfRecords.Numbers.{filled_shows}
+use Rattle.law_refine.proofs.OfRecords.Numbers.{header_back}
 
 -- a record's three words
 abbrev words_of : Record → RecordWord → ℕ
@@ -35,7 +35,7 @@ leads_so : (x : Record) → LeadsTo x.header.previous.0 (header_word x.header)
 unfolding as_written
 leads_so x = record {
   version = record { 0 = x.header.version.0 };
-  says = (filled_shows (words_of x) (as_written x) (record { header = refl; key = refl; value = refl })).header;
+  says = header_back x.header;
 }
 
 spelled_there : (shape : Shape) (bytes : List ℕ) (a version : ℕ) (x : Record) → record_bytes x ≡ bytes_at bytes (record_place shape a) 24 → IsInImage shape bytes a (cell_of version x)
