@@ -16,13 +16,13 @@ use Rattle.fkv_index.specs.Finding.{spare_of}
 use Rattle.fkv_index.specs.Slots.{home_of}
 use Rattle.fkv_ops.specs.declared.requests.Seen.{Seen}
 use Rattle.fkv_ops.specs.Requests.{is_read, is_blind}
-use Rattle.fkv_ops.specs.Trying.{is_prepare, is_moving_on}
+use Rattle.fkv_ops.specs.Trying.{is_prepare, is_moving_on, is_next_marked}
 use Rattle.fkv_session.specs.declared.answers.Told.{Told}
 use Rattle.fkv_session.specs.declared.answers.Told.TheVariants.{Slept}
 use Rattle.fkv_session.specs.declared.sessions.Sitting.TheVariants.{Idle}
 use Rattle.fkv_session.specs.Sessions.{Seat, SessionState, Sitter, is_full, version_within}
 use Rattle.fkv_straight.specs.declared.going.Going.{Going}
-use Rattle.fkv_straight.specs.Course.{Course, home_in, head_in, shares, Goes, GoesBy}
+use Rattle.fkv_straight.specs.Course.{Course, home_in, head_in, request_in, shares, Goes, GoesBy}
 use Rattle.fkv_straight.specs.Memory.{is_in_memory}
 use Rattle.fkv_straight.specs.Met.{IsInMemory, latch_in}
 use Rattle.fkv_straight.specs.Standing.{asked, leads}
@@ -98,6 +98,9 @@ shares_in c k op g goes prepares updates =
     let e : is_prepare c.lasts.seen.phase ≡ true = goes.prepares ∙ prepares in
     let f : is_read c.op ≡ false = updates_in c k op g false goes updates in
     rw (e, f) refl
+
+pub is_unmarked : (c : Course) (k : Seat) (op : Op) (g : Going) → Goes c k op g → is_next_marked (record { 0 = g.version }) ≡ false → is_next_marked (request_in c).version ≡ false
+is_unmarked c k op g goes unmarked = rw goes.its_version unmarked
 
 pub goes_at : (c : Course) (k : Seat) (op : Op) (g : Going) (q : Seat) → Goes c k op g → q ≡ k → Goes c q op g
 goes_at c k op g q goes same = subst (λ (x : Seat). Goes c x op g) (sym same) goes

@@ -40,7 +40,7 @@ use Rattle.fkv_ops.specs.HeaderWords.{header_said}
 use Rattle.fkv_ops.specs.Requests.{is_read, purpose_of}
 use Rattle.fkv_ops.specs.Walking.{WalkState, first_met, reached, walk_ask, walk_rested}
 use Rattle.fkv_ops.specs.Appending.{AppendState, append_rested}
-use Rattle.fkv_ops.specs.Trying.{TryState, words_of, walk_ledto, copies_from, ends, takes_effect, is_above}
+use Rattle.fkv_ops.specs.Trying.{TryState, words_of, walk_ledto, copies_from, ends, takes_effect, is_above, is_next_marked}
 use Rattle.fkv_pending.specs.declared.pending_requests.RequestName.TheVariants.{Update}
 use Rattle.fkv_session.specs.Sessions.{Seat, SessionState, refusal_of}
 use Rattle.fkv_straight.specs.declared.searching.Met.{Met}
@@ -165,9 +165,9 @@ pub record IsMet (c : Course) (r : Record) (s : SessionState) : Type 0 where
   pub here : IsInMemory c r.addr
   pub at : r.at ≡ record_place c.seat.places r.addr Header
 
--- by whatever trail it was met, the update stays at its version: in prepare the chain's first record is of no later one
+-- by whatever trail it was met, the update stays at its version: in prepare the chain's first record is of no later one, or its mark doesn't tell
 abbrev pub IsUnshifted : Course → Record → Type 0
-IsUnshifted c r = (trail : Trail) → IsTrail trail r.entry r.addr → (shares c && is_above (first_met trail.first (record { 0 = r.mark })) (request_in c).version) ≡ false
+IsUnshifted c r = (trail : Trail) → IsTrail trail r.entry r.addr → (shares c && not (is_next_marked (request_in c).version) && is_above (first_met trail.first (record { 0 = r.mark })) (request_in c).version) ≡ false
 
 -- what a search has met: its key's record; the chain's end; or where the chain leaves memory
 abbrev pub HasMet : Course → Met → SessionState → Type 0

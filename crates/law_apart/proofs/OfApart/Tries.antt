@@ -9,6 +9,8 @@ use Rattle.fkv_marks.proofs.Shown.{mark_small, marks_tell}
 use Rattle.fkv_map.specs.declared.operations.Reply.{Reply}
 use Rattle.fkv_map.specs.Map.{absent_word}
 use Rattle.fkv_map.specs.Keys.{key_of, reply_from}
+use Rattle.fkv_words.specs.declared.phase_words.PhaseSaid.{PhaseSaid}
+use Rattle.fkv_words.specs.PhaseWords.{phase_said}
 use Rattle.fkv_plane.specs.declared.asks.Ask.{Ask}
 use Rattle.fkv_plane.specs.declared.asks.Ask.TheVariants.{Done}
 use Rattle.fkv_plane.specs.declared.places.Places.{Places}
@@ -48,14 +50,14 @@ use Rattle.law_local.specs.Below.fkv_ops.Seen.{Seen}
 use Rattle.law_local.specs.Below.fkv_ops.OldValue.{OldValue}
 use Rattle.law_local.specs.Below.fkv_ops.OldValue.TheVariants.{InMemory, Known}
 use Rattle.law_local.specs.Below.fkv_ops.TheTrying.{Trying}
-use Rattle.law_local.specs.Below.fkv_ops.TheTrying.TheVariants.{Appends, ChangesValue, DropsExclusive, DropsShared, Ended, LoadsAnswer, LoadsCurrent, LoadsOld, LoadsSafe, SwapsValue, TakesExclusive, TakesShared, Walks}
+use Rattle.law_local.specs.Below.fkv_ops.TheTrying.TheVariants.{Appends, ChangesValue, DropsExclusive, DropsShared, Ended, LoadsAnswer, LoadsCurrent, LoadsOld, LoadsPhase, LoadsSafe, SwapsValue, TakesExclusive, TakesShared, Walks}
 use Rattle.law_local.specs.Below.fkv_ops.WalkAnswer.{WalkAnswer}
 use Rattle.law_local.specs.Below.fkv_ops.WalkAnswer.TheVariants as walk
 use Rattle.law_local.specs.Below.fkv_ops.TheWalking.{Walking}
 use Rattle.law_local.specs.Below.fkv_ops.TheWalking.TheVariants as walking
 use Rattle.law_local.specs.Below.fkv_ops.Appending.{append_ask, append_next}
 use Rattle.law_local.specs.Below.fkv_ops.Requests.{is_blind, is_read, purpose_of}
-use Rattle.law_local.specs.Below.fkv_ops.Trying.{TryState, answer_ledto, append_ledto, appends, awaits, changes, copies, copies_from, current_ledto, ended_without, ends, exclusive_dropped, exclusive_ledto, full_at, has_walked, held_used, is_above, is_moving_on, is_own_version, is_prepare, is_wait, met_disk, met_nowhere, met_record, must_shift, new_try, old_ledto, region_met, safe_loaded, shared_dropped, shared_ledto, takes_effect, told_value, try_ask, try_begun, try_next, trying_ask, trying_next, value_changed, walk_ledto, walked, walks, wants_exclusive, wants_shared, with_latch}
+use Rattle.law_local.specs.Below.fkv_ops.Trying.{TryState, answer_ledto, append_ledto, appends, awaits, changes, copies, copies_from, current_ledto, ended_without, ends, exclusive_dropped, exclusive_ledto, full_at, has_walked, held_used, is_above, is_marked, is_moving_on, is_next_marked, is_own_version, is_still_in, is_surely_own, latch_shared, phase_loaded, is_prepare, is_wait, met_disk, met_nowhere, met_record, must_shift, new_try, old_ledto, region_met, safe_loaded, shared_dropped, shared_ledto, takes_effect, told_value, try_ask, try_begun, try_next, trying_ask, trying_next, value_changed, walk_ledto, walked, walks, wants_exclusive, wants_shared, with_latch}
 use Rattle.law_local.specs.Below.fkv_ops.Values.{value_of}
 use Rattle.law_local.specs.Below.fkv_ops.Walking.{WalkState, walk_ask, walk_next, walk_on, walking_ask}
 use Rattle.law_local.specs.Tries.OnWay.{IsFoundAt, IsOrderly}
@@ -63,7 +65,7 @@ use Rattle.law_local.specs.Tries.Replies.{IsTrueReply}
 use Rattle.law_local.specs.Tries.TryRows.{IsUpdate, IsWalkFor, MarksTell, NoneIsLater, NoneLaterPast, StandsAt, TryKnows, TryRow, head_in, key_in}
 use Rattle.law_local.specs.Tries.WalkRows.{LoadKnows, LoadsFrom, WalkKnows, WalkRow, begin_of}
 use Rattle.law_local.proofs.OfTries.WalkRows.{loads_same, same_on, walk_leads, walk_tells}
-use Rattle.law_apart.specs.Apart.Rows.{CopiesApart, CopiesRow, EndApart, HasComeTo, HasMet, HasMetFirst, HasOwn, IsDropping, IsUnderWay, LatchRow, MovesOn, SharesRow, ShowsLater, TellsSharer, TryApart, VersionsFit, WalkApart, is_linking, KnowsNone, MetIn}
+use Rattle.law_apart.specs.Apart.Rows.{CopiesApart, CopiesRow, EndApart, HasComeTo, HasMet, HasMetFirst, HasOwn, IsDropping, IsUnderWay, LatchRow, MovesOn, SharesRow, ShowsLater, TellsPhase, TellsSharer, TryApart, VersionsFit, WalkApart, is_linking, KnowsNone, MetIn}
 use Rattle.law_apart.proofs.OfApart.Tests.{both_true, eq_true, le_false, lt_false, lt_true, not_both, test_true, waits_so}
 use Rattle.law_apart.proofs.OfApart.Walks.{walk_apart, walk_met}
 
@@ -78,10 +80,11 @@ none_of_shows home log request seen from shows never a is_in = by_test (nat_lt r
     by_test false e = lt_false request.version.0 (version_at (log.cells a)) e
 
 -- where the first version that was met isn't above the request's
-passes_test : (prepare read above : Bool) → prepare ≡ true → read ≡ false → (prepare && not read && above) ≡ false → above ≡ false
-passes_test true false above one other e = e
-passes_test true true above one other e = cc
-passes_test false read above one other e = cc
+passes_test : (prepare read marked above : Bool) → prepare ≡ true → read ≡ false → marked ≡ false → (prepare && not read && not marked && above) ≡ false → above ≡ false
+passes_test true false false above one other none e = e
+passes_test true false true above one other none e = cc
+passes_test true true marked above one other none e = cc
+passes_test false read marked above one other none e = cc
 
 met_low : (log : Log) → VersionsFit log → (from : ℕ) (first : Option Version) (version : Version) → version.0 < 2 ^ 13 → HasMetFirst log from first → is_above first version ≡ false → version.0 < version_at (log.cells from) → ⊥
 met_low log fit from None version small met e high = absurd met
@@ -98,11 +101,11 @@ come_low log fit from at head None version small come e never in_memory high = n
 come_low log fit from at head (Some was) version small come e never in_memory high = met_low log fit from (Some was) version small come e high
 
 -- a walk that has ended in memory or below it, at a try that passes its test
-none_past : (home : ℕ → ℕ) (log : Log) (t : TryState) (its : WalkAnswer) → IsOrderly home log → VersionsFit log → is_prepare t.seen.phase ≡ true → EndApart home log t.request t.seen t.walk its → (has_walked its && must_shift t) ≡ false → NoneIsLater home log t.request
-none_past home log t its orderly fit prepare apart passes update = by_end its apart passes
+none_past : (home : ℕ → ℕ) (log : Log) (t : TryState) (its : WalkAnswer) → IsOrderly home log → VersionsFit log → is_prepare t.seen.phase ≡ true → is_next_marked t.request.version ≡ false → EndApart home log t.request t.seen t.walk its → (has_walked its && must_shift t) ≡ false → NoneIsLater home log t.request
+none_past home log t its orderly fit prepare unmarked apart passes update = by_end its apart passes
   where
     tested : must_shift t ≡ false → is_above t.walk.first t.request.version ≡ false
-    tested e = passes_test (is_prepare t.seen.phase) (is_read t.request.op) (is_above t.walk.first t.request.version) prepare update e
+    tested e = passes_test (is_prepare t.seen.phase) (is_read t.request.op) (is_next_marked t.request.version) (is_above t.walk.first t.request.version) prepare update unmarked e
 
     none_at : (from : ℕ) → 0 ≡ from → head_in t.seen ≤ from → t.request.version.0 < version_at (log.cells from) → ⊥
     none_at from e in_memory high =
@@ -182,6 +185,10 @@ end_apart home log p request seen w walking.Finds its row apart e = find_asks w.
 end_apart home log p request seen w (walking.Meets addr) its row apart e = load_asks log p addr w.loading its row.its_load e
 end_apart home log p request seen w (walking.HasFound addr version) its row apart e = subst (EndApart home log request seen w) (the_answer (walk.Found addr version) its e) apart
 end_apart home log p request seen w walking.LoadsValue its row apart e = absurd apart
+
+second_true : (a b : Bool) → (a && b) ≡ true → b ≡ true
+second_true true b e = e
+second_true false b e = cc
 
 module _ (home : ℕ → ℕ) (log : Log) (p : Places) where
   -- if it shares its latch none is later
@@ -288,7 +295,7 @@ module _ (home : ℕ → ℕ) (log : Log) (p : Places) where
 
   -- ---- behind the walk
   abbrev Row : TryState → Type 0
-  Row t = t.has_shared ≡ true → KnowsNone home log t ⊎ ((is_prepare t.seen.phase ≡ true) × WalkApart home log t.request t.seen t.walk t.walk.step × (t.request.has_latch ≡ false))
+  Row t = t.has_shared ≡ true → KnowsNone home log t ⊎ ((is_prepare t.seen.phase ≡ true) × WalkApart home log t.request t.seen t.walk t.walk.step × (t.request.has_latch ≡ false) × (is_next_marked t.request.version ≡ false))
 
   -- what still asks is under way
   going : (request : Request) (seen : Seen) (w : WalkState) (step : Walking) → is_done (walking_ask p w step) ≡ false → WalkApart home log request seen w step → IsUnderWay step
@@ -302,13 +309,13 @@ module _ (home : ℕ → ℕ) (log : Log) (p : Places) where
   row_on : (t : TryState) → is_done (walk_ask p t.walk) ≡ false → t.step ≡ Walks → Row t → t.has_shared ≡ true → SharesRow home log t t.step
   row_on t asks at row has = subst (SharesRow home log t) (sym at) (elim (row has) [
     | inl none ↦ inl none
-    | inr apart ↦ inr (apart.0, going t.request t.seen t.walk t.walk.step asks apart.1, apart.1, apart.2)
+    | inr apart ↦ inr (apart.0, going t.request t.seen t.walk t.walk.step asks apart.1, apart.1, apart.2, apart.3)
   ])
 
   past_none : (t : TryState) (its : WalkAnswer) → IsOrderly home log → VersionsFit log → WalkKnows home log t.walk → walk_ask p t.walk ≡ Done its → Row t → (has_walked its && must_shift t) ≡ false → SharesNone t
   past_none t its orderly fit knows asks row passes has = elim (row has) [
     | inl none ↦ none.0
-    | inr apart ↦ none_past home log t its orderly fit apart.0 (end_apart home log p t.request t.seen t.walk t.walk.step its knows apart.1 asks) passes
+    | inr apart ↦ none_past home log t its orderly fit apart.0 apart.3 (end_apart home log p t.request t.seen t.walk t.walk.step its knows apart.1 asks) passes
   ]
 
   led_apart : (t : TryState) (ask : Ask WalkAnswer) → IsOrderly home log → VersionsFit log → WalkKnows home log t.walk → t.step ≡ Walks → walk_ask p t.walk ≡ ask → Row t → Apart (walk_ledto p t ask)
@@ -328,10 +335,10 @@ module _ (home : ℕ → ℕ) (log : Log) (p : Places) where
   rested_step : find.LoadsSlot 0 ≡ find.AtRest → ⊥
   rested_step e = cc
 
-  walks_apart : (t : TryState) → (t.has_shared ≡ true → NoneIsLater home log t.request ⊎ ((is_prepare t.seen.phase ≡ true) × (t.request.has_latch ≡ false))) → Apart (walks p t)
+  walks_apart : (t : TryState) → (t.has_shared ≡ true → NoneIsLater home log t.request ⊎ ((is_prepare t.seen.phase ≡ true) × (t.request.has_latch ≡ false) × (is_next_marked t.request.version ≡ false))) → Apart (walks p t)
   walks_apart t row = record {
     latch = tt;
-    shares = λ has. elim (row has) [ inl none ↦ inl (none, tt) | inr prepare ↦ inr (prepare.0, tt, begins, prepare.1) ];
+    shares = λ has. elim (row has) [ inl none ↦ inl (none, tt) | inr prepare ↦ inr (prepare.0, tt, begins, prepare.1, prepare.2) ];
     copies = tt;
   }
     where
@@ -348,9 +355,25 @@ module _ (home : ℕ → ℕ) (log : Log) (p : Places) where
       begins : (w.first ≡ None) × (w.finding.step ≡ find.AtRest → ⊥) × (is_linking w.finding ≡ false)
       begins = (refl, rested_step, unlinked)
 
+  latch_apart : (t : TryState) → is_prepare t.seen.phase ≡ true → t.request.has_latch ≡ false → Apart (latch_shared p t)
+  latch_apart t prepares without = by_mark (is_next_marked t.request.version) refl
+    where
+      by_mark : (b : Bool) → is_next_marked t.request.version ≡ b → Apart (if b then record t { step = LoadsPhase } else walks p t)
+      by_mark true e = record { latch = without; shares = λ has. tt; copies = tt }
+      by_mark false e = walks_apart t (λ has. inr (prepares, without, e))
+
+  -- the phase word tells that none is later, and the share keeps it so
+  phase_apart : (t : TryState) (said : PhaseSaid) → (t.has_shared ≡ true → is_still_in said t.request.version ≡ true → NoneIsLater home log t.request) → Apart (phase_loaded p t said)
+  unfolding phase_loaded
+  phase_apart t said tells = by_word (is_still_in said t.request.version) refl
+    where
+      by_word : (b : Bool) → is_still_in said t.request.version ≡ b → Apart (if b then walks p t else ends p t answer.Shift)
+      by_word true e = walks_apart t (λ has. inl (tells has e))
+      by_word false e = ends_apart t answer.Shift (λ (wait : false ≡ true). cc)
+
   shared_apart : (t : TryState) (ask : Ask LatchAnswer) → t.step ≡ TakesShared → (is_prepare t.seen.phase ≡ true) × (t.has_shared ≡ false) × (t.request.has_latch ≡ false) → Apart (shared_ledto p t ask)
   unfolding shared_ledto
-  shared_apart t (Done latch.Taken) at takes = walks_apart (record t { has_shared = true }) (λ has. inr (takes.0, takes.2))
+  shared_apart t (Done latch.Taken) at takes = latch_apart (record t { has_shared = true }) takes.0 takes.2
   shared_apart t (Done its) at takes = ends_apart t answer.Shift (λ (wait : false ≡ true). cc)
   shared_apart t ask at takes = record {
     latch = subst (LatchRow t) (sym at) takes;
@@ -428,20 +451,21 @@ module _ (home : ℕ → ℕ) (log : Log) (p : Places) where
   safe_apart : (t : TryState) (addr : Addr) (version : Version) (safe : ℕ) → VersionsFit log → SharesNone t → StandsAt home log t.request t.seen t.walk addr version → safe ≡ log.fixed → Apart (safe_loaded p t addr version safe)
   safe_apart t addr version safe fit none stands is_fixed = by_test (nat_le safe addr.0) refl
     where
-      by_test : (b : Bool) → nat_le safe addr.0 ≡ b → Apart (if b then ends p t (answer.Wait reason.Fuzzy) else copies p t InMemory (is_own_version t version))
+      by_test : (b : Bool) → nat_le safe addr.0 ≡ b → Apart (if b then ends p t (answer.Wait reason.Fuzzy) else copies p t InMemory (is_surely_own t version))
       by_test true e = ends_apart t (answer.Wait reason.Fuzzy) (λ wait. none)
       by_test false e =
-          copies_apart t InMemory (is_own_version t version) none
-          (λ own. own_there t addr version fit stands (let low : addr.0 < safe = le_false safe addr.0 e in omega (arith, low, is_fixed)) (eq_true version.0 (mark t.request.version.0) own))
+          copies_apart t InMemory (is_surely_own t version) none
+          (λ own. own_there t addr version fit stands (let low : addr.0 < safe = le_false safe addr.0 e in omega (arith, low, is_fixed)) (eq_true version.0 (mark t.request.version.0) (second_true (not (is_marked t.request.version)) (is_own_version t version) own)))
 
   -- ---- each reply
-  row_apart : (room : ℕ) (t : TryState) (step : Trying) (reply : ℕ) → IsOrderly home log → VersionsFall log.cells (log.chains (home (key_in t.request))) → VersionsFit log → TellsSharer home log p t reply → t.step ≡ step → TryRow home log t step
+  row_apart : (room : ℕ) (t : TryState) (step : Trying) (reply : ℕ) → IsOrderly home log → VersionsFall log.cells (log.chains (home (key_in t.request))) → VersionsFit log → TellsSharer home log p t reply → TellsPhase home log t reply → t.step ≡ step → TryRow home log t step
       → IsTrueReply home log p t step reply → LatchRow t step → (t.has_shared ≡ true → SharesRow home log t step) → CopiesRow home log t step → Apart (trying_next p room (record t { effect = None }) step reply)
   unfolding trying_next
-  row_apart room t (Ended its) reply orderly falls fit tells at row says takes shares copies =
+  row_apart room t (Ended its) reply orderly falls fit tells word at row says takes shares copies =
       record { latch = subst (LatchRow (record t { effect = None })) (sym at) tt; shares = λ has. subst (SharesRow home log (record t { effect = None })) (sym at) (shares has); copies = subst (CopiesRow home log (record t { effect = None })) (sym at) tt }
-  row_apart room t TakesShared reply orderly falls fit tells at row says takes shares copies = shared_apart (record t { effect = None; latching = latch_next t.latching reply }) (latch_next_ask t.latching reply) at takes
-  row_apart room t Walks reply orderly falls fit tells at row says takes shares copies =
+  row_apart room t TakesShared reply orderly falls fit tells word at row says takes shares copies = shared_apart (record t { effect = None; latching = latch_next t.latching reply }) (latch_next_ask t.latching reply) at takes
+  row_apart room t LoadsPhase reply orderly falls fit tells word at row says takes shares copies = phase_apart (record t { effect = None }) (phase_said reply) (word at)
+  row_apart room t Walks reply orderly falls fit tells word at row says takes shares copies =
       led_apart (record t { effect = None; walk = walk_next p t.walk reply }) (walk_ask p (walk_next p t.walk reply)) orderly fit (walk_leads home log p t.walk reply orderly.chains row.1 says) at refl walk_row
     where
       walk_row : Row (record t { effect = None; walk = walk_next p t.walk reply })
@@ -451,25 +475,25 @@ module _ (home : ℕ → ℕ) (log : Log) (p : Places) where
             let its = tells at has apart.0 in
             elim (walk_apart home log t.request t.seen p orderly its.above its.in_ring falls t.walk reply row.0 row.1 says its.search apart.2) [
               | inl none ↦ inl none
-              | inr on ↦ inr (apart.0, on, apart.3)
+              | inr on ↦ inr (apart.0, on, apart.3, apart.4)
             ]
       ]
-  row_apart room t (LoadsSafe addr version) reply orderly falls fit tells at row says takes shares copies = safe_apart (record t { effect = None }) addr version reply fit shares row.1 says
-  row_apart room t (SwapsValue addr) reply orderly falls fit tells at row says takes shares copies = effect_apart (record t { effect = None }) (reply_from None t.request.op)
-  row_apart room t (LoadsCurrent addr) reply orderly falls fit tells at row says takes shares copies = current_apart (record t { effect = None; walk = walk_next p t.walk reply }) addr (walk_ask p (walk_next p t.walk reply)) at shares
-  row_apart room t (ChangesValue addr old) reply orderly falls fit tells at row says takes shares copies = changed_apart (record t { effect = None }) old reply shares
-  row_apart room t LoadsAnswer reply orderly falls fit tells at row says takes shares copies = answer_apart (record t { effect = None; walk = walk_next p t.walk reply }) (walk_ask p (walk_next p t.walk reply)) at shares
-  row_apart room t (TakesExclusive old) reply orderly falls fit tells at row says takes shares copies = exclusive_apart (record t { effect = None; latching = latch_next t.latching reply }) old (latch_next_ask t.latching reply) at shares
-  row_apart room t LoadsOld reply orderly falls fit tells at row says takes shares copies =
+  row_apart room t (LoadsSafe addr version) reply orderly falls fit tells word at row says takes shares copies = safe_apart (record t { effect = None }) addr version reply fit shares row.1 says
+  row_apart room t (SwapsValue addr) reply orderly falls fit tells word at row says takes shares copies = effect_apart (record t { effect = None }) (reply_from None t.request.op)
+  row_apart room t (LoadsCurrent addr) reply orderly falls fit tells word at row says takes shares copies = current_apart (record t { effect = None; walk = walk_next p t.walk reply }) addr (walk_ask p (walk_next p t.walk reply)) at shares
+  row_apart room t (ChangesValue addr old) reply orderly falls fit tells word at row says takes shares copies = changed_apart (record t { effect = None }) old reply shares
+  row_apart room t LoadsAnswer reply orderly falls fit tells word at row says takes shares copies = answer_apart (record t { effect = None; walk = walk_next p t.walk reply }) (walk_ask p (walk_next p t.walk reply)) at shares
+  row_apart room t (TakesExclusive old) reply orderly falls fit tells word at row says takes shares copies = exclusive_apart (record t { effect = None; latching = latch_next t.latching reply }) old (latch_next_ask t.latching reply) at shares
+  row_apart room t LoadsOld reply orderly falls fit tells word at row says takes shares copies =
       old_apart (record t { effect = None; walk = walk_next p t.walk reply }) (walk_ask p (walk_next p t.walk reply)) at shares
       (λ moves. subst (λ (e : ℕ). (t.has_exclusive ≡ true) ⊎ HasOwn home log t.request (entry_addr e)) (sym (loads_same p t.walk row.1.addr reply row.1.its.loads)) (copies moves))
-  row_apart room t (Appends its) reply orderly falls fit tells at row says takes shares copies = append_apart (record t { effect = None; append = append_next p room t.append reply }) its (append_ask p (append_next p room t.append reply)) at shares copies
-  row_apart room t (DropsExclusive its) reply orderly falls fit tells at row says takes shares copies = dropped_apart (record t { effect = None; latching = latch_next t.latching reply }) its t.latching reply takes (λ wait has. shares has wait)
-  row_apart room t (DropsShared its) reply orderly falls fit tells at row says takes shares copies = unshared_apart (record t { effect = None; latching = latch_next t.latching reply }) its (latch_next_ask t.latching reply) at shares
+  row_apart room t (Appends its) reply orderly falls fit tells word at row says takes shares copies = append_apart (record t { effect = None; append = append_next p room t.append reply }) its (append_ask p (append_next p room t.append reply)) at shares copies
+  row_apart room t (DropsExclusive its) reply orderly falls fit tells word at row says takes shares copies = dropped_apart (record t { effect = None; latching = latch_next t.latching reply }) its t.latching reply takes (λ wait has. shares has wait)
+  row_apart room t (DropsShared its) reply orderly falls fit tells word at row says takes shares copies = unshared_apart (record t { effect = None; latching = latch_next t.latching reply }) its (latch_next_ask t.latching reply) at shares
 
-pub try_apart : (home : ℕ → ℕ) (log : Log) (p : Places) (room : ℕ) (t : TryState) (reply : ℕ) → IsOrderly home log → VersionsFall log.cells (log.chains (home (key_in t.request))) → VersionsFit log → TellsSharer home log p t reply
+pub try_apart : (home : ℕ → ℕ) (log : Log) (p : Places) (room : ℕ) (t : TryState) (reply : ℕ) → IsOrderly home log → VersionsFall log.cells (log.chains (home (key_in t.request))) → VersionsFit log → TellsSharer home log p t reply → TellsPhase home log t reply
     → TryKnows home log t → IsTrueReply home log p t t.step reply → TryApart home log t → TryApart home log (try_next p room t reply)
-try_apart home log p room t reply orderly falls fit tells knows says apart = row_apart home log p room t t.step reply orderly falls fit tells refl knows.row says apart.latch apart.shares apart.copies
+try_apart home log p room t reply orderly falls fit tells word knows says apart = row_apart home log p room t t.step reply orderly falls fit tells word refl knows.row says apart.latch apart.shares apart.copies
 
 -- so one that shares its latch leads on past its walk
 pub sharers_pass : (home : ℕ → ℕ) (log : Log) (p : Places) (t : TryState) (reply : ℕ) → IsOrderly home log → VersionsFall log.cells (log.chains (home (key_in t.request))) → VersionsFit log → TellsSharer home log p t reply
@@ -485,7 +509,7 @@ sharers_pass home log p t reply orderly falls fit tells knows says apart has at 
           elim (walk_apart home log t.request t.seen p orderly its.above its.in_ring falls t.walk reply row.0 row.1 told its.search walks.2) [
             | inl none ↦ none.0
             | inr on ↦
-                none_past home log (record t { walk = walk_next p t.walk reply }) (walk.Found addr version) orderly fit walks.0
+                none_past home log (record t { walk = walk_next p t.walk reply }) (walk.Found addr version) orderly fit walks.0 walks.4
                 (end_apart home log p t.request t.seen (walk_next p t.walk reply) (walk_next p t.walk reply).step (walk.Found addr version) (walk_leads home log p t.walk reply orderly.chains row.1 told) on ends) passes
           ]
     ]
@@ -512,11 +536,12 @@ came_stays home log p t reply fit knows apart at has came =
       | inr walks ↦ not_both t.request.has_latch came walks.3
     ]
   where
-    both_false : (a b c : Bool) → (b ≡ false → c ≡ false) → (a && not b && c) ≡ false
-    both_false true false true so = let clash = so refl in cc
-    both_false true false false so = refl
-    both_false true true c so = refl
-    both_false false b c so = refl
+    both_false : (a b m c : Bool) → (b ≡ false → c ≡ false) → (a && not b && not m && c) ≡ false
+    both_false true false false true so = let clash = so refl in cc
+    both_false true false false false so = refl
+    both_false true false true c so = refl
+    both_false true true m c so = refl
+    both_false false b m c so = refl
 
     low : NoneIsLater home log t.request → is_read t.request.op ≡ false → (found : Option Version) → MetIn log (log.chains (home (key_in t.request))) found → is_above found t.request.version ≡ false
     low none update None met = refl
@@ -529,7 +554,7 @@ came_stays home log p t reply fit knows apart at has came =
         grind (arith, nat_tests, under)
 
     by_read : NoneIsLater home log t.request → MetIn log (log.chains (home (key_in t.request))) (walk_next p t.walk reply).first → must_shift (record t { walk = walk_next p t.walk reply }) ≡ false
-    by_read none met = both_false (is_prepare t.seen.phase) (is_read t.request.op) (is_above (walk_next p t.walk reply).first t.request.version) (λ update. low none update (walk_next p t.walk reply).first met)
+    by_read none met = both_false (is_prepare t.seen.phase) (is_read t.request.op) (is_next_marked t.request.version) (is_above (walk_next p t.walk reply).first t.request.version) (λ update. low none update (walk_next p t.walk reply).first met)
 
 -- ---- where a try has come to its end
 -- one that has, and shares its latch, has none later
@@ -548,6 +573,7 @@ none_at_end home log p t its knows apart asks has = by_step t.step asks knows.ro
 
     by_step : (step : Trying) → trying_ask p t step ≡ Done its → TryRow home log t step → LatchRow t step → SharesRow home log t step → NoneIsLater home log t.request
     by_step TakesShared e row takes shares = not_both t.has_shared has takes.1
+    by_step LoadsPhase e row takes shares = cc
     by_step Walks e row takes shares = elim shares [ inl none ↦ none.0 | inr walks ↦ by_walk t.walk.step row.1 walks.1 walks.2 e ]
     by_step (DropsExclusive told) e row takes shares = by_latch t.latching told takes e
     by_step (Ended told) e row takes shares = shares

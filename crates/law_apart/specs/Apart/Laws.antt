@@ -12,7 +12,7 @@ use Rattle.law_local.specs.Below.fkv_ops.Walking.{walk_next}
 use Rattle.law_local.specs.Tries.OnWay.{IsOrderly}
 use Rattle.law_local.specs.Tries.Replies.{IsTrueReply}
 use Rattle.law_local.specs.Tries.TryRows.{MarksTell, NoneIsLater, NoneLaterPast, TryKnows, key_in}
-use Rattle.law_apart.specs.Apart.Rows.{TellsSharer, TryApart, VersionsFit}
+use Rattle.law_apart.specs.Apart.Rows.{TellsPhase, TellsSharer, TryApart, VersionsFit}
 
 -- a try begins so, if its request does
 abbrev pub TriesBeginApart : Type 0
@@ -21,7 +21,7 @@ TriesBeginApart = (home : ℕ → ℕ) (log : Log) (p : Places) (bits : ℕ) (re
 
 -- each true reply leads it on
 abbrev pub TriesLeadApart : Type 0
-TriesLeadApart = (home : ℕ → ℕ) (log : Log) (p : Places) (room : ℕ) (t : TryState) (reply : ℕ) → IsOrderly home log → VersionsFall log.cells (log.chains (home (key_in t.request))) → VersionsFit log → TellsSharer home log p t reply
+TriesLeadApart = (home : ℕ → ℕ) (log : Log) (p : Places) (room : ℕ) (t : TryState) (reply : ℕ) → IsOrderly home log → VersionsFall log.cells (log.chains (home (key_in t.request))) → VersionsFit log → TellsSharer home log p t reply → TellsPhase home log t reply
     → TryKnows home log t → IsTrueReply home log p t t.step reply → TryApart home log t → TryApart home log (try_next p room t reply)
 
 -- one that meets a record which its session may change knows that record's version by its mark

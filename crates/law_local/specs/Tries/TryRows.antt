@@ -21,7 +21,7 @@ use Rattle.fkv_ops.specs.declared.requests.Seen.{Seen}
 use Rattle.fkv_ops.specs.declared.trying.OldValue.{OldValue}
 use Rattle.fkv_ops.specs.declared.trying.OldValue.TheVariants.{InMemory, Known}
 use Rattle.fkv_ops.specs.declared.trying.Trying.{Trying}
-use Rattle.fkv_ops.specs.declared.trying.Trying.TheVariants.{Ended, TakesShared, Walks, LoadsSafe, SwapsValue, LoadsCurrent, ChangesValue, LoadsAnswer, TakesExclusive, LoadsOld, Appends, DropsExclusive, DropsShared}
+use Rattle.fkv_ops.specs.declared.trying.Trying.TheVariants.{Ended, TakesShared, LoadsPhase, Walks, LoadsSafe, SwapsValue, LoadsCurrent, ChangesValue, LoadsAnswer, TakesExclusive, LoadsOld, Appends, DropsExclusive, DropsShared}
 use Rattle.fkv_ops.specs.declared.walking.Walking.TheVariants.{HasFound}
 use Rattle.fkv_ops.specs.Requests.{is_read, is_blind}
 use Rattle.fkv_ops.specs.Values.{value_of}
@@ -149,6 +149,7 @@ MarksTell log p t reply =
 abbrev pub TryRow : (ℕ → ℕ) → Log → TryState → Trying → Type 0
 TryRow home log t (Ended its) = AnswerKnows home log t.request t.seen its
 TryRow home log t TakesShared = IsUpdate t.request
+TryRow home log t LoadsPhase = IsUpdate t.request
 TryRow home log t Walks = IsWalkFor t.request t.seen t.walk × WalkKnows home log t.walk
 TryRow home log t (LoadsSafe addr version) = IsUpdate t.request × StandsAt home log t.request t.seen t.walk addr version
 TryRow home log t (SwapsValue addr) = IsUpdate t.request × (is_blind t.request.op ≡ true) × MayChange home log t.request t.seen (begin_of t.walk) addr.0

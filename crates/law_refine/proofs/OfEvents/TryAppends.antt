@@ -8,6 +8,8 @@ use Rattle.fkv_marks.specs.Marks.{mark}
 use Rattle.fkv_map.specs.declared.operations.Reply.{Reply}
 use Rattle.fkv_map.specs.Map.{absent_word}
 use Rattle.fkv_map.specs.Keys.{key_of, reply_from}
+use Rattle.fkv_words.specs.declared.phase_words.PhaseSaid.{PhaseSaid}
+use Rattle.fkv_words.specs.PhaseWords.{phase_said}
 use Rattle.fkv_plane.specs.declared.asks.Ask.{Ask}
 use Rattle.fkv_plane.specs.declared.asks.Ask.TheVariants.{Done}
 use Rattle.fkv_plane.specs.declared.places.Places.{Places}
@@ -42,14 +44,14 @@ use Rattle.law_world.specs.Below.fkv_ops.Seen.{Seen}
 use Rattle.law_world.specs.Below.fkv_ops.OldValue.{OldValue}
 use Rattle.law_world.specs.Below.fkv_ops.OldValue.TheVariants.{InMemory, Known}
 use Rattle.law_world.specs.Below.fkv_ops.TheTrying.{Trying}
-use Rattle.law_world.specs.Below.fkv_ops.TheTrying.TheVariants.{Ended, TakesShared, Walks, LoadsSafe, SwapsValue, LoadsCurrent, ChangesValue, LoadsAnswer, TakesExclusive, LoadsOld, Appends, DropsExclusive, DropsShared}
+use Rattle.law_world.specs.Below.fkv_ops.TheTrying.TheVariants.{Ended, TakesShared, LoadsPhase, Walks, LoadsSafe, SwapsValue, LoadsCurrent, ChangesValue, LoadsAnswer, TakesExclusive, LoadsOld, Appends, DropsExclusive, DropsShared}
 use Rattle.law_world.specs.Below.fkv_ops.WalkAnswer.{WalkAnswer}
 use Rattle.law_world.specs.Below.fkv_ops.WalkAnswer.TheVariants as walk
 use Rattle.law_world.specs.Below.fkv_ops.Requests.{is_read, is_blind}
 use Rattle.law_world.specs.Below.fkv_ops.Values.{value_of}
 use Rattle.law_world.specs.Below.fkv_ops.Walking.{walk_on}
 use Rattle.law_world.specs.Below.fkv_ops.Appending.{AppendState, append_ended, append_ask, append_next, reserve_ledto, fill_ledto, publish_ledto, invalidate_ledto, appending_next}
-use Rattle.law_world.specs.Below.fkv_ops.Trying.{TryState, with_latch, is_wait, ended_without, ends, takes_effect, full_at, wants_shared, walks, try_begun, shared_ledto, must_shift, wants_exclusive, appends, copies_from, copies, awaits, held_used, changes, is_own_version, region_met, walked, has_walked, walk_ledto, safe_loaded, current_ledto, value_changed, told_value, answer_ledto, exclusive_ledto, old_ledto, append_ledto, exclusive_dropped, shared_dropped, trying_next, try_next, new_try}
+use Rattle.law_world.specs.Below.fkv_ops.Trying.{TryState, with_latch, is_wait, ended_without, ends, takes_effect, full_at, wants_shared, walks, try_begun, shared_ledto, must_shift, wants_exclusive, appends, copies_from, copies, awaits, held_used, changes, is_own_version, region_met, walked, has_walked, walk_ledto, safe_loaded, current_ledto, value_changed, told_value, answer_ledto, exclusive_ledto, old_ledto, append_ledto, exclusive_dropped, shared_dropped, trying_next, try_next, new_try, is_next_marked, is_still_in, phase_loaded, is_surely_own}
 
 -- ---- an append
 -- by its control state: the address fits an entry, and the publish swaps in a word with it
@@ -198,9 +200,13 @@ stays_at request t step at its e = record { same = e; knows = subst (KnowsAt req
 
 shared_at : (p : Places) (request : Request) (t : TryState) (ask : Ask LatchAnswer) → t.step ≡ TakesShared → t.request ≡ request → IsTryAt request (shared_ledto p t ask)
 unfolding shared_ledto
-shared_at p request t (Done latch.Taken) at e = record { same = e; knows = tt }
+shared_at p request t (Done latch.Taken) at e = either_at (is_next_marked t.request.version) request (record t { has_shared = true; step = LoadsPhase }) (walks p (record t { has_shared = true })) (record { same = e; knows = tt }) (record { same = e; knows = tt })
 shared_at p request t (Done told) at e = ends_at p request t answer.Shift e
 shared_at p request t ask at e = stays_at request t TakesShared at tt e
+
+phase_at : (p : Places) (request : Request) (t : TryState) (said : PhaseSaid) → t.request ≡ request → IsTryAt request (phase_loaded p t said)
+unfolding phase_loaded
+phase_at p request t said e = either_at (is_still_in said t.request.version) request (walks p t) (ends p t answer.Shift) (record { same = e; knows = tt }) (ends_at p request t answer.Shift e)
 
 walk_at : (p : Places) (request : Request) (t : TryState) (ask : Ask WalkAnswer) → t.step ≡ Walks → t.request ≡ request → IsTryAt request (walk_ledto p t ask)
 unfolding walk_ledto
@@ -211,7 +217,7 @@ walk_at p request t ask at e = stays_at request t Walks at tt e
 
 safe_at : (p : Places) (request : Request) (t : TryState) (addr : Addr) (found : Version) (safe : ℕ) → t.request ≡ request → IsTryAt request (safe_loaded p t addr found safe)
 safe_at p request t addr found safe e =
-    either_at (nat_le safe addr.0) request (ends p t (answer.Wait reason.Fuzzy)) (copies p t InMemory (is_own_version t found)) (ends_at p request t (answer.Wait reason.Fuzzy) e) (copies_at p request t InMemory (is_own_version t found) e)
+    either_at (nat_le safe addr.0) request (ends p t (answer.Wait reason.Fuzzy)) (copies p t InMemory (is_surely_own t found)) (ends_at p request t (answer.Wait reason.Fuzzy) e) (copies_at p request t InMemory (is_surely_own t found) e)
 
 current_at : (p : Places) (request : Request) (t : TryState) (addr : Addr) (ask : Ask WalkAnswer) → t.step ≡ LoadsCurrent addr → t.request ≡ request → IsTryAt request (current_ledto p t addr ask)
 unfolding current_ledto
@@ -264,6 +270,7 @@ step_at : (p : Places) (room : ℕ) (request : Request) (t : TryState) (step : T
 unfolding trying_next
 step_at p room request t (Ended end) reply at so e = stays_at request t (Ended end) at tt e
 step_at p room request t TakesShared reply at so e = shared_at p request _ _ at e
+step_at p room request t LoadsPhase reply at so e = phase_at p request t (phase_said reply) e
 step_at p room request t Walks reply at so e = walk_at p request _ _ at e
 step_at p room request t (LoadsSafe addr found) reply at so e = safe_at p request t addr found reply e
 step_at p room request t (SwapsValue addr) reply at so e = takes_at p request t _ e

@@ -12,6 +12,8 @@ use Rattle.fkv_map.specs.declared.operations.Reply.{Reply}
 use Rattle.fkv_map.specs.Map.{absent_word}
 use Rattle.fkv_map.specs.Keys.{key_of, value_applied, reply_from}
 use Rattle.law_log.specs.Ghosts.{GhostEvent, Changes, Reserves as TakesAddr, Drops}
+use Rattle.fkv_words.specs.declared.phase_words.PhaseSaid.{PhaseSaid}
+use Rattle.fkv_words.specs.PhaseWords.{phase_said}
 use Rattle.fkv_plane.specs.declared.asks.Ask.{Ask}
 use Rattle.fkv_plane.specs.declared.asks.Ask.TheVariants.{Load, Store, Swap, Cas, Add, Max, Put, Take, Done}
 use Rattle.fkv_plane.specs.declared.places.RecordWord.TheVariants as rec
@@ -37,14 +39,14 @@ use Rattle.law_world.specs.Below.fkv_ops.Request.{Request}
 use Rattle.law_world.specs.Below.fkv_ops.OldValue.{OldValue}
 use Rattle.law_world.specs.Below.fkv_ops.OldValue.TheVariants.{InMemory, Known}
 use Rattle.law_world.specs.Below.fkv_ops.TheTrying.{Trying}
-use Rattle.law_world.specs.Below.fkv_ops.TheTrying.TheVariants.{Ended, TakesShared, Walks, LoadsSafe, SwapsValue, LoadsCurrent, ChangesValue, LoadsAnswer, TakesExclusive, LoadsOld, Appends, DropsExclusive, DropsShared}
+use Rattle.law_world.specs.Below.fkv_ops.TheTrying.TheVariants.{Ended, TakesShared, LoadsPhase, Walks, LoadsSafe, SwapsValue, LoadsCurrent, ChangesValue, LoadsAnswer, TakesExclusive, LoadsOld, Appends, DropsExclusive, DropsShared}
 use Rattle.law_world.specs.Below.fkv_ops.WalkAnswer.{WalkAnswer}
 use Rattle.law_world.specs.Below.fkv_ops.WalkAnswer.TheVariants as walk
 use Rattle.law_world.specs.Below.fkv_ops.Requests.{is_read, is_blind}
 use Rattle.law_world.specs.Below.fkv_ops.Values.{value_of, word_of}
 use Rattle.law_world.specs.Below.fkv_ops.Walking.{WalkState, walk_ask, walk_next, walk_on}
 use Rattle.law_world.specs.Below.fkv_ops.Appending.{AppendState, append_ask, append_next, append_ended, appending_ask, reserve_ledto, fill_ledto, publish_ledto, invalidate_ledto, appending_next}
-use Rattle.law_world.specs.Below.fkv_ops.Trying.{TryState, with_latch, is_wait, ended_without, ends, takes_effect, full_at, shared_ledto, must_shift, wants_exclusive, appends, copies_from, copies, awaits, held_used, met_nowhere, met_disk, changes, is_own_version, region_met, met_record, walked, has_walked, walk_ledto, safe_loaded, current_ledto, told_value, answer_ledto, exclusive_ledto, old_ledto, append_ledto, exclusive_dropped, shared_dropped, latch_moved, walk_moved, trying_ask, try_ask, trying_next, try_next}
+use Rattle.law_world.specs.Below.fkv_ops.Trying.{TryState, with_latch, is_wait, ended_without, ends, takes_effect, full_at, shared_ledto, must_shift, wants_exclusive, appends, copies_from, copies, awaits, held_used, met_nowhere, met_disk, changes, is_own_version, region_met, met_record, walked, has_walked, walk_ledto, safe_loaded, current_ledto, told_value, answer_ledto, exclusive_ledto, old_ledto, append_ledto, exclusive_dropped, shared_dropped, latch_moved, walk_moved, trying_ask, try_ask, trying_next, try_next, is_next_marked, is_still_in, phase_loaded, is_surely_own, walks}
 use Rattle.law_world.proofs.Below.fkv_ops.Shown.{is_append_end, TryRestsOrAsks, IsAppendUnderWay}
 use Rattle.law_world.specs.Below.fkv_pending.PendingRequest.{PendingRequest}
 use Rattle.law_world.specs.Below.fkv_log.ReserveAnswer.{ReserveAnswer}
@@ -248,9 +250,13 @@ walked_keeps p t walk.Contended = ends_keeps p t (answer.Wait reason.Contended)
 
 shared_keeps : (p : Places) (t : TryState) (ask : Ask LatchAnswer) → (shared_ledto p t ask).effect ≡ t.effect
 unfolding shared_ledto
-shared_keeps p t (Done latch.Taken) = refl
+shared_keeps p t (Done latch.Taken) = either_keeps (is_next_marked t.request.version) (record t { has_shared = true; step = LoadsPhase }) (walks p (record t { has_shared = true })) t.effect refl refl
 shared_keeps p t (Done its) = ends_keeps p t answer.Shift
 shared_keeps p t ask = refl
+
+phase_keeps : (p : Places) (t : TryState) (said : PhaseSaid) → (phase_loaded p t said).effect ≡ t.effect
+unfolding phase_loaded
+phase_keeps p t said = either_keeps (is_still_in said t.request.version) (walks p t) (ends p t answer.Shift) t.effect refl (ends_keeps p t answer.Shift)
 
 walk_keeps : (p : Places) (t : TryState) (ask : Ask WalkAnswer) → (walk_ledto p t ask).effect ≡ t.effect
 unfolding walk_ledto
@@ -261,7 +267,7 @@ walk_keeps p t ask = refl
 
 safe_keeps : (p : Places) (t : TryState) (addr : Addr) (version : Version) (safe : ℕ) → (safe_loaded p t addr version safe).effect ≡ t.effect
 safe_keeps p t addr version safe =
-    either_keeps (nat_le safe addr.0) (ends p t (answer.Wait reason.Fuzzy)) (copies p t InMemory (is_own_version t version)) t.effect (ends_keeps p t (answer.Wait reason.Fuzzy)) (copies_keeps p t InMemory (is_own_version t version))
+    either_keeps (nat_le safe addr.0) (ends p t (answer.Wait reason.Fuzzy)) (copies p t InMemory (is_surely_own t version)) t.effect (ends_keeps p t (answer.Wait reason.Fuzzy)) (copies_keeps p t InMemory (is_surely_own t version))
 
 current_keeps : (p : Places) (t : TryState) (addr : Addr) (ask : Ask WalkAnswer) → (current_ledto p t addr ask).effect ≡ t.effect
 unfolding current_ledto
@@ -349,6 +355,7 @@ trying_takes : (p : Places) (room session reader : ℕ) (pending : PendingReques
 unfolding trying_next trying_ask
 trying_takes p room session reader pending t (Ended its) reply at rests same so = Quietly [] tt
 trying_takes p room session reader pending t TakesShared reply at rests same so = quiet session pending _ [] _ tt (shared_keeps p (latch_moved (record t { effect = None }) reply) (latch_next_ask t.latching reply))
+trying_takes p room session reader pending t LoadsPhase reply at rests same so = quiet session pending _ [] _ tt (phase_keeps p (record t { effect = None }) (phase_said reply))
 trying_takes p room session reader pending t Walks reply at rests same so =
     quiet session pending _ (search_ghosts p pending.request.op reader t.walk reply) _ (search_quiet p pending.request.op reader t.walk reply) (walk_keeps p (walk_moved p (record t { effect = None }) reply) (walk_ask p (walk_next p t.walk reply)))
 trying_takes p room session reader pending t (LoadsSafe addr version) reply at rests same so = quiet session pending _ [] _ tt (safe_keeps p (record t { effect = None }) addr version reply)

@@ -7,6 +7,8 @@ use Rattle.fkv_map.specs.declared.operations.Reply.{Reply}
 use Rattle.fkv_map.specs.Map.{absent_word}
 use Rattle.fkv_map.specs.Keys.{key_of, reply_from}
 use Rattle.law_log.specs.Ghosts.{GhostEvent, Changes}
+use Rattle.fkv_words.specs.declared.phase_words.PhaseSaid.{PhaseSaid}
+use Rattle.fkv_words.specs.PhaseWords.{phase_said}
 use Rattle.fkv_plane.specs.declared.asks.Ask.{Ask}
 use Rattle.fkv_plane.specs.declared.asks.Ask.TheVariants.{Done}
 use Rattle.fkv_plane.specs.declared.places.Places.{Places}
@@ -33,14 +35,14 @@ use Rattle.law_world.specs.Below.fkv_ops.Seen.{Seen}
 use Rattle.law_world.specs.Below.fkv_ops.OldValue.{OldValue}
 use Rattle.law_world.specs.Below.fkv_ops.OldValue.TheVariants.{InMemory, Known}
 use Rattle.law_world.specs.Below.fkv_ops.TheTrying.{Trying}
-use Rattle.law_world.specs.Below.fkv_ops.TheTrying.TheVariants.{Ended, TakesShared, Walks, LoadsSafe, SwapsValue, LoadsCurrent, ChangesValue, LoadsAnswer, TakesExclusive, LoadsOld, Appends, DropsExclusive, DropsShared}
+use Rattle.law_world.specs.Below.fkv_ops.TheTrying.TheVariants.{Ended, TakesShared, LoadsPhase, Walks, LoadsSafe, SwapsValue, LoadsCurrent, ChangesValue, LoadsAnswer, TakesExclusive, LoadsOld, Appends, DropsExclusive, DropsShared}
 use Rattle.law_world.specs.Below.fkv_ops.WalkAnswer.{WalkAnswer}
 use Rattle.law_world.specs.Below.fkv_ops.WalkAnswer.TheVariants as walk
 use Rattle.law_world.specs.Below.fkv_ops.Requests.{is_read, is_blind}
 use Rattle.law_world.specs.Below.fkv_ops.Values.{value_of}
 use Rattle.law_world.specs.Below.fkv_ops.Walking.{walk_ask, walk_next, walk_on}
 use Rattle.law_world.specs.Below.fkv_ops.Appending.{AppendState, append_ask, append_next}
-use Rattle.law_world.specs.Below.fkv_ops.Trying.{TryState, with_latch, is_wait, ended_without, ends, takes_effect, full_at, walks, wants_shared, try_begun, shared_ledto, must_shift, wants_exclusive, appends, copies_from, copies, awaits, held_used, met_nowhere, met_disk, changes, is_own_version, region_met, met_record, walked, has_walked, walk_ledto, safe_loaded, current_ledto, value_changed, told_value, answer_ledto, exclusive_ledto, old_ledto, append_ledto, exclusive_dropped, shared_dropped, latch_moved, walk_moved, trying_ask, trying_next, try_ask, try_next, new_try}
+use Rattle.law_world.specs.Below.fkv_ops.Trying.{TryState, with_latch, is_wait, ended_without, ends, takes_effect, full_at, walks, wants_shared, try_begun, shared_ledto, must_shift, wants_exclusive, appends, copies_from, copies, awaits, held_used, met_nowhere, met_disk, changes, is_own_version, region_met, met_record, walked, has_walked, walk_ledto, safe_loaded, current_ledto, value_changed, told_value, answer_ledto, exclusive_ledto, old_ledto, append_ledto, exclusive_dropped, shared_dropped, latch_moved, walk_moved, trying_ask, trying_next, try_ask, try_next, new_try, is_next_marked, is_still_in, phase_loaded, is_surely_own}
 use Rattle.law_world.proofs.Below.fkv_ops.Shown.{is_append_end, append_done, append_rests, TryRestsOrAsks, IsAppendUnderWay}
 use Rattle.law_world.specs.Below.fkv_pending.PendingRequest.{PendingRequest}
 use Rattle.law_refine.specs.Events.Appends.{entry_made, append_ghosts, NewRecord, new_record}
@@ -130,9 +132,13 @@ stays_free t step at free = λ session pending. ap (try_reserves session pending
 
 shared_free : (p : Places) (t : TryState) (ask : Ask LatchAnswer) → t.step ≡ TakesShared → IsFree (shared_ledto p t ask)
 unfolding shared_ledto
-shared_free p t (Done latch.Taken) at = λ session pending. refl
+shared_free p t (Done latch.Taken) at = either_free (is_next_marked t.request.version) (record t { has_shared = true; step = LoadsPhase }) (walks p (record t { has_shared = true })) (λ session pending. refl) (λ session pending. refl)
 shared_free p t (Done its) at = ends_free p t answer.Shift
 shared_free p t ask at = stays_free t TakesShared at (λ session pending. refl)
+
+phase_free : (p : Places) (t : TryState) (said : PhaseSaid) → IsFree (phase_loaded p t said)
+unfolding phase_loaded
+phase_free p t said = either_free (is_still_in said t.request.version) (walks p t) (ends p t answer.Shift) (λ session pending. refl) (ends_free p t answer.Shift)
 
 walk_free : (p : Places) (t : TryState) (ask : Ask WalkAnswer) → t.step ≡ Walks → IsFree (walk_ledto p t ask)
 unfolding walk_ledto
@@ -143,7 +149,7 @@ walk_free p t ask at = stays_free t Walks at (λ session pending. refl)
 
 safe_free : (p : Places) (t : TryState) (addr : Addr) (version : Version) (safe : ℕ) → IsFree (safe_loaded p t addr version safe)
 safe_free p t addr version safe =
-    either_free (nat_le safe addr.0) (ends p t (answer.Wait reason.Fuzzy)) (copies p t InMemory (is_own_version t version)) (ends_free p t (answer.Wait reason.Fuzzy)) (copies_free p t InMemory (is_own_version t version))
+    either_free (nat_le safe addr.0) (ends p t (answer.Wait reason.Fuzzy)) (copies p t InMemory (is_surely_own t version)) (ends_free p t (answer.Wait reason.Fuzzy)) (copies_free p t InMemory (is_surely_own t version))
 
 current_free : (p : Places) (t : TryState) (addr : Addr) (ask : Ask WalkAnswer) → t.step ≡ LoadsCurrent addr → IsFree (current_ledto p t addr ask)
 unfolding current_ledto
@@ -223,6 +229,7 @@ trying_on : (p : Places) (room session reader : ℕ) (pending : PendingRequest) 
 unfolding trying_next trying_ask
 trying_on p room session reader pending t (Ended its) reply at rests = rw at (Keeps [] None tt)
 trying_on p room session reader pending t TakesShared reply at rests = free_on _ _ reply session pending [] (trying_next p room (record t { effect = None }) TakesShared reply) tt (shared_free p (latch_moved (record t { effect = None }) reply) (latch_next_ask t.latching reply) at)
+trying_on p room session reader pending t LoadsPhase reply at rests = free_on _ _ reply session pending [] (trying_next p room (record t { effect = None }) LoadsPhase reply) tt (phase_free p (record t { effect = None }) (phase_said reply))
 trying_on p room session reader pending t Walks reply at rests = free_on _ _ reply session pending (search_ghosts p pending.request.op reader t.walk reply) (trying_next p room (record t { effect = None }) Walks reply) (search_all AreStill tt reader (tt, tt) p pending.request.op t.walk reply)
     (walk_free p (walk_moved p (record t { effect = None }) reply) (walk_ask p (walk_next p t.walk reply)) at)
 trying_on p room session reader pending t (LoadsSafe addr version) reply at rests = free_on _ _ reply session pending [] (trying_next p room (record t { effect = None }) (LoadsSafe addr version) reply) tt (safe_free p (record t { effect = None }) addr version reply)
