@@ -85,7 +85,7 @@ use Rattle.law_order.specs.Known.Knows.{AllKnowBehind}
 use Rattle.law_order.specs.Known.Told.{AreToldTruly, reply_in}
 use Rattle.law_order.proofs.OfApart.Heart.{became, try_in}
 use Rattle.law_order.proofs.OfApart.Moments.{attempt_prepared, awake}
-use Rattle.law_order.proofs.OfApart.Newest.{held, same_seen, shares, tells, trial_apart, version_low, versions_fit}
+use Rattle.law_order.proofs.OfApart.Newest.{held, same_seen, shares, tells, trial_apart, version_low}
 use Rattle.law_order.proofs.OfShifts.Catches.{HasPassed, SaysElse, loads_next}
 use Rattle.law_order.proofs.OfShifts.Sessions.{Come, RepliesSo}
 use Rattle.law_order.proofs.OfShifts.Tries.{ShiftsBy}
@@ -252,7 +252,7 @@ module _ (given : Given) (life : BegunLife) (apart : OpensApart life) (before : 
     walk_never : t.step ≡ Walks → must_shift (record t { walk = walk_next N.places t.walk reply }) ≡ true → (is_prepare s.seen.phase ≡ true → is_read t.request.op ≡ false → t.request.has_latch ≡ true) → ⊥
     walk_never at must came =
         let so = shift_so (is_prepare t.seen.phase) (is_read t.request.op) (is_above (walk_next N.places t.walk reply).first t.request.version) must in
-        let stays = came_stays H L N.places t reply (versions_fit given life apart before enabled) row.knows its_apart at (shared at so.0 so.1) (came (prepares_so so.0) so.1) in
+        let stays = came_stays H L N.places t reply row.knows its_apart at (shared at so.0 so.1) (came (prepares_so so.0) so.1) in
         clash (must_shift (record t { walk = walk_next N.places t.walk reply })) must stays
 
     -- ---- where a share meets bit 63
