@@ -366,11 +366,11 @@ module _ (home : ℕ → ℕ) (log : Log) (p : Places) where
       begins : (w.first ≡ None) × (w.finding.step ≡ find.AtRest → ⊥) × (is_linking w.finding ≡ false)
       begins = (refl, rested_step, unlinked)
 
-  latch_apart : (t : TryState) → is_prepare t.seen.phase ≡ true → t.request.has_latch ≡ false → Apart (latch_shared p t)
-  latch_apart t prepares without = by_mark (is_next_marked t.request.version) refl
+  latch_apart : (t : TryState) → is_prepare t.seen.phase ≡ true → t.has_shared ≡ true → t.request.has_latch ≡ false → Apart (latch_shared p t)
+  latch_apart t prepares has_share without = by_mark (is_next_marked t.request.version) refl
     where
       by_mark : (b : Bool) → is_next_marked t.request.version ≡ b → Apart (if b then record t { step = LoadsPhase } else walks p t)
-      by_mark true e = record { latch = without; shares = λ has. tt; copies = tt }
+      by_mark true e = record { latch = (prepares, has_share, without); shares = λ has. tt; copies = tt }
       by_mark false e = walks_apart t (λ has. inr (prepares, without, e))
 
   -- the phase word tells that none is later, and the share keeps it so
@@ -384,7 +384,7 @@ module _ (home : ℕ → ℕ) (log : Log) (p : Places) where
 
   shared_apart : (t : TryState) (ask : Ask LatchAnswer) → t.step ≡ TakesShared → (is_prepare t.seen.phase ≡ true) × (t.has_shared ≡ false) × (t.request.has_latch ≡ false) → Apart (shared_ledto p t ask)
   unfolding shared_ledto
-  shared_apart t (Done latch.Taken) at takes = latch_apart (record t { has_shared = true }) takes.0 takes.2
+  shared_apart t (Done latch.Taken) at takes = latch_apart (record t { has_shared = true }) takes.0 refl takes.2
   shared_apart t (Done its) at takes = ends_apart t answer.Shift (λ (wait : false ≡ true). cc)
   shared_apart t ask at takes = record {
     latch = subst (LatchRow t) (sym at) takes;

@@ -162,7 +162,7 @@ IsDropping step = ⊥
 
 abbrev pub LatchRow : TryState → Trying → Type 0
 LatchRow t TakesShared = (is_prepare t.seen.phase ≡ true) × (t.has_shared ≡ false) × (t.request.has_latch ≡ false)
-LatchRow t LoadsPhase = t.request.has_latch ≡ false
+LatchRow t LoadsPhase = (is_prepare t.seen.phase ≡ true) × (t.has_shared ≡ true) × (t.request.has_latch ≡ false)
 LatchRow t (DropsExclusive its) = IsDropping t.latching
 LatchRow t step = ⊤
 

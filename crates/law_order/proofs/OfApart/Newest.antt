@@ -4,9 +4,14 @@ use Rattle.std.specs.Prelude.{◌==◌, nat_le, nat_lt, slice_get, if◌then◌e
 use Rattle.std.proofs.lemmas.Bool.Decides.{nat_tests}
 use Rattle.fkv_base.specs.declared.numbers.Version.{Version}
 use Rattle.fkv_base.specs.declared.phases.Phase.{Phase}
+use Rattle.fkv_base.specs.declared.phases.Phase.TheVariants.{InProgress, Prepare, Rest, WaitFlush, WaitPending}
 use Rattle.fkv_plane.specs.Places.{shared_place}
 use Rattle.fkv_plane.specs.Asked.{word_at}
 use Rattle.fkv_plane.specs.declared.places.SharedWord.TheVariants as one
+use Rattle.fkv_plane.specs.Passing.{passed}
+use Rattle.fkv_words.specs.PhaseWords.{phase_said}
+use Rattle.fkv_words.specs.declared.phase_words.PhaseSaid.{PhaseSaid}
+use Rattle.fkv_words.specs.declared.phase_words.PhaseSaid.TheVariants.{Says, Spoiled}
 use Rattle.fkv_index.specs.declared.finding.FindAnswer.{FindAnswer}
 use Rattle.fkv_index.specs.declared.finding.FindStep.{FindStep}
 use Rattle.fkv_index.specs.declared.finding.FindStep.TheVariants as find
@@ -25,27 +30,28 @@ use Rattle.fkv_map.specs.declared.operations.Op.TheVariants as operation
 use Rattle.fkv_map.specs.Keys.{key_of}
 use Rattle.law_commit.specs.Below.fkv_ops.Request.{Request}
 use Rattle.law_commit.specs.Below.fkv_ops.Seen.{Seen}
-use Rattle.law_commit.specs.Below.fkv_ops.TheTrying.TheVariants.{Walks}
+use Rattle.law_commit.specs.Below.fkv_ops.TheTrying.TheVariants.{LoadsPhase, Walks}
 use Rattle.law_commit.specs.Below.fkv_ops.TheWalking.TheVariants.{Finds}
 use Rattle.law_commit.specs.Below.fkv_ops.Requests.{is_read, purpose_of}
-use Rattle.law_commit.specs.Below.fkv_ops.Trying.{TryState, is_moving_on, is_prepare}
+use Rattle.law_commit.specs.Below.fkv_ops.Trying.{TryState, is_moving_on, is_prepare, is_still_in, trying_ask}
 use Rattle.law_commit.specs.Below.fkv_pending.TheAttempting.TheVariants.{Tries}
+use Rattle.law_commit.specs.Below.fkv_pending.Attempting.{attempting_ask}
 use Rattle.fkv_plane.specs.Asked.{reply_to}
 use Rattle.fkv_plane.proofs.Shown.{passed_reply}
 use Rattle.law_commit.specs.Below.fkv_session.Told.TheVariants.{Slept}
-use Rattle.fkv_plane.specs.declared.asks.Ask.TheVariants.{Done}
+use Rattle.fkv_plane.specs.declared.asks.Ask.TheVariants.{Done, Load}
 use Rattle.law_commit.specs.Below.fkv_session.Sitting.{Sitting}
 use Rattle.law_commit.specs.Below.fkv_session.Sitting.TheVariants.{Attempts, Polls}
-use Rattle.law_commit.specs.Below.fkv_session.Sessions.{SessionState}
+use Rattle.law_commit.specs.Below.fkv_session.Sessions.{Seat, SessionState, sitting_ask}
 use Rattle.law_commit.specs.Below.fkv_world.Opened.{HasBecome}
 use Rattle.law_commit.specs.Below.fkv_world.Runs.{run}
-use Rattle.law_commit.specs.Below.fkv_world.World.{Event, Now}
+use Rattle.law_commit.specs.Below.fkv_world.World.{Event, Now, seat_at}
 use Rattle.law_commit.proofs.Below.fkv_world.Shown.{shape_stays}
-use Rattle.law_apart.specs.Apart.Rows.{AttemptApart, IsLater, SearchTells, TellsApart, TellsSharer, TryApart, VersionsNear, has_linked, is_linking, is_lost}
+use Rattle.law_apart.specs.Apart.Rows.{AttemptApart, IsLater, SearchTells, TellsApart, TellsPhase, TellsSharer, TryApart, VersionsNear, has_linked, is_linking, is_lost}
 use Rattle.law_apart.proofs.OfApart.Links.{full_links}
 use Rattle.law_apart.proofs.OfApart.Tries.{marks_told, sharers_pass}
 use Rattle.law_opening.proofs.OfChanges.OfSessions.Attempting.{attempting_is}
-use Rattle.law_commit.specs.PhaseVersions.{phase_version}
+use Rattle.law_commit.specs.PhaseVersions.{phase_version, version_said}
 use Rattle.law_commit.specs.Shares.Tries.{SharesAttempting, SharesInHand, SharesSo, SharesTrying}
 use Rattle.law_commit.specs.Versions.Laws.{OpensWithLog}
 use Rattle.law_commit.specs.Versions.Cells.{made_in}
@@ -126,6 +132,22 @@ sitting_work : (s : SessionState) (step : Sitting) → is_attempting step ≡ tr
 sitting_work s (Attempts has_shifted) attempts tries walks finds = rw (tries, walks, finds) refl
 sitting_work s (Polls index) attempts tries walks finds = rw (tries, walks, finds) refl
 sitting_work s step attempts tries walks finds = cc
+
+-- ---- the phase word, where a try loads it behind its share
+pub asks_phase : (k : Seat) (s : SessionState) (step : Sitting) → is_attempting step ≡ true → s.attempt.step ≡ Tries → s.attempt.trial.step ≡ LoadsPhase → sitting_ask k s step ≡ Load (shared_place one.Phase)
+unfolding sitting_ask attempting_ask trying_ask passed
+asks_phase k s (Attempts has_shifted) attempts tries loads = rw (tries, loads) refl
+asks_phase k s (Polls index) attempts tries loads = rw (tries, loads) refl
+asks_phase k s step attempts tries loads = cc
+
+-- if it says prepare of this version, it says none above
+still_said : (said : PhaseSaid) (version : Version) → is_still_in said version ≡ true → version_said said ≤ version.0
+still_said Spoiled version still = cc
+still_said (Says Prepare its) version still = let same : its.0 ≡ version.0 = eqb-true its.0 version.0 still in omega (arith, same)
+still_said (Says Rest its) version still = cc
+still_said (Says InProgress its) version still = cc
+still_said (Says WaitPending its) version still = cc
+still_said (Says WaitFlush its) version still = cc
 
 module _ (given : Given) (life : BegunLife) (apart : OpensApart life) (before : List Event) (enabled : AreEnabled (home_of_world life.opening) life.ghosts (mapped life.opening before)) where
   abbrev N : Now
@@ -332,6 +354,11 @@ module _ (given : Given) (life : BegunLife) (apart : OpensApart life) (before : 
         by_op : (b : Bool) → is_read t.request.op ≡ b → TellsApart H L N.places t (reply_in N session s)
         by_op true read = let clash : true ≡ false = sym has ∙ (row.knows.free read).0 in cc
         by_op false update = record { above = above prepares update; in_ring = in_ring; search = search walks }
+
+    pub phase_tells : TellsPhase H L t (reply_in N session s)
+    phase_tells loads has still update =
+        let word : reply_in N session s ≡ word_at N.words (shared_place one.Phase) = ap (reply_to N.words) (asks_phase (seat_at N session) s s.step attempts tries loads) in
+        none_said (H (key_in t.request)) t.request.version.0 (still_said (phase_said (word_at N.words (shared_place one.Phase))) t.request.version (subst (λ (w : ℕ). is_still_in (phase_said w) t.request.version ≡ true) word still))
 
     -- ---- so one that passes its walk has none later
     pub passes : IsTrueReply H L N.places t t.step (reply_in N session s) → NoneLaterPast H L N.places t (reply_in N session s)
