@@ -1,9 +1,9 @@
 //! Commits moved by hand over plain words, of stores with up to two sessions, whose blocks begin at places 24 and 40.
 use crate::words::{make, new_words, store};
-use fkv_base::{Addr, CommitKind, Fault, LAST_EPOCH, Phase, Serial, Version};
+use fkv_base::{Addr, CommitKind, Fault, LAST_EPOCH, Phase, Serial, StoreClass, Version};
 use fkv_commit::{
     Commit, EnterAnswer, EnterWaitPending, FinishAnswer, FinishCommit, SeekAnswer, SeekPoints,
-    StartAnswer, StartCommit, WaitAnswer, WaitFlush, law_of_phases, law_of_points,
+    StartAnswer, StartAsked, StartCommit, WaitAnswer, WaitFlush, law_of_phases, law_of_points,
 };
 use fkv_plane::{Action, Ask, PlainWords};
 use std::alloc::Global;
@@ -164,6 +164,16 @@ const REFUSED: [Refusal<'static>; 7] = [
     },
 ];
 
+/// Of a specified store, whose log commits are all in the window.
+fn specified(kind: CommitKind, lost: usize) -> StartAsked {
+    StartAsked {
+        class: StoreClass::Specified,
+        kind,
+        lost,
+        checkpoint: Version(0),
+    }
+}
+
 /// Looks at the words at these places.
 fn has_words(rt: &impl Abort, plane: &PlainWords, words: &[(usize, u64)]) {
     for (place, word) in words {
@@ -172,8 +182,8 @@ fn has_words(rt: &impl Abort, plane: &PlainWords, words: &[(usize, u64)]) {
 }
 
 fn is_begun(rt: &impl Abort, plane: &mut PlainWords, start: &Start<'_>) {
-    let mut machine = StartCommit::new();
-    let mut ask = machine.start(start.kind, start.lost);
+    let mut machine = StartCommit::new(StoreClass::Specified);
+    let mut ask = machine.start(specified(start.kind, start.lost));
     for (number, wanted) in start.asks.iter().enumerate() {
         assert!(rt; ask == *wanted, "at ask {number}");
         assert!(rt; machine.ask() == *wanted);
@@ -190,9 +200,9 @@ fn begins(rt: &impl Abort, alloc: Global, start: &Start<'_>) -> Result<(), Fault
 }
 
 fn is_stopped(rt: &impl Abort, plane: &mut PlainWords, refusal: &Refusal<'_>) {
-    let mut machine = StartCommit::new();
+    let mut machine = StartCommit::new(StoreClass::Specified);
     assert!(rt; machine.ask() == Ask::Done(StartAnswer::Idle));
-    let mut ask = machine.start(refusal.kind, refusal.lost);
+    let mut ask = machine.start(specified(refusal.kind, refusal.lost));
     for _ in 0..refusal.after {
         assert!(rt; matches!(ask, Ask::Load(_)), "before {:?}", refusal.why);
         ask = machine.drive(make(plane, ask));

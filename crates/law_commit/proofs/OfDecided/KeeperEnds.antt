@@ -1,7 +1,6 @@
 -- What the keeper knows of the moments at which a commit's first address and its end were the tail; and that each of its steps keeps it.
 use Rattle.std.proofs.Common.{◌≡◌, ℕ, ◌+◌, ◌∙◌, List, [], ◌∷◌, ◌++◌, length, refl, ap, sym, subst, Bool, true, false}
 use Rattle.std.specs.Prelude.{⊤, nat_le, nat_lt, max, ◌==◌, if◌then◌else◌, Option, Some, None, ◌||◌, not}
-use Rattle.fkv_base.specs.Limits.{last_version}
 use Rattle.fkv_base.specs.declared.commits.CommitKind.{CommitKind}
 use Rattle.fkv_base.specs.declared.faults.Fault.TheVariants as fault
 use Rattle.fkv_base.specs.declared.numbers.Addr.{Addr}
@@ -38,7 +37,7 @@ use Rattle.law_refine.specs.Below.fkv_commit.Deferring.{defer_ask, defer_begun, 
 use Rattle.law_refine.specs.Below.fkv_commit.Entering.{enter_ask, enter_begun, enter_next}
 use Rattle.law_refine.specs.Below.fkv_commit.Finishing.{finish_ask, finish_next}
 use Rattle.law_refine.specs.Below.fkv_commit.Seeking.{SeekState, defer_led, owing_from, point_taken, with_point, points_from, seek_ask, seek_begun, seek_next, seeking_ask, seeking_next, slot_led}
-use Rattle.law_refine.specs.Below.fkv_commit.Starting.{StartState, defer_led as start_led, is_lost_full, phase_found, refused, seek_led, start_ask, start_begun, start_next, starting_ask, starting_next}
+use Rattle.law_refine.specs.Below.fkv_commit.Starting.{last_of, StartState, defer_led as start_led, is_lost_full, phase_found, refused, seek_led, start_ask, start_begun, start_next, starting_ask, starting_next}
 use Rattle.law_refine.specs.Below.fkv_commit.Waiting.{wait_ask, wait_begun, wait_next}
 use Rattle.law_refine.specs.Below.fkv_manifest.WriteAnswer.{WriteAnswer}
 use Rattle.law_refine.specs.Below.fkv_manifest.WriteAnswer.TheVariants as write
@@ -145,8 +144,8 @@ module _ (F : Version → Addr → Type 0) (E : Span → Type 0) where
 
   found_ends : (s : StartState) (said : PhaseSaid) → StartEnds (phase_found s said).step
   found_ends s (Says phase.Rest number) =
-      either_start (nat_le last_version number.0) (refused s fault.VersionsSpent) (if is_lost_full s.kind s.lost then refused s fault.LostFull else record s { defer = defer_begun s.defer; step = start.Seeks number }) tt
-      (either_start (is_lost_full s.kind s.lost) (refused s fault.LostFull) (record s { defer = defer_begun s.defer; step = start.Seeks number }) tt tt)
+      either_start (nat_le (last_of s.asked.class) number.0) (refused s fault.VersionsSpent) (if is_lost_full s.asked number.0 then refused s fault.LostFull else record s { defer = defer_begun s.defer; step = start.Seeks number }) tt
+      (either_start (is_lost_full s.asked number.0) (refused s fault.LostFull) (record s { defer = defer_begun s.defer; step = start.Seeks number }) tt tt)
   found_ends s (Says phase.Prepare number) = tt
   found_ends s (Says phase.InProgress number) = tt
   found_ends s (Says phase.WaitPending number) = tt

@@ -1,7 +1,6 @@
 -- What the keeper knows of the commit that it starts and has in hand, whatever is said of the commit's number.
 use Rattle.std.proofs.Common.{◌≡◌, inl, inr, ℕ, ◌∙◌, length, refl, ap, sym, subst, Bool, true, false}
 use Rattle.std.specs.Prelude.{⊤, nat_le, if◌then◌else◌, Option, Some, None}
-use Rattle.fkv_base.specs.Limits.{last_version}
 use Rattle.fkv_base.specs.declared.faults.Fault.TheVariants as fault
 use Rattle.fkv_base.specs.declared.numbers.Addr.{Addr}
 use Rattle.fkv_base.specs.declared.numbers.Version.{Version}
@@ -22,7 +21,7 @@ use Rattle.law_refine.specs.Below.fkv_commit.TheStarting.{Starting}
 use Rattle.law_refine.specs.Below.fkv_commit.TheStarting.TheVariants as start
 use Rattle.law_refine.specs.Below.fkv_commit.Commits.{commit_begun}
 use Rattle.law_refine.specs.Below.fkv_commit.Deferring.{defer_ask, defer_begun, defer_next}
-use Rattle.law_refine.specs.Below.fkv_commit.Starting.{StartState, defer_led, is_lost_full, phase_found, refused, seek_led, start_ask, start_begun, start_next, starting_ask, starting_next}
+use Rattle.law_refine.specs.Below.fkv_commit.Starting.{last_of, StartState, defer_led, is_lost_full, phase_found, refused, seek_led, start_ask, start_begun, start_next, starting_ask, starting_next}
 use Rattle.law_refine.specs.Below.fkv_keeper.KeeperTold.TheVariants.{CommitRefused, TurnRefused}
 use Rattle.law_refine.specs.Below.fkv_keeper.TheKeeping.{Keeping}
 use Rattle.law_refine.specs.Below.fkv_keeper.TheKeeping.TheVariants.{Ended, Starts, Maintains, LoadsPhase, Enters, Copies, Seeks, Waits, Writes, Finishes}
@@ -63,8 +62,8 @@ module _ (R : ℕ → Type 0) where
 
   found_says : (s : StartState) (said : PhaseSaid) → ((number : Version) → said ≡ Says phase.Rest number → R number.0) → StartSays (phase_found s said).step
   found_says s (Says phase.Rest number) on =
-      either_start (nat_le last_version number.0) (refused s fault.VersionsSpent) (if is_lost_full s.kind s.lost then refused s fault.LostFull else record s { defer = defer_begun s.defer; step = start.Seeks number }) tt
-      (either_start (is_lost_full s.kind s.lost) (refused s fault.LostFull) (record s { defer = defer_begun s.defer; step = start.Seeks number }) tt (on number refl))
+      either_start (nat_le (last_of s.asked.class) number.0) (refused s fault.VersionsSpent) (if is_lost_full s.asked number.0 then refused s fault.LostFull else record s { defer = defer_begun s.defer; step = start.Seeks number }) tt
+      (either_start (is_lost_full s.asked number.0) (refused s fault.LostFull) (record s { defer = defer_begun s.defer; step = start.Seeks number }) tt (on number refl))
   found_says s (Says phase.Prepare number) on = tt
   found_says s (Says phase.InProgress number) on = tt
   found_says s (Says phase.WaitPending number) on = tt
@@ -113,7 +112,7 @@ module _ (R : ℕ → Type 0) where
   starts_say : (s : KeeperState) (ask : Ask StartAnswer) → s.step ≡ Starts → start_ask s.start ≡ ask → HandSays s.commit → StartSays s.start.step → KeeperSays (start_ledto s ask)
   unfolding start_ledto
   starts_say s (Done (started.Begun number first)) at asks hand says = record {
-    hand = λ c is. let its = begun_says s.start s.start.step number first says asks in let same : commit_begun number s.start.kind first ≡ c = cc in subst (λ (x : Commit). R x.number.0) same its;
+    hand = λ c is. let its = begun_says s.start s.start.step number first says asks in let same : commit_begun number s.start.asked.kind first ≡ c = cc in subst (λ (x : Commit). R x.number.0) same its;
     step = tt;
   }
   starts_say s (Done (started.Refused why)) at asks hand says = record { hand = hand; step = tt }

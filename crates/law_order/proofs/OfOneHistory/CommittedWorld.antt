@@ -101,6 +101,7 @@ module _ (o : Opened) (new : IsNewStore shape o) where
         its_places = there.its_places;
         newest = sym finality_is;
         used = sym checkpoint_is;
+        class = was.class;
         in_hand = sym new.lost;
         its_sessions = two_sessions;
         sought = two_sessions;

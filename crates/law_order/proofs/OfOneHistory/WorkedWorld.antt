@@ -147,6 +147,7 @@ module _ (o : Opened) (new : IsNewStore shape o) where
         its_places = subst (λ (s : Shape). ArePlacesOfStore s places) (sym new.its_shape) places_fit;
         newest = was.newest;
         used = was.used;
+        class = was.class;
         in_hand = sym new.lost;
         its_sessions = was.its_sessions;
         sought = was.sought;

@@ -2,7 +2,6 @@
 use Rattle.std.proofs.Common.{◌≡◌, ◌≢◌, ℕ, ◌+◌, ◌<◌, refl, sym, subst, arith, List, [], ◌∷◌, ◌++◌, length, Bool, true, false}
 use Rattle.std.specs.Prelude.{not, if◌then◌else◌, ◌==◌, nat_lt, nat_le, max, ⊤}
 use Rattle.std.proofs.lemmas.Bool.Decides.{nat_tests}
-use Rattle.fkv_base.specs.Limits.{last_version}
 use Rattle.fkv_base.specs.declared.faults.Fault.TheVariants as fault
 use Rattle.fkv_base.specs.declared.numbers.Addr.{Addr}
 use Rattle.fkv_base.specs.declared.numbers.Serial.{Serial}
@@ -38,7 +37,7 @@ use Rattle.law_world.specs.Below.fkv_commit.Finishing.{FinishState, durable_from
 use Rattle.law_world.specs.Below.fkv_commit.Seeking as seeks
 use Rattle.law_world.specs.Below.fkv_commit.Seeking.{SeekState, owing_from, seek_begun, seeking_ask, seek_ask, points_from, point_taken, with_point, slot_led, cut_met, other_met, seeking_next, seek_next}
 use Rattle.law_world.specs.Below.fkv_commit.Starting as starts
-use Rattle.law_world.specs.Below.fkv_commit.Starting.{StartState, start_begun, is_lost_full, starting_ask, start_ask, refused, phase_found, starting_next, start_next}
+use Rattle.law_world.specs.Below.fkv_commit.Starting.{last_of, StartState, start_begun, is_lost_full, starting_ask, start_ask, refused, phase_found, starting_next, start_next}
 use Rattle.law_world.specs.Below.fkv_commit.Waiting.{WaitState, waiting_ask, wait_ask}
 use Rattle.law_refine.specs.Footprint.{Part, ThePhase, TheDurable, HasSeats, Spares}
 use Rattle.law_refine.proofs.Footprint.Latching.{passed_spares}
@@ -79,8 +78,8 @@ start_either false a b one other = other
 
 found_spares : (s : StartState) (said : PhaseSaid) → IsStartSparing (phase_found s said)
 found_spares s (Says phase.Rest number) =
-    start_either (nat_le last_version number.0) (refused s fault.VersionsSpent) _ tt
-    (start_either (is_lost_full s.kind s.lost) (refused s fault.LostFull) (record s { defer = defer_begun s.defer; step = starting.Seeks number }) tt (defer_begun_spares s.defer))
+    start_either (nat_le (last_of s.asked.class) number.0) (refused s fault.VersionsSpent) _ tt
+    (start_either (is_lost_full s.asked number.0) (refused s fault.LostFull) (record s { defer = defer_begun s.defer; step = starting.Seeks number }) tt (defer_begun_spares s.defer))
 found_spares s (Says phase.Prepare number) = tt
 found_spares s (Says phase.InProgress number) = tt
 found_spares s (Says phase.WaitPending number) = tt
