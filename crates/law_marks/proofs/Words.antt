@@ -1,5 +1,5 @@
 -- What words show of a version, and marks of it.
-use Rattle.std.proofs.Common.{◌≡◌, ℕ, ◌+◌, arith, ap, sym}
+use Rattle.std.proofs.Common.{◌≡◌, ℕ, ◌+◌, ◌<◌, arith, ap, sym}
 use Rattle.std.specs.Prelude.{◌*◌, ◌^◌, max, min}
 use Rattle.std.proofs.Math.Nat.{min-eq_left}
 use Rattle.fkv_marks.specs.Marks.{mark}
@@ -22,9 +22,9 @@ phases_show its version some low =
     let within : max (min version.0 max_version) 1 ≡ version.0 = omega (arith, some, low) in
     spelled_says (phase_stored its version) version.0 its (ap (λ (n : ℕ). phase_spelled n (phase_number its)) (sym within)) some low
 
+again : (version : ℕ) → 0 < version → mark (version + 8191) ≡ mark version
+unfolding mark
+again version some = omega (arith, some)
+
 pub come_again : MarksComeAgain
-come_again version some = (again, mark_some version some, omega (arith, mark_fits version))
-  where
-    again : mark (version + 8191) ≡ mark version
-    unfolding mark
-    again = omega (arith, some)
+come_again version some = (again version some, mark_some version some, omega (arith, mark_fits version))
