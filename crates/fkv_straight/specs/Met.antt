@@ -1,6 +1,6 @@
 -- Where a try stands on the ways of a straight call: along its bucket, along its chain, at the record that is changed, and at the record
 -- that is appended.
-use Rattle.std.specs.Prelude.{◌≡◌, ◌<◌, ◌≤◌, ◌&&◌, if◌then◌else◌, ℕ, true, false, Option, None}
+use Rattle.std.specs.Prelude.{◌≡◌, ◌<◌, ◌≤◌, ◌&&◌, not, if◌then◌else◌, ℕ, true, false, Option, None}
 use Rattle.fkv_base.specs.declared.numbers.Version.{Version}
 use Rattle.fkv_base.specs.Limits.{last_serial}
 use Rattle.fkv_map.specs.declared.operations.Call.{Call}

@@ -57,7 +57,10 @@ fn share<L: Line>(line: &mut L, going: &Going, op: Op, call: Call) -> bool
     let place = latch_of(going, op);
     let found = line.first_add(call, place, ONE_SHARE);
     let marked = is_next_marked(Version(going.version));
-    !marked && found < ALONE
+    if marked {
+        return false;
+    }
+    found < ALONE
 }
 
 /// Ends the call of an update that has changed its record: it drops its share.

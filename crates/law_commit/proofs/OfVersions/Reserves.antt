@@ -1,5 +1,5 @@
 -- In a life each address is taken for a record of the version of the request that is attempted, and a read takes none.
-use Rattle.std.proofs.Common.{◌≡◌, ℕ, List, [], ◌∷◌, ◌++◌, refl, sym, subst, Bool, true, false}
+use Rattle.std.proofs.Common.{◌≡◌, ℕ, List, [], ◌∷◌, ◌++◌, refl, subst, Bool, true, false}
 use Rattle.std.specs.Prelude.{map, slice_get, if◌then◌else◌, ◌==◌, Option, Some, None}
 use Rattle.fkv_map.specs.declared.operations.Op.{Op}
 use Rattle.fkv_map.specs.declared.operations.Op.TheVariants.{Read}

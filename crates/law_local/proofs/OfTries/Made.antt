@@ -1,5 +1,5 @@
 -- What a record is made of: the words that are written stand for what the operation makes, and a value that doesn't count may be any.
-use Rattle.std.proofs.Common.{◌≡◌, ◌≢◌, ℕ, ◌≤◌, ◌+◌, ◌∙◌, refl, sym, ap, subst, arith, Bool, true, false, Option, Some, None}
+use Rattle.std.proofs.Common.{◌≡◌, ◌≢◌, ℕ, ◌≤◌, ◌+◌, ◌∙◌, refl, sym, ap, arith, Bool, true, false, Option, Some, None}
 use Rattle.std.specs.Prelude.{◌==◌, if◌then◌else◌, min, max, IfSome}
 use Rattle.std.proofs.Math.Nat.{min-le_right}
 use Rattle.fkv_map.specs.declared.operations.Op.{Op}

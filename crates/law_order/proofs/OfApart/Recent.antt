@@ -1,5 +1,5 @@
 -- From the safe read-only offset on each record is of a later version than the newest finished commit: that one's end was flushed before it was written.
-use Rattle.std.proofs.Common.{◌≡◌, inl, inr, ℕ, ◌+◌, ◌≤◌, ◌∙◌, refl, sym, ap, subst, arith, Bool, true, false, List, [], ◌∷◌, ◌++◌}
+use Rattle.std.proofs.Common.{◌≡◌, inl, inr, ℕ, ◌≤◌, refl, sym, ap, subst, arith, Bool, true, false, List, [], ◌∷◌, ◌++◌}
 use Rattle.std.specs.Prelude.{Some}
 use Rattle.fkv_base.specs.declared.numbers.Version.{Version}
 use Rattle.law_commit.specs.Below.fkv_keeper.TheKeeping.{Keeping}

@@ -1,6 +1,6 @@
 -- The cut words, the owing words and the durable words of an opened store: they show the points of its newest commit, and that nothing is owed.
 use Rattle.std.proofs.Common.{◌≡◌, ◌∙◌, ap, sym, refl, subst, arith, ℕ, ◌+◌, ◌-◌, ◌*◌, ◌%◌, ◌^◌, ◌<◌, ◌≤◌, Bool, true, false, length, inl, inr}
-use Rattle.std.specs.Prelude.{◌==◌, if◌then◌else◌, min, nat_eq, Some, slice_get}
+use Rattle.std.specs.Prelude.{◌==◌, if◌then◌else◌, nat_eq, Some, slice_get}
 use Rattle.std.proofs.Math.Nat.{min-eq_left}
 use Rattle.std.proofs.lemmas.Bool.Decides.{nat_tests}
 use Rattle.std.proofs.lemmas.List.{get_or-map}

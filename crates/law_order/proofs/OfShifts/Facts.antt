@@ -1,6 +1,6 @@
 -- Where a try in prepare would shift, the phase word has come further. So a second attempt isn't in prepare, and one of a poll has come with its share.
 use Rattle.std.proofs.Common.{◌≡◌, ℕ, ◌+◌, ◌*◌, ◌^◌, ◌<◌, ◌≤◌, ◌∙◌, refl, sym, ap, subst, arith, List, Bool, true, false, inl, inr}
-use Rattle.std.specs.Prelude.{◌&&◌, Option, Some, None, not, slice_get}
+use Rattle.std.specs.Prelude.{◌==◌, ◌&&◌, Option, Some, None, not, slice_get}
 use Rattle.std.proofs.lemmas.Bool.Decides.{nat_tests}
 use Rattle.fkv_base.specs.declared.numbers.Version.{Version}
 use Rattle.fkv_base.specs.declared.phases.Phase.{Phase}

@@ -1,5 +1,5 @@
 -- What a try appends has the mark of its request's version, and is published by a word that carries the address which it has reserved, behind the record that was found.
-use Rattle.std.proofs.Common.{◌≡◌, ◌∙◌, ℕ, ◌^◌, ◌<◌, arith, refl, sym, ap, subst, Bool, true, false}
+use Rattle.std.proofs.Common.{◌≡◌, ℕ, ◌^◌, ◌<◌, arith, refl, sym, ap, subst, Bool, true, false}
 use Rattle.std.specs.Prelude.{◌==◌, ◌&&◌, not, nat_le, nat_lt, if◌then◌else◌, ⊤, Option, Some, None}
 use Rattle.std.proofs.lemmas.Bool.Decides.{nat_tests}
 use Rattle.fkv_base.specs.declared.numbers.Addr.{Addr}

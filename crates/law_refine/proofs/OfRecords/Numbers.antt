@@ -1,5 +1,5 @@
 -- Words say what was spelled in them: a header its record, and a value's word the value, where no operation brings the word for none.
-use Rattle.std.proofs.Common.{◌≡◌, ◌≢◌, ℕ, ◌+◌, ◌*◌, ◌<◌, ◌^◌, ◌%◌, ◌/◌, ◌∙◌, arith, refl, sym, ap, Bool, true, false, min, max}
+use Rattle.std.proofs.Common.{◌≡◌, ◌≢◌, ℕ, ◌+◌, ◌*◌, ◌<◌, ◌^◌, ◌%◌, ◌/◌, ◌∙◌, arith, refl, ap, Bool, true, false, min, max}
 use Rattle.std.specs.Prelude.{◌==◌, if◌then◌else◌, Option, Some, None, IfSome}
 use Rattle.std.proofs.lemmas.Bool.Decides.{nat_tests}
 use Rattle.fkv_marks.specs.Marks.{mark}
