@@ -49,7 +49,7 @@ use Rattle.law_refine.specs.Below.fkv_keeper.KeeperTold.TheVariants.{CommitRefus
 use Rattle.law_refine.specs.Below.fkv_keeper.TheKeeping.{Keeping}
 use Rattle.law_refine.specs.Below.fkv_keeper.TheKeeping.TheVariants.{Ended, Starts, Maintains, LoadsPhase, Enters, Copies, Seeks, Waits, Writes, Finishes}
 use Rattle.law_refine.specs.Below.fkv_keeper.KeeperRun.{is_in_hand}
-use Rattle.law_refine.specs.Below.fkv_keeper.Keeping.{KeeperState, commit_asked, copied, copies, copies_next, copy_driven, copy_ledto, ended, enter_ledto, finish_ledto, finished, keeping_called, keeping_given, keeping_next, maintain_ledto, part_begun, phase_ledto, points_known, seek_ledto, start_ledto, triples_written, turn_asked, turned, wait_ledto, write_ledto, writes_begun, writes_called, copy_taken, is_copy_resting, copy_told}
+use Rattle.law_refine.specs.Below.fkv_keeper.Keeping.{KeeperState, commit_asked, copied, copies, copies_next, copy_driven, copy_ledto, ended, enter_ledto, finish_ledto, finished, keeping_called, keeping_given, keeping_next, maintain_ledto, part_begun, phase_ledto, points_known, seek_ledto, start_ledto, triples_written, turn_asked, turned, wait_ledto, write_ledto, writes_begun, writes_called, copy_taken, is_copy_resting, copy_told, asked_for}
 use Rattle.law_refine.specs.Below.fkv_world.World.{keeper_asked}
 use Rattle.law_commit.specs.Decided.Ended.{Span, span_in}
 
@@ -443,7 +443,7 @@ module _ (F : Version → Addr → Type 0) (E : Span → Type 0) where
 
   commit_ends : (s : KeeperState) (kind : CommitKind) → (s.is_broken ≡ false → Hand s) → KeeperEnds (commit_asked s kind)
   commit_ends s kind hand =
-      either_ends s.is_broken (ended s (CommitRefused fault.Broken)) (record s { start = start_begun s.start kind (length s.lost); step = Starts }) (λ yes. hand) (λ no. (hand no, tt))
+      either_ends s.is_broken (ended s (CommitRefused fault.Broken)) (record s { start = start_begun s.start (asked_for s kind); step = Starts }) (λ yes. hand) (λ no. (hand no, tt))
 
   idle_hand : (s : KeeperState) (step : Keeping) → is_in_hand step ≡ false → KeepingEnds s step → s.is_broken ≡ false → Hand s
   idle_hand s (Ended told) idle its = its

@@ -1,5 +1,5 @@
 -- What the keeper knows of the commit that it starts and has in hand, whatever is said of the commit's number.
-use Rattle.std.proofs.Common.{◌≡◌, inl, inr, ℕ, ◌∙◌, length, refl, ap, sym, subst, Bool, true, false}
+use Rattle.std.proofs.Common.{◌≡◌, inl, inr, ℕ, ◌∙◌, refl, ap, sym, subst, Bool, true, false}
 use Rattle.std.specs.Prelude.{⊤, nat_le, if◌then◌else◌, Option, Some, None}
 use Rattle.fkv_base.specs.declared.faults.Fault.TheVariants as fault
 use Rattle.fkv_base.specs.declared.numbers.Addr.{Addr}
@@ -26,7 +26,7 @@ use Rattle.law_refine.specs.Below.fkv_keeper.KeeperTold.TheVariants.{CommitRefus
 use Rattle.law_refine.specs.Below.fkv_keeper.TheKeeping.{Keeping}
 use Rattle.law_refine.specs.Below.fkv_keeper.TheKeeping.TheVariants.{Ended, Starts, Maintains, LoadsPhase, Enters, Copies, Seeks, Waits, Writes, Finishes}
 use Rattle.law_refine.specs.Below.fkv_keeper.CheckpointLaws.{IsCommitAfter, MayFollow}
-use Rattle.law_refine.specs.Below.fkv_keeper.Keeping.{KeeperState, ended, keeping_called, keeping_given, keeping_next, start_ledto}
+use Rattle.law_refine.specs.Below.fkv_keeper.Keeping.{KeeperState, ended, keeping_called, keeping_given, keeping_next, start_ledto, asked_for}
 use Rattle.law_refine.specs.Below.fkv_keeper.KeeperRun.{BeginsCommit, BeginsTurn, Calls, Gets, KeeperEvent, Replies, is_in_hand, keeper_happens}
 use Rattle.law_refine.proofs.Below.fkv_keeper.Shown.{each_move}
 use Rattle.law_refine.proofs.Below.law_world.OfStanding.Runs.{happens_at}
@@ -141,7 +141,7 @@ module _ (R : ℕ → Type 0) where
   unfolding keeping_next keeping_given keeping_called
   ended_led shape p s BeginsTurn told at hand = either_says s.is_broken (ended s (TurnRefused fault.Broken)) _ (record { hand = hand; step = tt }) (record { hand = hand; step = tt })
   ended_led shape p s (BeginsCommit kind) told at hand =
-      either_says s.is_broken (ended s (CommitRefused fault.Broken)) (record s { start = start_begun s.start kind (length s.lost); step = Starts }) (record { hand = hand; step = tt }) (record { hand = hand; step = tt })
+      either_says s.is_broken (ended s (CommitRefused fault.Broken)) (record s { start = start_begun s.start (asked_for s kind); step = Starts }) (record { hand = hand; step = tt }) (record { hand = hand; step = tt })
   ended_led shape p s (Replies reply granted) told at hand = stays s (Ended told) at hand tt
   ended_led shape p s (Gets action) told at hand = stays s (Ended told) at hand tt
   ended_led shape p s (Calls done bytes) told at hand = stays s (Ended told) at hand tt

@@ -36,6 +36,7 @@ use Rattle.law_world.specs.Below.fkv_commit.Entering.{EnterState, entering_ask, 
 use Rattle.law_world.specs.Below.fkv_commit.Finishing.{FinishState, durable_from, finish_begun, finishing_ask, finish_ask, finishing_next, finish_next}
 use Rattle.law_world.specs.Below.fkv_commit.Seeking as seeks
 use Rattle.law_world.specs.Below.fkv_commit.Seeking.{SeekState, owing_from, seek_begun, seeking_ask, seek_ask, points_from, point_taken, with_point, slot_led, cut_met, other_met, seeking_next, seek_next}
+use Rattle.law_world.specs.Below.fkv_keeper.Keeping.{KeeperState, asked_for}
 use Rattle.law_world.specs.Below.fkv_commit.Starting as starts
 use Rattle.law_world.specs.Below.fkv_commit.Starting.{last_of, StartState, start_begun, is_lost_full, starting_ask, start_ask, refused, phase_found, starting_next, start_next}
 use Rattle.law_world.specs.Below.fkv_commit.Waiting.{WaitState, waiting_ask, wait_ask}
@@ -111,8 +112,8 @@ start_led s (starting.Defers number first) reply at bounds = start_deferred numb
 pub start_next_spares : (s : StartState) (reply : ℕ) → IsStartSparing s → IsStartSparing (start_next s reply)
 start_next_spares s reply bounds = start_led s s.step reply refl bounds
 
-pub start_begun_spares : (s : StartState) (kind : CommitKind) (lost : ℕ) → IsStartSparing (start_begun s kind lost)
-start_begun_spares s kind lost = tt
+pub start_begun_spares : (s : KeeperState) (kind : CommitKind) → IsStartSparing (start_begun s.start (asked_for s kind))
+start_begun_spares s kind = tt
 
 -- how it goes on to wait-pending
 abbrev pub EnterBounds : EnterState → Entering → Type 0
