@@ -1,7 +1,7 @@
 -- What a start was asked for stays as it goes on; and no store's last version is above the last that there is.
-use Rattle.std.proofs.Common.{◌≡◌, ℕ, ◌<◌, ◌≤◌, arith, refl, Bool, true, false}
+use Rattle.std.proofs.Common.{◌≡◌, ℕ, ◌<◌, arith, refl, Bool, true, false}
 use Rattle.std.specs.Prelude.{nat_le, if◌then◌else◌}
-use Rattle.fkv_base.specs.Limits.{last_version}
+use Rattle.fkv_base.specs.Limits.{last_version, last_of}
 use Rattle.fkv_base.specs.declared.classes.StoreClass.{StoreClass}
 use Rattle.fkv_base.specs.declared.classes.StoreClass.TheVariants.{Specified, Living}
 use Rattle.fkv_base.specs.declared.phases.Phase.TheVariants as phase
@@ -15,7 +15,7 @@ use Rattle.fkv_commit.specs.declared.deferring.DeferAnswer.TheVariants.{Held, Sp
 use Rattle.fkv_commit.specs.declared.starting.Starting.{Starting}
 use Rattle.fkv_commit.specs.declared.starting.Starting.TheVariants.{Ended, LoadsPhase, Seeks, StoresPrepare, LoadsTail, Defers}
 use Rattle.fkv_commit.specs.Deferring.{defer_ask, defer_next}
-use Rattle.fkv_commit.specs.Starting.{StartState, last_of, is_lost_full, phase_found, seek_led, defer_led, starting_next, start_next}
+use Rattle.fkv_commit.specs.Starting.{StartState, is_lost_full, phase_found, seek_led, defer_led, starting_next, start_next}
 
 pub last_low : (class : StoreClass) (n : ℕ) → n < last_of class → n < last_version
 last_low Specified n low = omega (arith, low)

@@ -19,7 +19,8 @@ use Rattle.fkv_commit.specs.declared.starting.Starting.TheVariants.{Ended, Loads
 use Rattle.fkv_commit.specs.declared.starting.StartAnswer.TheVariants.{Idle}
 use Rattle.fkv_commit.specs.Commits.{version_after}
 use Rattle.fkv_commit.specs.Deferring.{defer_begun, defer_ask, defer_next}
-use Rattle.fkv_commit.specs.Starting.{StartState, starting_ask, start_ask, starting_next, start_next, phase_found, refused, last_of, is_lost_full, seek_led, defer_led}
+use Rattle.fkv_base.specs.Limits.{last_of}
+use Rattle.fkv_commit.specs.Starting.{StartState, starting_ask, start_ask, starting_next, start_next, phase_found, refused, is_lost_full, seek_led, defer_led}
 use Rattle.fkv_plane.specs.AsksLeft.{AsksWhereLeft, sum_left}
 use Rattle.fkv_commit.specs.AsksLeft.{deferring_asks_left, defer_asks_left, defer_asks_later, most_slot_asks, most_raise_asks, starting_asks_left, start_asks_left}
 use Rattle.fkv_plane.proofs.Shown.{never, none, some_inside, sum_most, sum_whole, passed_left, passed_alone}

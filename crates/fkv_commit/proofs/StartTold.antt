@@ -27,7 +27,8 @@ use Rattle.fkv_commit.specs.declared.starting.Starting.TheVariants.{Ended, Loads
 use Rattle.fkv_commit.specs.declared.starting.StartAnswer.TheVariants.{Idle}
 use Rattle.fkv_commit.specs.Commits.{is_log, version_after}
 use Rattle.fkv_commit.specs.Deferring.{defer_ask, defer_next}
-use Rattle.fkv_commit.specs.Starting.{max_lost, last_of, is_past_window, StartState, start_begun, starting_ask, start_ask, starting_next, start_next, phase_found, refused, is_lost_full, seek_led, defer_led}
+use Rattle.fkv_base.specs.Limits.{last_of}
+use Rattle.fkv_commit.specs.Starting.{max_lost, is_past_window, StartState, start_begun, starting_ask, start_ask, starting_next, start_next, phase_found, refused, is_lost_full, seek_led, defer_led}
 use Rattle.fkv_commit.specs.Exchanges.{Exchange, exchange, exchanged, AreIdle, AreSlotsBehind, HoldsSlot}
 use Rattle.fkv_commit.specs.Phases.{HasNoRoom, SaidRest, MayStart, IsStartEnd, StartsEndRight, started, start_told}
 use Rattle.fkv_commit.proofs.Replies.{by_replies, passed_exchanged, stays_among}

@@ -1,6 +1,6 @@
 -- The phases of a commit, in their order, and what is told as it starts, goes on to wait-pending and finishes.
 use Rattle.std.specs.Prelude.{◌≡◌, ◌≢◌, ℕ, zero, suc, ◌+◌, ◌<◌, ◌≤◌, false, ◌==◌, ◌&&◌, ◌⊎◌, if◌then◌else◌, List, [], ◌∷◌, ◌++◌, slice_get}
-use Rattle.fkv_base.specs.Limits.{drain_slots}
+use Rattle.fkv_base.specs.Limits.{drain_slots, last_of}
 use Rattle.fkv_base.specs.declared.faults.Fault.{Fault}
 use Rattle.fkv_base.specs.declared.faults.Fault.TheVariants as fault
 use Rattle.fkv_base.specs.declared.numbers.Addr.{Addr}
@@ -34,7 +34,7 @@ use Rattle.fkv_commit.specs.declared.waiting.WaitAnswer.TheVariants as wait_answ
 use Rattle.fkv_commit.specs.declared.finishing.Finishing.TheVariants as finish
 use Rattle.fkv_commit.specs.declared.finishing.FinishAnswer.TheVariants.{Finished}
 use Rattle.fkv_commit.specs.Commits.{version_after}
-use Rattle.fkv_commit.specs.Starting.{max_lost, last_of, is_lost_full, StartState, start_begun, start_ask, start_next}
+use Rattle.fkv_commit.specs.Starting.{max_lost, is_lost_full, StartState, start_begun, start_ask, start_next}
 use Rattle.fkv_commit.specs.Entering.{EnterState, enter_begun, enter_ask, enter_next}
 use Rattle.fkv_commit.specs.Seeking.{SeekState}
 use Rattle.fkv_commit.specs.Waiting.{WaitState, wait_begun, wait_ask, wait_next}

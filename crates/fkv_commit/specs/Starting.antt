@@ -1,9 +1,7 @@
 -- How a commit starts: where the phase is rest a drain slot is held, prepare is stored, the tail is loaded, and in-progress is deferred until
 -- all have seen prepare.
 use Rattle.std.specs.Prelude.{ℕ, ◌-◌, ◌&&◌, ◌||◌, nat_lt, nat_le, if◌then◌else◌, Bool}
-use Rattle.fkv_base.specs.Limits.{last_version}
-use Rattle.fkv_base.specs.declared.classes.StoreClass.{StoreClass}
-use Rattle.fkv_base.specs.declared.classes.StoreClass.TheVariants.{Specified, Living}
+use Rattle.fkv_base.specs.Limits.{last_of}
 use Rattle.fkv_base.specs.declared.faults.Fault.{Fault}
 use Rattle.fkv_base.specs.declared.faults.Fault.TheVariants.{CommitRunning, VersionsSpent, LostFull, EpochsSpent, DrainFull}
 use Rattle.fkv_base.specs.declared.numbers.Addr.{Addr}
@@ -42,11 +40,6 @@ pub record StartState : Type 0 where
 
 abbrev pub start_begun : StartState → StartAsked → StartState
 start_begun s asked = record s { asked = asked; step = LoadsPhase }
-
--- the last version of a store: a specified one has those that are their own marks
-abbrev pub last_of : StoreClass → ℕ
-last_of Specified = 8191
-last_of Living = last_version
 
 -- a commit of this number lies past the window of the checkpoint: behind that some mark would be of two versions
 abbrev pub is_past_window : StartAsked → ℕ → Bool

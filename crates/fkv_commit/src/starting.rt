@@ -1,9 +1,9 @@
 //! How a commit starts.
 ghost use Rattle.std.specs.Prelude.{◌≡◌, ◌≤◌, ◌<◌, ◌+◌, ◌*◌};
-ghost use Rattle.fkv_base.specs.Limits.{drain_slots};
+ghost use Rattle.fkv_base.specs.Limits.{drain_slots, last_of};
 ghost use Rattle.fkv_plane.specs.AsksLeft.{AsksWhereLeft};
 ghost use Rattle.fkv_commit.specs.AsksLeft.{start_asks_left};
-ghost use Rattle.fkv_commit.specs.Starting.{is_lost_full, is_past_window, last_of, start_begun, start_ask, start_next, phase_found, seek_led, defer_led};
+ghost use Rattle.fkv_commit.specs.Starting.{is_lost_full, is_past_window, start_begun, start_ask, start_next, phase_found, seek_led, defer_led};
 ghost use Rattle.fkv_commit.specs.declared.starting.Starting.TheVariants.{Ended};
 ghost use Rattle.fkv_commit.specs.declared.starting.StartAnswer.TheVariants.{Idle, Refused};
 
@@ -20,19 +20,6 @@ const MAX_LOST: usize = 8;
 
 /// So far a log commit's number may lie from the oldest version that a record behind the checkpoint may have.
 const WINDOW: u64 = 8189;
-
-/// The last version of a specified store: its versions are their own marks.
-const LAST_SPECIFIED: u64 = 8191;
-
-/// The last version of a store of this class.
-fn last_of(class: StoreClass) -> u64
-    ensures { result ≡ last_of class }
-{
-    match class {
-        StoreClass::Specified => LAST_SPECIFIED,
-        StoreClass::Living => Version::LAST,
-    }
-}
 
 /// The commit that is to start, and the store's state that bounds it.
 #[derive(Clone, Copy)]
@@ -188,7 +175,7 @@ impl StartCommit {
     {
         match said {
             PhaseSaid::Says(Phase::Rest, number) => {
-                if number.0 >= last_of(self.asked.class) {
+                if number.0 >= self.asked.class.last_version() {
                     self.refuse(Fault::VersionsSpent);
                 } else if self.is_lost_full(number) {
                     self.refuse(Fault::LostFull);

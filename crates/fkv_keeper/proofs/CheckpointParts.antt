@@ -22,7 +22,8 @@ use Rattle.fkv_commit.specs.Cuts.{is_cut_of, serial_said}
 use Rattle.fkv_commit.specs.Deferring.{defer_ask, defer_next}
 use Rattle.fkv_commit.specs.Entering.{EnterState, entering_next, seek_led as enter_sought, defer_led as enter_deferred}
 use Rattle.fkv_commit.specs.Seeking.{SeekState, seeking_next, seek_begun, owing_from, points_from, point_taken, with_point, slot_led, defer_led as seek_deferred}
-use Rattle.fkv_commit.specs.Starting.{last_of, StartState, starting_next, phase_found, is_lost_full, seek_led as start_sought, defer_led as start_deferred}
+use Rattle.fkv_base.specs.Limits.{last_of}
+use Rattle.fkv_commit.specs.Starting.{StartState, starting_next, phase_found, is_lost_full, seek_led as start_sought, defer_led as start_deferred}
 use Rattle.fkv_keeper.proofs.CheckpointRanges.{IsDeferredIn, defer_in, defer_on_in}
 
 -- the start of a commit

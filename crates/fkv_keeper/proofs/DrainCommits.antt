@@ -1,7 +1,7 @@
 -- What the parts of a commit have met of the drain slots, as each seeks one.
 use Rattle.std.proofs.Common.{◌≡◌, ℕ, ◌+◌, refl, sym, subst, List, Bool, true, false}
 use Rattle.std.specs.Prelude.{not, ⊤, ◌++◌, ◌∷◌, [], ◌==◌, nat_lt, nat_le, max, if◌then◌else◌, length}
-use Rattle.fkv_base.specs.Limits.{drain_slots}
+use Rattle.fkv_base.specs.Limits.{drain_slots, last_of}
 use Rattle.fkv_base.specs.declared.faults.Fault.{Fault}
 use Rattle.fkv_base.specs.declared.faults.Fault.TheVariants as fault
 use Rattle.fkv_base.specs.declared.numbers.Addr.{Addr}
@@ -29,7 +29,7 @@ use Rattle.fkv_commit.specs.Cuts.{serial_said, is_cut_of}
 use Rattle.fkv_commit.specs.Deferring.{defer_begun, defer_ask, defer_next}
 use Rattle.fkv_commit.specs.Entering.{EnterState, enter_begun, seek_led as enter_led, defer_led as enter_deferred, entering_ask, enter_ask, entering_next, enter_next}
 use Rattle.fkv_commit.specs.Seeking.{SeekState, seek_begun, owing_from, points_from, point_taken, with_point, slot_led, defer_led as seek_deferred, seeking_ask, seek_ask, seeking_next, seek_next}
-use Rattle.fkv_commit.specs.Starting.{last_of, StartState, is_lost_full, phase_found, seek_led as start_led, defer_led as start_deferred, starting_ask, start_ask, starting_next, start_next}
+use Rattle.fkv_commit.specs.Starting.{StartState, is_lost_full, phase_found, seek_led as start_led, defer_led as start_deferred, starting_ask, start_ask, starting_next, start_next}
 use Rattle.fkv_commit.specs.Exchanges.{Exchange, exchanged}
 use Rattle.fkv_keeper.specs.DrainLaws.{WereSought}
 use Rattle.fkv_keeper.proofs.DrainSought.{passed_told, passed_alone, IsDeferSought, DeferOutcome, SeeksOn, HasHeld, HasNone, IsSpent, defer_step, defer_begins}

@@ -4,7 +4,7 @@ use Rattle.std.specs.Prelude.{‚ä§, Option, Some, None, nat_lt, nat_le, take, if‚
 use Rattle.std.proofs.lemmas.Bool.Decides.{nat_tests}
 use Rattle.std.proofs.lemmas.List.{take_all, length-take}
 use Rattle.std.proofs.lemmas.List.FromFn.{length-map-range_with_len}
-use Rattle.fkv_base.specs.Limits.{last_version}
+use Rattle.fkv_base.specs.Limits.{last_version, last_of}
 use Rattle.fkv_base.specs.declared.classes.StoreClass.{StoreClass}
 use Rattle.fkv_marks.specs.Window.{InWindow, oldest}
 use Rattle.fkv_base.specs.declared.numbers.Addr.{Addr}
@@ -31,7 +31,7 @@ use Rattle.fkv_commit.specs.declared.starting.StartAnswer.TheVariants as start
 use Rattle.fkv_commit.specs.declared.starting.StartAsked.{StartAsked}
 use Rattle.fkv_commit.specs.Commits.{commit_begun, is_log}
 use Rattle.fkv_commit.specs.Deferring.{defer_ask, defer_next}
-use Rattle.fkv_commit.specs.Starting.{StartState, is_lost_full, is_past_window, last_of, max_lost, phase_found, seek_led, defer_led, starting_ask, start_ask, starting_next, start_next}
+use Rattle.fkv_commit.specs.Starting.{StartState, is_lost_full, is_past_window, max_lost, phase_found, seek_led, defer_led, starting_ask, start_ask, starting_next, start_next}
 use Rattle.fkv_commit.proofs.Shown.{last_low, start_asked}
 use Rattle.fkv_manifest.specs.Kept.{IsSlotOf}
 use Rattle.fkv_manifest.proofs.Shown.{newest_spelled}

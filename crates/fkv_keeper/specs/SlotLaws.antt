@@ -1,12 +1,12 @@
 -- What the slot of a commit names as its writes begin: all of its lost ranges, and a point for each session.
 use Rattle.std.specs.Prelude.{◌≡◌, ◌≤◌, ◌<◌, length, Some}
-use Rattle.fkv_base.specs.Limits.{max_sessions}
+use Rattle.fkv_base.specs.Limits.{max_sessions, last_of}
 use Rattle.fkv_base.specs.declared.shapes.Shape.{Shape}
 use Rattle.fkv_marks.specs.Window.{InWindow}
 use Rattle.fkv_record.specs.Manifest.{SlotSaid, newest_bytes}
 use Rattle.fkv_commit.specs.declared.commits.Commit.{Commit}
 use Rattle.fkv_base.specs.declared.commits.CommitKind.TheVariants.{Log}
-use Rattle.fkv_commit.specs.Starting.{last_of, max_lost}
+use Rattle.fkv_commit.specs.Starting.{max_lost}
 use Rattle.fkv_manifest.specs.Kept.{IsSlotOf}
 use Rattle.fkv_keeper.specs.Keeping.{KeeperState, lost_left}
 

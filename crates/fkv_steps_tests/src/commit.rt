@@ -174,6 +174,39 @@ fn specified(kind: CommitKind, lost: usize) -> StartAsked {
     }
 }
 
+/// One of what a version has above its low thirteen bits.
+const ONE_MORE: u64 = 1 << 19;
+
+/// A commit of a living store: the phase word, its kind, the number of the checkpoint in force, and why it is refused, if it is.
+struct Living {
+    phase: u64,
+    kind: CommitKind,
+    checkpoint: u64,
+    refused: Option<Fault>,
+}
+
+/// The last log commit of its window, the next one, and a full commit of that version.
+const LIVING: [Living; 3] = [
+    Living {
+        phase: 97 + ONE_MORE,
+        kind: CommitKind::Log,
+        checkpoint: 100,
+        refused: None,
+    },
+    Living {
+        phase: 98 + ONE_MORE,
+        kind: CommitKind::Log,
+        checkpoint: 100,
+        refused: Some(Fault::LostFull),
+    },
+    Living {
+        phase: 98 + ONE_MORE,
+        kind: CommitKind::Full,
+        checkpoint: 100,
+        refused: None,
+    },
+];
+
 /// Looks at the words at these places.
 fn has_words(rt: &impl Abort, plane: &PlainWords, words: &[(usize, u64)]) {
     for (place, word) in words {
@@ -217,6 +250,25 @@ fn is_refused(rt: &impl Abort, alloc: Global, refusal: &Refusal<'_>) -> Result<(
     Ok(())
 }
 
+/// A start that isn't refused at the phase loads the epoch next.
+fn starts_or_stops(rt: &impl Abort, alloc: Global, living: &Living) -> Result<(), Fault> {
+    let mut plane = new_words(alloc, 64, &[(EPOCH, 7), (PHASE, living.phase)], &[])?;
+    let mut machine = StartCommit::new(StoreClass::Living);
+    let ask = machine.start(StartAsked {
+        class: machine.class(),
+        kind: living.kind,
+        lost: 0,
+        checkpoint: Version(living.checkpoint),
+    });
+    let next = machine.drive(make(&mut plane, ask));
+    let wanted = match living.refused {
+        Some(why) => Ask::Done(StartAnswer::Refused(why)),
+        None => Ask::Load(EPOCH),
+    };
+    assert!(rt; next == wanted, "over phase {}", living.phase);
+    Ok(())
+}
+
 /// A log commit needs no copy.
 fn has_its_copy(rt: &impl Abort) {
     let commit = Commit::begun(Version(1), CommitKind::Log, Addr(5));
@@ -230,6 +282,9 @@ fn a_commit_starts_or_is_refused(rt: HostRuntime) -> Result<(), Fail> {
     }
     for refusal in &REFUSED {
         is_refused(&rt, rt.alloc(), refusal)?;
+    }
+    for living in &LIVING {
+        starts_or_stops(&rt, rt.alloc(), living)?;
     }
     has_its_copy(&rt);
     law_of_phases();

@@ -24,7 +24,8 @@ use Rattle.fkv_commit.specs.Commits.{version_after}
 use Rattle.fkv_commit.specs.Deferring.{defer_ask, defer_next}
 use Rattle.fkv_commit.specs.Exchanges.{AreIdle, Exchange, exchanged, exchanges, run_of}
 use Rattle.fkv_commit.specs.Phases.{IsRefusalTrue, IsStartEnd, start_told, started}
-use Rattle.fkv_commit.specs.Starting.{last_of, StartState, defer_led, is_lost_full, phase_found, seek_led, start_ask, start_begun, start_next, starting_ask, starting_next}
+use Rattle.fkv_base.specs.Limits.{last_of}
+use Rattle.fkv_commit.specs.Starting.{StartState, defer_led, is_lost_full, phase_found, seek_led, start_ask, start_begun, start_next, starting_ask, starting_next}
 use Rattle.law_causes.specs.Causes.{IsShown}
 use Rattle.law_causes.proofs.OfCauses.Asking.{not_done, passed_on}
 use Rattle.law_causes.proofs.OfCauses.Deferring.{DeferLed, Defers, DefersOn, GoesOn, HasArmed, HasHeld, HasNoSlot, HasSpent, Holds, SeekLed, Seeks, begins, defers_asks, defers_on, holds_on, seeks_asks, seeks_on}

@@ -1,6 +1,7 @@
 -- What the keeper knows of the moments at which a commit's first address and its end were the tail; and that each of its steps keeps it.
 use Rattle.std.proofs.Common.{◌≡◌, ℕ, ◌+◌, ◌∙◌, List, [], ◌∷◌, ◌++◌, length, refl, ap, sym, subst, Bool, true, false}
 use Rattle.std.specs.Prelude.{⊤, nat_le, nat_lt, max, ◌==◌, if◌then◌else◌, Option, Some, None, ◌||◌, not}
+use Rattle.fkv_base.specs.Limits.{last_of}
 use Rattle.fkv_base.specs.declared.commits.CommitKind.{CommitKind}
 use Rattle.fkv_base.specs.declared.faults.Fault.TheVariants as fault
 use Rattle.fkv_base.specs.declared.numbers.Addr.{Addr}
@@ -37,7 +38,7 @@ use Rattle.law_refine.specs.Below.fkv_commit.Deferring.{defer_ask, defer_begun, 
 use Rattle.law_refine.specs.Below.fkv_commit.Entering.{enter_ask, enter_begun, enter_next}
 use Rattle.law_refine.specs.Below.fkv_commit.Finishing.{finish_ask, finish_next}
 use Rattle.law_refine.specs.Below.fkv_commit.Seeking.{SeekState, defer_led, owing_from, point_taken, with_point, points_from, seek_ask, seek_begun, seek_next, seeking_ask, seeking_next, slot_led}
-use Rattle.law_refine.specs.Below.fkv_commit.Starting.{last_of, StartState, defer_led as start_led, is_lost_full, phase_found, refused, seek_led, start_ask, start_begun, start_next, starting_ask, starting_next}
+use Rattle.law_refine.specs.Below.fkv_commit.Starting.{StartState, defer_led as start_led, is_lost_full, phase_found, refused, seek_led, start_ask, start_begun, start_next, starting_ask, starting_next}
 use Rattle.law_refine.specs.Below.fkv_commit.Waiting.{wait_ask, wait_begun, wait_next}
 use Rattle.law_refine.specs.Below.fkv_manifest.WriteAnswer.{WriteAnswer}
 use Rattle.law_refine.specs.Below.fkv_manifest.WriteAnswer.TheVariants as write

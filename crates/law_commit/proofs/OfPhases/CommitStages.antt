@@ -2,7 +2,7 @@
 use Rattle.std.proofs.Common.{◌≡◌, ◌⊎◌, inl, ℕ, ◌+◌, ◌<◌, ◌∙◌, List, ◌∷◌, [], ◌++◌, length, refl, arith, sym, ap, subst, Bool, true, false}
 use Rattle.std.specs.Prelude.{not, ⊤, if◌then◌else◌, nat_le, nat_lt, ◌==◌, max}
 use Rattle.std.proofs.lemmas.Bool.Decides.{nat_tests}
-use Rattle.fkv_base.specs.Limits.{last_version}
+use Rattle.fkv_base.specs.Limits.{last_version, last_of}
 use Rattle.fkv_base.specs.declared.classes.StoreClass.{StoreClass}
 use Rattle.fkv_base.specs.declared.numbers.Addr.{Addr}
 use Rattle.fkv_base.specs.declared.numbers.Serial.{Serial}
@@ -39,7 +39,7 @@ use Rattle.law_refine.specs.Below.fkv_commit.Seeking.{SeekState, owing_from, poi
 use Rattle.law_refine.specs.Below.fkv_commit.Cuts.{is_cut_of, serial_said}
 use Rattle.law_refine.specs.Below.fkv_commit.Starting as starting
 use Rattle.law_refine.proofs.Below.fkv_commit.Shown.{last_low}
-use Rattle.law_refine.specs.Below.fkv_commit.Starting.{last_of, StartState, is_lost_full, phase_found, starting_next}
+use Rattle.law_refine.specs.Below.fkv_commit.Starting.{StartState, is_lost_full, phase_found, starting_next}
 use Rattle.law_commit.specs.Phases.Staged.{Stage, Rests, Prepares, DefersProgress, Progresses, DefersPending, Pends, Flushes, DefersAt, IsReadOnly, DefersReadOnly, StartsIt, StartAt, EnterAt, SeekAt, stage_phase, stage_version, defer_moves, start_moves, enter_moves, seek_moves}
 
 -- ---- a deferral

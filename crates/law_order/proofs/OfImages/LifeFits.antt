@@ -1,6 +1,7 @@
 -- Each commit whose writes begin in a life fits it.
 use Rattle.std.proofs.Common.{◌≡◌, inl, inr, ℕ, ◌<◌, ◌≤◌, ◌∙◌, arith, refl, sym, ap, subst, Bool, List, [], ◌∷◌, length}
 use Rattle.std.specs.Prelude.{Option, Some, None}
+use Rattle.fkv_base.specs.Limits.{last_of}
 use Rattle.fkv_base.specs.declared.classes.StoreClass.{StoreClass}
 use Rattle.fkv_base.specs.declared.classes.StoreClass.TheVariants.{Specified, Living}
 use Rattle.fkv_base.specs.declared.commits.CommitKind.{CommitKind}
@@ -8,7 +9,6 @@ use Rattle.fkv_base.specs.declared.commits.CommitKind.TheVariants.{Full, Log}
 use Rattle.fkv_base.specs.declared.shapes.Shape.{Shape}
 use Rattle.fkv_marks.specs.Window.{InWindow}
 use Rattle.law_commit.specs.Below.fkv_commit.Commit.{Commit}
-use Rattle.law_commit.specs.Below.fkv_commit.Starting.{last_of}
 use Rattle.law_commit.proofs.Below.fkv_commit.Shown.{last_low}
 use Rattle.law_commit.proofs.Below.fkv_keeper.Shown.{run_class}
 use Rattle.law_commit.specs.Below.fkv_keeper.CheckpointLaws.{IsBehindWait}

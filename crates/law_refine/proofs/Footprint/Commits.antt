@@ -2,6 +2,7 @@
 use Rattle.std.proofs.Common.{◌≡◌, ◌≢◌, ℕ, ◌+◌, ◌<◌, refl, sym, subst, arith, List, [], ◌∷◌, ◌++◌, length, Bool, true, false}
 use Rattle.std.specs.Prelude.{not, if◌then◌else◌, ◌==◌, nat_lt, nat_le, max, ⊤}
 use Rattle.std.proofs.lemmas.Bool.Decides.{nat_tests}
+use Rattle.fkv_base.specs.Limits.{last_of}
 use Rattle.fkv_base.specs.declared.faults.Fault.TheVariants as fault
 use Rattle.fkv_base.specs.declared.numbers.Addr.{Addr}
 use Rattle.fkv_base.specs.declared.numbers.Serial.{Serial}
@@ -38,7 +39,7 @@ use Rattle.law_world.specs.Below.fkv_commit.Seeking as seeks
 use Rattle.law_world.specs.Below.fkv_commit.Seeking.{SeekState, owing_from, seek_begun, seeking_ask, seek_ask, points_from, point_taken, with_point, slot_led, cut_met, other_met, seeking_next, seek_next}
 use Rattle.law_world.specs.Below.fkv_keeper.Keeping.{KeeperState, asked_for}
 use Rattle.law_world.specs.Below.fkv_commit.Starting as starts
-use Rattle.law_world.specs.Below.fkv_commit.Starting.{last_of, StartState, start_begun, is_lost_full, starting_ask, start_ask, refused, phase_found, starting_next, start_next}
+use Rattle.law_world.specs.Below.fkv_commit.Starting.{StartState, start_begun, is_lost_full, starting_ask, start_ask, refused, phase_found, starting_next, start_next}
 use Rattle.law_world.specs.Below.fkv_commit.Waiting.{WaitState, waiting_ask, wait_ask}
 use Rattle.law_refine.specs.Footprint.{Part, ThePhase, TheDurable, HasSeats, Spares}
 use Rattle.law_refine.proofs.Footprint.Latching.{passed_spares}

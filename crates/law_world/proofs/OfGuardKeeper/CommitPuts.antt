@@ -37,7 +37,8 @@ use Rattle.fkv_commit.specs.Entering.{EnterState, enter_ask, enter_next, enterin
 use Rattle.fkv_commit.specs.Seeking as seeking
 use Rattle.fkv_commit.specs.Seeking.{SeekState, seek_ask, seek_next, seeking_ask, seeking_next, points_from, with_point, slot_led, cut_met, other_met}
 use Rattle.fkv_commit.specs.Starting as starting
-use Rattle.fkv_commit.specs.Starting.{last_of, StartState, start_ask, start_next, starting_ask, starting_next, phase_found, is_lost_full}
+use Rattle.fkv_base.specs.Limits.{last_of}
+use Rattle.fkv_commit.specs.Starting.{StartState, start_ask, start_next, starting_ask, starting_next, phase_found, is_lost_full}
 use Rattle.fkv_flush.specs.GuardLevels.{levels_of}
 use Rattle.fkv_flush.specs.GuardWorld.{Actor, GuardWorld}
 use Rattle.fkv_flush.proofs.Shown.{IsSound, FitsMachine, machine_at}

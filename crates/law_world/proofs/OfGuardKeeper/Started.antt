@@ -29,7 +29,8 @@ use Rattle.fkv_commit.specs.declared.starting.StartAnswer.TheVariants as answer
 use Rattle.fkv_commit.specs.declared.starting.Starting.{Starting}
 use Rattle.fkv_commit.specs.declared.starting.Starting.TheVariants as start
 use Rattle.fkv_commit.specs.Deferring.{DeferState, action_of, armed_epoch, defer_begun, defer_ask, defer_next, deferring_ask, deferring_next, deferring_on, raise_ledto, arm_ledto}
-use Rattle.fkv_commit.specs.Starting.{last_of, StartState, start_ask, start_next, starting_ask, starting_next, phase_found, refused, seek_led, defer_led, is_lost_full}
+use Rattle.fkv_base.specs.Limits.{last_of}
+use Rattle.fkv_commit.specs.Starting.{StartState, start_ask, start_next, starting_ask, starting_next, phase_found, refused, seek_led, defer_led, is_lost_full}
 use Rattle.fkv_flush.specs.GuardLevels.{levels_of}
 use Rattle.fkv_flush.specs.GuardSeen.{LastSeen}
 use Rattle.fkv_flush.specs.GuardWorld.{Actor, Rests, GuardNow, GuardEvent, GuardWorld, Begins, Resumes, Moves, Changes, ToDo, near, put_near, is_idle}

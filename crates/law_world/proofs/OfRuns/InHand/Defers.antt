@@ -36,7 +36,8 @@ use Rattle.fkv_commit.specs.Entering.{EnterState, enter_ask, enter_next, enterin
 use Rattle.fkv_commit.specs.Seeking as seeking
 use Rattle.fkv_commit.specs.Seeking.{SeekState, owing_from, point_taken, with_point, points_from, seek_ask, seek_next, seeking_ask, seeking_next, slot_led}
 use Rattle.fkv_commit.specs.Starting as starting
-use Rattle.fkv_commit.specs.Starting.{last_of, StartState, phase_found, start_ask, start_next, starting_ask, starting_next, is_lost_full}
+use Rattle.fkv_base.specs.Limits.{last_of}
+use Rattle.fkv_commit.specs.Starting.{StartState, phase_found, start_ask, start_next, starting_ask, starting_next, is_lost_full}
 use Rattle.law_world.proofs.OfRuns.InHand.Asks.{AtSlot, at_more, off_at, passed_at, raise_off}
 use Rattle.law_world.proofs.OfRuns.InHand.Moved.{arm_off}
 
