@@ -81,6 +81,7 @@ struct fkv_file {
     uint32_t abandoned;    /* and for each that was abandoned, and has requests pending */
     bool was_joined;       /* some session was, since the last commit began */
     bool is_renewed;       /* it is renewed in place: nobody joins meanwhile */
+    uint64_t most_commits; /* that its store takes in all its life */
     uint64_t number;       /* the last finished commit, and its points */
     uint64_t points[FKV_MOST_SESSIONS];
 

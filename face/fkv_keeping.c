@@ -108,7 +108,7 @@ static void note_finished(const struct run *run, const struct turn *turn) {
     file->stuck = 0;
     fkv_find_end(file);
     pthread_cond_broadcast(&file->news);
-    if (file->number >= FKV_MOST_COMMITS) fkv_note_fault(file, -FKV_VERSIONS_SPENT, 0);
+    if (file->number >= file->most_commits) fkv_note_fault(file, -FKV_VERSIONS_SPENT, 0);
 }
 
 /* ---- What was abandoned --------------------------------------------------------------------------------------------------------- */

@@ -36,7 +36,7 @@ int32_t fkv_stats_of(fkv_file *file, fkv_stats *stats) {
     (void)fkv_hint_store(&file->store, &offsets);
     *stats = (fkv_stats){
         .commits = file->number,
-        .commits_left = file->number < FKV_MOST_COMMITS ? FKV_MOST_COMMITS - file->number : 0,
+        .commits_left = file->number < file->most_commits ? file->most_commits - file->number : 0,
         .commit_us = file->commit_us,
         .commit_bytes = file->commit_bytes,
         .in_hand_us = is_in_hand ? fkv_since(file->commit_begun) + 1 : 0,

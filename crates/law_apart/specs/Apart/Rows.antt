@@ -1,5 +1,5 @@
 -- What updates know of the versions at their homes, by control state: those that share a latch, and those that make a new record.
-use Rattle.std.specs.Prelude.{◌≡◌, ◌⊎◌, ◌+◌, ◌^◌, ◌<◌, ◌≤◌, ◌||◌, ⊤, ℕ, Bool, true, false, List, Option, Some, None}
+use Rattle.std.specs.Prelude.{◌≡◌, ◌⊎◌, ◌+◌, ◌<◌, ◌≤◌, ◌||◌, ⊤, ℕ, Bool, true, false, List, Option, Some, None}
 use Rattle.fkv_base.specs.declared.numbers.Version.{Version}
 use Rattle.fkv_marks.specs.Marks.{mark}
 use Rattle.fkv_plane.specs.declared.asks.Ask.TheVariants.{Done}
@@ -39,7 +39,7 @@ use Rattle.law_local.specs.Below.fkv_pending.Attempting.{AttemptState}
 use Rattle.law_local.specs.Below.fkv_session.Sessions.{SessionState}
 use Rattle.law_local.specs.Sessions.Known.{KnowsRequests}
 use Rattle.law_local.specs.Tries.OnWay.{IsFoundAt}
-use Rattle.law_local.specs.Tries.TryRows.{NoneIsLater, head_in, key_in}
+use Rattle.law_local.specs.Tries.TryRows.{IsUpdate, NoneIsLater, head_in, key_in}
 use Rattle.law_local.specs.Tries.WalkRows.{begin_of}
 
 -- ---- a later version at a request's home
@@ -191,9 +191,15 @@ shares_now a Tries = a.trial.has_shared
 shares_now a step = a.pending.request.has_latch
 
 -- ---- what is given
--- The version of each record takes 13 bits, so that it is told by its mark.
-abbrev pub VersionsFit : Log → Type 0
-VersionsFit log = (a : ℕ) → version_at (log.cells a) < 2 ^ 13
+-- Headers have marks alone. Beside an update no record is of a version past the next one. From the read-only offset on that its session has seen none is more than
+-- one version older.
+pub record AreNear (log : Log) (request : Request) (seen : Seen) : Type 0 where
+  pub below : (a : ℕ) → version_at (log.cells a) ≤ request.version.0 + 1
+  pub above : (a : ℕ) (cell : Cell) → seen.offsets.read_only.0 ≤ a → log.cells a ≡ Published cell → request.version.0 ≤ cell.version + 1
+
+-- so it is beside the update of a try
+abbrev pub VersionsNear : Log → TryState → Type 0
+VersionsNear log t = IsUpdate t.request → AreNear log t.request t.seen
 
 -- What a search is told. It is lost only if it links. At the load of an eighth word that leads nowhere its home is empty.
 pub record SearchTells (log : Log) (h : ℕ) (p : Places) (f : Finding) (reply : ℕ) : Type 0 where

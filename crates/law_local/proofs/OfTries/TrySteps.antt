@@ -127,7 +127,7 @@ changed_knows home log p t old found request update = by_test (found == old)
 -- ---- an append
 -- what the append is to write, and what is known of it
 abbrev pub MakesAt : (ℕ → ℕ) → Log → Request → Reply → AppendState → Type 0
-MakesAt home log request its a = AppendKnows home log request its (cell_of a.its_words) a.step
+MakesAt home log request its a = AppendKnows home log request its (cell_of request.version.0 a.its_words) a.step
 
 ended_append : (home : ℕ → ℕ) (log : Log) (request : Request) (its : Reply) (a : AppendState) (answer : AppendAnswer) → MakesAt home log request its (append_ended a answer)
 ended_append home log request its a answer = tt

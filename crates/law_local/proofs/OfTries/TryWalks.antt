@@ -144,9 +144,9 @@ changes_knows home log t addr version request update stands own mutable false e 
   );
 }
 
--- where the session may change the record, and its header has the mark of the request's version, the record is of that version
+-- where an update's session may change the record, and its header has the mark of the request's version, the record is of that version
 abbrev Tells : Log → TryState → Addr → Version → Type 0
-Tells log t addr said = t.seen.offsets.read_only.0 ≤ addr.0 → said.0 ≡ mark t.request.version.0 → version_at (log.cells addr.0) ≡ t.request.version.0
+Tells log t addr said = IsUpdate t.request → t.seen.offsets.read_only.0 ≤ addr.0 → said.0 ≡ mark t.request.version.0 → version_at (log.cells addr.0) ≡ t.request.version.0
 
 -- a record of another version than the request's is of an older one, as none is of a later
 older_there : (home : ℕ → ℕ) (log : Log) (request : Request) (from at version : ℕ) → IsOrderly home log → NoneAbove log (home (key_in request)) request.version.0 → IsFoundAt home log (key_in request) from at version → version ≢ request.version.0
@@ -169,7 +169,7 @@ region_knows home log p t addr version orderly newest tells request update stand
     found = found_for home log t.request t.seen t.walk addr version stands
 
     by_version : (b : Bool) → (version.0 == mark t.request.version.0) ≡ b → t.seen.offsets.read_only.0 ≤ addr.0 → TryKnows home log (if b then changes t addr else copies p t InMemory false)
-    by_version true e mutable = changes_knows home log t addr version request update stands (tells mutable (eq_true version.0 (mark t.request.version.0) e)) mutable (is_blind t.request.op) refl
+    by_version true e mutable = changes_knows home log t addr version request update stands (tells update mutable (eq_true version.0 (mark t.request.version.0) e)) mutable (is_blind t.request.op) refl
     by_version false e mutable = copies_knows home log p t InMemory false request update
         (record { addr = addr; version = version; stands = stands; still = inr (older_there home log t.request (begin_of t.walk) addr.0 stands.knows.version orderly newest found other) })
       where

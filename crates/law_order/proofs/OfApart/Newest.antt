@@ -1,5 +1,5 @@
 -- What the log and the words tell a session's try: so none that has passed its walk has a later version at its home.
-use Rattle.std.proofs.Common.{◌≡◌, ℕ, ◌+◌, ◌%◌, ◌/◌, ◌^◌, ◌<◌, ◌≤◌, refl, sym, ap, ◌∙◌, subst, arith, eqb-true, Bool, true, false, List, Option, Some, None}
+use Rattle.std.proofs.Common.{◌≡◌, ℕ, ◌+◌, ◌%◌, ◌/◌, ◌<◌, ◌≤◌, refl, sym, ap, ◌∙◌, subst, arith, eqb-true, Bool, true, false, List, Option, Some, None}
 use Rattle.std.specs.Prelude.{◌==◌, nat_le, nat_lt, slice_get, if◌then◌else◌}
 use Rattle.std.proofs.lemmas.Bool.Decides.{nat_tests}
 use Rattle.fkv_base.specs.declared.numbers.Version.{Version}
@@ -12,7 +12,6 @@ use Rattle.fkv_plane.specs.Passing.{passed}
 use Rattle.fkv_words.specs.PhaseWords.{phase_said}
 use Rattle.fkv_words.specs.declared.phase_words.PhaseSaid.{PhaseSaid}
 use Rattle.fkv_words.specs.declared.phase_words.PhaseSaid.TheVariants.{Says, Spoiled}
-use Rattle.fkv_words.proofs.Shown.{said_version}
 use Rattle.fkv_index.specs.declared.finding.FindAnswer.{FindAnswer}
 use Rattle.fkv_index.specs.declared.finding.FindStep.{FindStep}
 use Rattle.fkv_index.specs.declared.finding.FindStep.TheVariants as find
@@ -48,7 +47,7 @@ use Rattle.law_commit.specs.Below.fkv_world.Opened.{HasBecome}
 use Rattle.law_commit.specs.Below.fkv_world.Runs.{run}
 use Rattle.law_commit.specs.Below.fkv_world.World.{Event, Now, seat_at}
 use Rattle.law_commit.proofs.Below.fkv_world.Shown.{shape_stays}
-use Rattle.law_apart.specs.Apart.Rows.{AttemptApart, IsLater, SearchTells, TellsApart, TellsPhase, TellsSharer, TryApart, VersionsFit, has_linked, is_linking, is_lost}
+use Rattle.law_apart.specs.Apart.Rows.{AttemptApart, IsLater, SearchTells, TellsApart, TellsPhase, TellsSharer, TryApart, VersionsNear, has_linked, is_linking, is_lost}
 use Rattle.law_apart.proofs.OfApart.Links.{full_links}
 use Rattle.law_apart.proofs.OfApart.Tries.{marks_told, sharers_pass}
 use Rattle.law_opening.proofs.OfChanges.OfSessions.Attempting.{attempting_is}
@@ -83,7 +82,8 @@ use Rattle.law_order.specs.Known.Begins.{BegunLife, home_of_world}
 use Rattle.law_order.specs.Known.Knows.{SessionKnows}
 use Rattle.law_order.specs.Known.Told.{reply_in}
 use Rattle.law_order.proofs.OfApart.Heart.{became, seen_in}
-use Rattle.law_order.proofs.OfApart.Moments.{attempt_newest, attempt_prepared, attempt_upto, awake}
+use Rattle.law_order.proofs.OfApart.Moments.{attempt_newest, attempt_next, attempt_prepared, attempt_upto, awake, number, said_next}
+use Rattle.law_order.proofs.OfApart.Recent.{recent}
 use Rattle.law_order.proofs.OfTruth.Frames.{published_below}
 use Rattle.law_commit.specs.Below.law_refine.Index.Finders.{Search, Searches, SessionWork, session_part}
 use Rattle.law_commit.specs.Below.law_refine.Index.Finders as finders
@@ -95,6 +95,7 @@ use Rattle.law_commit.specs.Below.law_refine.Events.Reserved.{tail_at}
 use Rattle.law_commit.specs.Below.law_refine.Heads.Searches.{IsWorkAt, home_attempted}
 use Rattle.law_commit.proofs.Below.law_refine.OfEvents.Fixed.{ghost_fixed}
 use Rattle.law_commit.proofs.Below.law_refine.OfHeads.AtHome.{life_at_home}
+use Rattle.law_commit.proofs.Below.law_refine.OfRecords.FrameOwners.{sees_safely}
 use Rattle.law_commit.proofs.Below.law_refine.OfRecords.Frames.{finds_framed}
 use Rattle.law_commit.proofs.Below.law_refine.OfSeen.Lives.{life_head_fixed}
 
@@ -148,14 +149,6 @@ still_said (Says InProgress its) version still = cc
 still_said (Says WaitPending its) version still = cc
 still_said (Says WaitFlush its) version still = cc
 
--- the phase word says a version of 13 bits
-said_small : (word : ℕ) → version_said (phase_said word) < 2 ^ 13
-said_small word = by (phase_said word) refl
-  where
-    by : (said : PhaseSaid) → phase_said word ≡ said → version_said said < 2 ^ 13
-    by Spoiled e = omega arith
-    by (Says its version) e = let fits = (said_version word its version e).1 in omega (arith, fits)
-
 module _ (given : Given) (life : BegunLife) (apart : OpensApart life) (before : List Event) (enabled : AreEnabled (home_of_world life.opening) life.ghosts (mapped life.opening before)) where
   abbrev N : Now
   N = (run life.opening before).now
@@ -182,10 +175,6 @@ module _ (given : Given) (life : BegunLife) (apart : OpensApart life) (before : 
       by_cell (Reserved entry cell) its = omega arith
       by_cell (Dropped cell) its = omega arith
 
-  -- so as yet each takes 13 bits
-  pub versions_fit : VersionsFit L
-  versions_fit a = let low = version_low a in let small = said_small (word_at N.words (shared_place one.Phase)) in omega (arith, low, small)
-
   pub none_said : (h w : ℕ) → phase_version N.words ≤ w → NoneAbove L h w
   none_said h w high a is_in = let low = version_low a in omega (arith, low, high)
 
@@ -207,6 +196,29 @@ module _ (given : Given) (life : BegunLife) (apart : OpensApart life) (before : 
 
     pub shares : SharesTrying s.seen t t.step
     shares = subst (SharesAttempting s.seen s.attempt) tries (attempt_share s s.step attempts (tries_share life.opening life.start before session became_so.0 s life.begins.store.now became_so.1))
+
+    -- ---- records are of the version of an update, or of one of those beside it
+    pub versions_near : VersionsNear L t
+    versions_near update = record {
+      below = λ a. (let low = version_low a in let most = said_next given.floors given.left life.opening life.start before apart.quiet in omega (arith, low, most, next, request));
+      above = λ a cell mutable its.
+          (let safe = (sees_safely life.opening life.start before session s life.begins.store.now is_there (attempting_is s.step attempts)).read_only in
+          let seen : s.seen.offsets.read_only.0 ≤ a = subst (λ (x : Seen). x.offsets.read_only.0 ≤ a) same_seen mutable in
+          let own = recent given life apart before a cell.version (omega (arith, safe, seen)) (ap made_in its) in
+          let upto = attempt_upto given.floors given.left life.opening life.start before apart.quiet session became_so.0 s became_so.1 attempts updates in
+          let ahead = given.ahead life.opening life.start before session became_so.0 s became_so.1 apart.quiet.guarded apart.quiet.seen.rests in
+          let most = said_next given.floors given.left life.opening life.start before apart.quiet in
+          omega (arith, own, upto, ahead, most, request));
+    }
+      where
+        request : t.request.version.0 ≡ s.attempt.pending.request.version.0
+        request = ap (λ (r : Request). r.version.0) row.its_request
+
+        updates : is_read s.attempt.pending.request.op ≡ false
+        updates = subst (λ (r : Request). is_read r.op ≡ false) row.its_request update
+
+        next : number given.floors given.left life.opening life.start before apart.quiet ≤ s.attempt.pending.request.version.0
+        next = attempt_next given.floors given.left life.opening life.start before apart.quiet session became_so.0 s became_so.1 attempts updates
 
     -- ---- one that doesn't share its latch
     pub unshared_said : SharesSo s.seen t → t.has_shared ≡ false → is_read t.request.op ≡ false → phase_version N.words ≤ s.attempt.pending.request.version.0
@@ -353,9 +365,9 @@ module _ (given : Given) (life : BegunLife) (apart : OpensApart life) (before : 
     passes says at addr version ends past update = by_share t.has_shared refl
       where
         by_share : (b : Bool) → t.has_shared ≡ b → NoneAbove L (H (key_in t.request)) t.request.version.0
-        by_share true e = sharers_pass H L N.places t (reply_in N session s) (orderly H life.map L held) (held.falls (H (key_in t.request))) versions_fit tells row.knows says trial_apart e at addr version ends past update
+        by_share true e = sharers_pass H L N.places t (reply_in N session s) (orderly H life.map L held) (held.falls (H (key_in t.request))) versions_near tells row.knows says trial_apart e at addr version ends past update
         by_share false e = unshared_none (subst (SharesTrying s.seen t) at shares) e update
 
     -- and a record that it may change is of the version whose mark its header has
     pub marks : IsTrueReply H L N.places t t.step (reply_in N session s) → MarksTell L N.places t (reply_in N session s)
-    marks says = marks_told H L N.places t (reply_in N session s) (orderly H life.map L held) versions_fit row.knows says
+    marks says = marks_told H L N.places t (reply_in N session s) (orderly H life.map L held) versions_near row.knows says

@@ -2,6 +2,7 @@
 use Rattle.std.proofs.Common.{◌≡◌, ℕ, zero, suc, ◌+◌, ◌*◌, ◌/◌, ◌%◌, ◌^◌, ◌<◌, List, [], ◌∷◌, ◌++◌, length, refl, sym, ◌∙◌, ap, subst, arith}
 use Rattle.std.specs.Prelude.{Some, if◌then◌else◌, min, nat_eq, replicate, slice_get, slice_index, slice_index_or}
 use Rattle.std.proofs.lemmas.List.Sorted.{IsPermutation-refl}
+use Rattle.fkv_base.specs.declared.classes.StoreClass.TheVariants.{Specified}
 use Rattle.fkv_base.specs.declared.numbers.Addr.{Addr}
 use Rattle.fkv_base.specs.declared.phases.Phase.TheVariants.{Rest}
 use Rattle.fkv_base.specs.declared.shapes.Shape.{Shape}
@@ -139,6 +140,10 @@ module _ (o : Opened) (new : IsNewStore shape o) where
   sessions_open one other (suc zero) s found = let same : first_session other ≡ s = cc in subst (λ (its : SessionState). IsOpeningSession o 1 its) same (session_opens other 1)
   sessions_open one other (suc (suc more)) s found = absurd (cc)
 
+  pub its_class : Specified ≡ o.shape.class
+  unfolding shape
+  its_class = ap (λ (s : Shape). s.class) (sym new.its_shape)
+
   keeper_opens : (n : Now) → IsOpeningWorld o n → IsNewKeeper o.shape (newest_commit o) o.lost.items (record { shape = shape; places = places; state = resting_keeper n.keeper })
   keeper_opens n its =
       let was = its.its_keeper in
@@ -147,6 +152,7 @@ module _ (o : Opened) (new : IsNewStore shape o) where
         its_places = subst (λ (s : Shape). ArePlacesOfStore s places) (sym new.its_shape) places_fit;
         newest = was.newest;
         used = was.used;
+        class = its_class;
         in_hand = sym new.lost;
         its_sessions = was.its_sessions;
         sought = was.sought;

@@ -85,15 +85,15 @@ use Rattle.law_order.specs.Known.Knows.{AllKnowBehind}
 use Rattle.law_order.specs.Known.Told.{AreToldTruly, reply_in}
 use Rattle.law_order.proofs.OfApart.Heart.{became, try_in}
 use Rattle.law_order.proofs.OfApart.Moments.{attempt_prepared, awake}
-use Rattle.law_order.proofs.OfApart.Newest.{asks_phase, held, same_seen, shares, tells, trial_apart, version_low, versions_fit}
+use Rattle.law_order.proofs.OfApart.Newest.{asks_phase, held, same_seen, shares, tells, trial_apart, version_low}
 use Rattle.law_order.proofs.OfShifts.Catches.{HasPassed, SaysElse, loads_next}
 use Rattle.law_order.proofs.OfShifts.Sessions.{Come, RepliesSo}
 use Rattle.law_order.proofs.OfShifts.Tries.{ShiftsBy}
 use Rattle.law_commit.specs.Below.law_refine.Events.GhostEvents.{life_ghosts, mapped}
 
 -- ---- what a test says
-shift_so : (prepare read marked above : Bool) → (prepare && not read && not marked && above) ≡ true → (prepare ≡ true) × (read ≡ false) × (above ≡ true)
-shift_so true false false true e = (refl, refl, refl)
+shift_so : (prepare read marked above : Bool) → (prepare && not read && not marked && above) ≡ true → (prepare ≡ true) × (read ≡ false) × (above ≡ true) × (marked ≡ false)
+shift_so true false false true e = (refl, refl, refl, refl)
 shift_so true false false false e = cc
 shift_so true false true above e = cc
 shift_so true true marked above e = cc
@@ -242,18 +242,19 @@ module _ (given : Given) (life : BegunLife) (apart : OpensApart life) (before : 
         in_chain : MetIn L (L.chains (H (key_in t.request))) (Some version) → version.0 ≤ phase_version N.words
         in_chain met = version_said_by met.at version met.met
 
-    later_so : (first : Option Version) → (walk_next N.places t.walk reply).first ≡ first → is_above first t.request.version ≡ true → t.step ≡ Walks → t.has_shared ≡ true → t.request.version.0 < phase_version N.words
-    later_so None is above at has = cc
-    later_so (Some version) is above at has =
+    later_so : is_next_marked t.request.version ≡ false → (first : Option Version) → (walk_next N.places t.walk reply).first ≡ first → is_above first t.request.version ≡ true → t.step ≡ Walks → t.has_shared ≡ true → t.request.version.0 < phase_version N.words
+    later_so unmarked None is above at has = cc
+    later_so unmarked (Some version) is above at has =
         let up = first_said at has version is in
         let high : mark t.request.version.0 < version.0 = grind (arith, nat_tests, above) in
-        let own = mark_small t.request.version.0 t.request.version_fits in
+        let few : t.request.version.0 < 8191 = grind (arith, nat_tests, unmarked) in
+        let own = mark_small t.request.version.0 (omega (arith, few)) in
         omega (arith, up, high, own)
 
     walk_passes : t.step ≡ Walks → must_shift (record t { walk = walk_next N.places t.walk reply }) ≡ true → HasPassed top s.seen
     walk_passes at must =
         let so = shift_so (is_prepare t.seen.phase) (is_read t.request.op) (is_next_marked t.request.version) (is_above (walk_next N.places t.walk reply).first t.request.version) must in
-        let later = later_so (walk_next N.places t.walk reply).first refl so.2 at (shared at so.0 so.1) in
+        let later = later_so so.3 (walk_next N.places t.walk reply).first refl so.2 at (shared at so.0 so.1) in
         let updates : is_read s.attempt.pending.request.op ≡ false = subst (λ (r : Request). is_read r.op ≡ false) row.its_request so.1 in
         let own = attempt_prepared given.floors given.left life.opening life.start before apart.quiet session became_so.0 s became_so.1 attempts updates (prepares_so so.0) in
         let request = ap (λ (r : Request). r.version.0) row.its_request in
@@ -262,7 +263,7 @@ module _ (given : Given) (life : BegunLife) (apart : OpensApart life) (before : 
     walk_never : t.step ≡ Walks → must_shift (record t { walk = walk_next N.places t.walk reply }) ≡ true → (is_prepare s.seen.phase ≡ true → is_read t.request.op ≡ false → t.request.has_latch ≡ true) → ⊥
     walk_never at must came =
         let so = shift_so (is_prepare t.seen.phase) (is_read t.request.op) (is_next_marked t.request.version) (is_above (walk_next N.places t.walk reply).first t.request.version) must in
-        let stays = came_stays H L N.places t reply (versions_fit given life apart before enabled) row.knows its_apart at (shared at so.0 so.1) (came (prepares_so so.0) so.1) in
+        let stays = came_stays H L N.places t reply row.knows its_apart at (shared at so.0 so.1) (came (prepares_so so.0) so.1) in
         clash (must_shift (record t { walk = walk_next N.places t.walk reply })) must stays
 
     -- ---- where the phase word is loaded behind the share

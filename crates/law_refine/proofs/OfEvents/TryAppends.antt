@@ -1,10 +1,10 @@
--- What a try appends is of its request's version, and is published by a word that carries the address which it has reserved, behind the record that was found.
-use Rattle.std.proofs.Common.{◌≡◌, ◌∙◌, ℕ, ◌^◌, ◌<◌, arith, refl, sym, ap, subst, Bool, true, false}
+-- What a try appends has the mark of its request's version, and is published by a word that carries the address which it has reserved, behind the record that was found.
+use Rattle.std.proofs.Common.{◌≡◌, ℕ, ◌^◌, ◌<◌, arith, refl, sym, ap, subst, Bool, true, false}
 use Rattle.std.specs.Prelude.{◌==◌, ◌&&◌, not, nat_le, nat_lt, if◌then◌else◌, ⊤, Option, Some, None}
 use Rattle.std.proofs.lemmas.Bool.Decides.{nat_tests}
 use Rattle.fkv_base.specs.declared.numbers.Addr.{Addr}
 use Rattle.fkv_base.specs.declared.numbers.Version.{Version}
-use Rattle.fkv_marks.proofs.Shown.{mark_small}
+use Rattle.fkv_marks.specs.Marks.{mark}
 use Rattle.fkv_map.specs.declared.operations.Reply.{Reply}
 use Rattle.fkv_map.specs.Map.{absent_word}
 use Rattle.fkv_map.specs.Keys.{key_of, reply_from}
@@ -60,9 +60,9 @@ HoldsAt a (appending.Fills addr) = addr.0 < 2 ^ 48
 HoldsAt a (appending.Publishes addr) = (addr.0 < 2 ^ 48) × (a.publishing ≡ SwapsEntry a.slot.place a.slot.entry (new_entry addr.0 a.slot.tag))
 HoldsAt a step = ⊤
 
--- its words are of this request's version and key, and the record before is the one that the word of the entry names which was found
+-- its words have the mark of this request's version, and its key, and the record before is the one that the word of the entry names which was found
 pub record WordsAre (request : Request) (its_words : RecordWords) (entry : ℕ) : Type 0 where
-  pub its_version : its_words.header.version ≡ request.version
+  pub its_mark : its_words.header.version.0 ≡ mark request.version.0
   pub its_key : its_words.key ≡ key_of request.op
   pub previous : its_words.header.previous.0 ≡ entry_addr entry
 
@@ -148,12 +148,9 @@ ends_at p request t its e =
 takes_at : (p : Places) (request : Request) (t : TryState) (its : Reply) → t.request ≡ request → IsTryAt request (takes_effect p t its)
 takes_at p request t its e = ends_at p request (record t { effect = Some its }) (answer.Done its) e
 
-its_number : ℕ → Version
-its_number n = record { 0 = n }
-
 appends_at : (request : Request) (t : TryState) (old : ℕ) → t.request ≡ request → IsTryAt request (appends t old)
-unfolding appends its_number
-appends_at request t old e = record { same = e; knows = record { same = record { its_version = ap (λ (n : ℕ). its_number n) (mark_small t.request.version.0 t.request.version_fits) ∙ ap (λ (r : Request). r.version) e; its_key = ap (λ (r : Request). key_of r.op) e; previous = refl }; holds = tt } }
+unfolding appends
+appends_at request t old e = record { same = e; knows = record { same = record { its_mark = ap (λ (r : Request). mark r.version.0) e; its_key = ap (λ (r : Request). key_of r.op) e; previous = refl }; holds = tt } }
 
 from_at : (request : Request) (t : TryState) (old : OldValue) → t.request ≡ request → IsTryAt request (copies_from t old)
 unfolding copies_from
