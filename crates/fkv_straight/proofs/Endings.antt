@@ -94,7 +94,7 @@ waiting_seat m n op (Some its) h none = ap (λ (x : Sitter). x.seat) h.2
 waiting_seat m n op None h none = ap (λ (x : Sitter). x.seat) none
 
 -- so there is room for another behind it
-room_left : (requests : List PendingRequest) (its : PendingRequest) → length requests + 1 < max_pending → is_full (requests ++ its ∷ []) ≡ false
+pub room_left : (requests : List PendingRequest) (its : PendingRequest) → length requests + 1 < max_pending → is_full (requests ++ its ∷ []) ≡ false
 room_left requests its few = let e : length (requests ++ its ∷ []) ≡ length requests + 1 = length_push requests its in grind (arith, nat_tests, e)
 
 waiting_by : (m n : Sitter) (op : Op) (g : Going) → length m.state.requests + 1 < max_pending → n ≡ record m { state = update_waiting m.state op } → GoesBy m.seat m.state g → GoesBy n.seat n.state g

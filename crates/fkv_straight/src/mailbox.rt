@@ -5,17 +5,16 @@ ghost use Rattle.fkv_map.specs.declared.operations.Call.TheVariants as call;
 ghost use Rattle.fkv_ops.specs.Requests.{is_read};
 ghost use Rattle.fkv_plane.specs.declared.asks.Ask.TheVariants.{Done};
 ghost use Rattle.fkv_pending.specs.declared.mailing.Mailing.TheVariants.{LoadsHeader, StoresAddress};
-ghost use Rattle.fkv_session.specs.declared.answers.Told.TheVariants.{Polled};
 ghost use Rattle.fkv_session.specs.Alike.{lasting};
-ghost use Rattle.fkv_session.specs.Sessions.{SessionState, is_busy, read_polled, session_ask};
+ghost use Rattle.fkv_session.specs.Sessions.{SessionState, is_busy, session_ask};
 ghost use Rattle.fkv_straight.specs.Course.{GoesBy, course_of};
-ghost use Rattle.fkv_straight.specs.Mailbox.{HasTaken, IsSought, Looks, MayLook, PutsOn};
+ghost use Rattle.fkv_straight.specs.Mailbox.{HasTaken, IsAsking, IsSought, Looks, MayLook, PutsOn};
 ghost use Rattle.fkv_straight.specs.Standing.{IsCaughtUp};
 ghost use Rattle.fkv_straight.specs.declared.going.Going.{Going};
 
 use crate::lines::Line;
 use crate::words::{header_said, is_read};
-use fkv_base::{Key, MAX_PENDING, Value};
+use fkv_base::{Key, MAX_PENDING};
 use fkv_map::{Call, Op};
 use fkv_ops::{DiskRecord, HeaderSaid, value_of_word};
 use fkv_pending::{MailRecord, PendingRequest, RequestName, Ticket};
@@ -28,6 +27,30 @@ const EMPTY: u64 = 0;
 const ASKED: u64 = 1;
 
 const READY: u64 = 2;
+
+/// Puts the address of this record into the mailbox, if that is empty. Whether it was.
+#[inline(always)]
+fn put<L: Line>(line: &mut L, machine: &Session, _op: Op, sought: DiskRecord) -> bool
+    requires seat { machine.now.seat ≡ L.seat line.old }
+    requires at { (s : SessionState) × IsSought (course_of (L.seat line.old) s _op (call.Op _op)) sought (L.stands line.old) }
+    requires room { L.kept line.old ≤ 48 }
+    requires reads { is_read _op ≡ true }
+    ensures seat { L.seat line.new ≡ L.seat line.old }
+    ensures led { (start : L) (call : Call) → L.led start call line.old → L.led start call line.new }
+    ensures asks { (s : SessionState) → IsSought (course_of (L.seat line.old) s _op (call.Op _op)) sought (L.stands line.old)
+        → IsAsking (course_of (L.seat line.old) s _op (call.Op _op)) sought result (L.stands line.new) }
+{
+    let session = machine.number();
+    let state_place = SessionWord::MailState.place(session);
+    let state = line.load(state_place);
+    if state != EMPTY {
+        return false;
+    }
+    let address_place = SessionWord::MailAddress.place(session);
+    let _ = line.store(address_place, sought.addr.0);
+    let _ = line.store(state_place, ASKED);
+    true
+}
 
 /// Ends the call of a read whose chain leaves memory at this record: asks for it if the mailbox is empty. The read waits. None if the list would be full
 /// then: a session with a full list makes no straight call.
@@ -53,16 +76,8 @@ pub(crate) fn ask_for<L: Line>(
     if machine.pending() >= MAX_PENDING - 1 {
         return None;
     }
-    let session = machine.number();
-    let state_place = SessionWord::MailState.place(session);
-    let state = line.load(state_place);
-    let is_empty = state == EMPTY;
-    if is_empty {
-        let address_place = SessionWord::MailAddress.place(session);
-        let _ = line.store(address_place, sought.addr.0);
-        let _ = line.store(state_place, ASKED);
-    }
-    let ticket = machine.take_pending_read(op, sought, is_empty);
+    let has_asked = put(line, machine, op, sought);
+    let ticket = machine.take_pending_read(op, sought, has_asked);
     Some(Told::PendingRead(ticket))
 }
 
@@ -157,18 +172,6 @@ fn ask_on<L: Line>(line: &mut L, machine: &mut Session, its: Asker, before: Disk
     Told::Polled(1)
 }
 
-/// The read is finished: its key has this value, or none.
-#[inline(always)]
-fn finish(machine: &mut Session, its: Asker, value: Option<Value>) -> Told
-    requires may { MayLook machine.old.state its }
-    ensures machine { machine.new ≡ record machine.old { state = read_polled machine.old.state its.ticket value } }
-    ensures goes_by { (going : Going) → GoesBy machine.old.seat machine.old.state going → GoesBy machine.new.seat machine.new.state going }
-    ensures told { result ≡ Polled 0 }
-{
-    machine.take_polled_read(its.ticket, value);
-    Told::Polled(0)
-}
-
 /// Goes on with a poll that has taken this record: the read is finished if the record is its key's, or the last of the chain. Else it asks for the record
 /// before. None if the header is spoiled: the machine has to catch up with the line then.
 #[inline(always)]
@@ -194,18 +197,20 @@ fn judge<L: Line>(
         return None;
     };
     let key = its.pending.request.op.key();
-    let told = if taken.key.0 == key.0 {
+    if taken.key.0 == key.0 {
         let value = value_of_word(taken.value);
-        finish(machine, its, value)
-    } else if previous.0 == 0 {
-        finish(machine, its, None)
-    } else {
-        let before = DiskRecord {
-            entry: its.sought.entry,
-            addr: previous,
-        };
-        ask_on(line, machine, its, before)
+        machine.take_polled_read(its.ticket, value);
+        return Some(Told::Polled(0));
+    }
+    if previous.0 == 0 {
+        machine.take_polled_read(its.ticket, None);
+        return Some(Told::Polled(0));
+    }
+    let before = DiskRecord {
+        entry: its.sought.entry,
+        addr: previous,
     };
+    let told = ask_on(line, machine, its, before);
     Some(told)
 }
 

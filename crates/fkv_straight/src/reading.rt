@@ -38,7 +38,7 @@ pub(crate) fn tell<L: Line>(
     ensures ended { (c : Course) → Goes c (L.seat line.old) op going.now → c.occasion ≡ occasion.Call → HasMet c met (L.stands line.old)
         → IfOk result (λ its. IsEnded c.lasts its (L.stands line.new)) }
     ensures left { (c : Course) → HasMet c met (L.stands line.old) → IfErr result (λ sought. IsSought c sought (L.stands line.new)) }
-    ensures kept { IfErr result (L.kept line.new ≤ 48) }
+    ensures kept { IfErr result (λ sought. L.kept line.new ≤ 48) }
 {
     match met {
         Met::Found(record) => {

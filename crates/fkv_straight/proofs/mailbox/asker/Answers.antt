@@ -1,0 +1,17 @@
+-- What waits alone, and has asked.
+use Rattle.std.proofs.Common.{sym, ◌∙◌}
+use Rattle.fkv_straight.proofs.Polls.{only_is}
+use Rattle.fkv_straight.proofs.mailbox.asker.Goals as goal
+
+pub returns : goal.returns
+returns c =
+    let p = c.in-Some.pending in
+    record {
+      waits = only_is c.args.machine.now.state.requests p (sym c.only_request-only.ensures ∙ c.in-Some.is);
+      named = c.in-Read.is;
+      reads = sym c.is_read-reads.ensures ∙ c.if-reads.true;
+      seeks = c.in-Some-pending.is;
+      has_asked = c.if-pending.true;
+      awake = sym c.is_awake-awake.ensures ∙ c.if-awake.true;
+      no_orphan = sym c.is_orphaned-orphaned.ensures ∙ c.if-orphaned.false;
+    }
