@@ -59,14 +59,14 @@ fn has_finished(told: Option<Told>) -> bool {
 
 /// Up to the turn that finishes the commit each one serves a read that was begun before it. Four of them copy a part of the index.
 fn goes(rt: &impl Abort, store: &mut Store) {
-    let mut parts = 0;
+    let mut parts: u32 = 0;
     for _ in 0..12 {
         let _ = whole(store, Get(0, 0));
         let (steps, told) = turn(store);
         hold!(rt; steps <= PART + BESIDE);
         hold!(rt; is_served(store));
         if steps >= PART {
-            parts += 1;
+            parts = parts.saturating_add(1);
         }
         if has_finished(told) {
             hold!(rt; parts == 4);

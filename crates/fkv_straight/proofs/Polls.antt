@@ -119,6 +119,7 @@ goes_hand k l op one other g goes = record {
   its_head = goes.its_head;
   its_read_only = goes.its_read_only;
   its_version = goes.its_version;
+  its_mark = goes.its_mark;
   moves_on = goes.moves_on;
   prepares = goes.prepares;
   spare_fits = goes.spare_fits;

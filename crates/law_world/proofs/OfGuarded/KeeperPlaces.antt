@@ -212,12 +212,12 @@ maintain_led p s (Done maintain.Spent) at = tt
 maintain_led p s (Done maintain.Broken) at = tt
 maintain_led p s ask at = stays p s Maintains at tt
 
-taken_row : (p : Places) (copy : Option Copier) (rests : Bool) → is_copy_resting copy ≡ rests → (is_copy_resting copy ≡ true → CopierRow p copy) → CopierRow p (if rests then copy else Some (copy_begun p))
-taken_row p copy true is row = row is
-taken_row p copy false is row = (refl, first_row p)
+copier_row : (p : Places) (copy : Option Copier) (rests : Bool) → is_copy_resting copy ≡ rests → (is_copy_resting copy ≡ true → CopierRow p copy) → CopierRow p (if rests then copy else Some (copy_begun p))
+copier_row p copy true is row = row is
+copier_row p copy false is row = (refl, first_row p)
 
 copies_led : (p : Places) (s : KeeperState) (granted : Bool) → (is_copy_resting s.copy ≡ true → CopierRow p s.copy) → IsKeeperRow p (copies p s granted)
-copies_led p s granted rest = either (granted || is_copy_resting s.copy) p _ _ (taken_row p s.copy (is_copy_resting s.copy) refl rest) tt
+copies_led p s granted rest = either (granted || is_copy_resting s.copy) p _ _ (copier_row p s.copy (is_copy_resting s.copy) refl rest) tt
 
 next_led : (p : Places) (s : KeeperState) (c : Commit) (granted : Bool) (else_next : KeeperState) → (is_copy_resting s.copy ≡ true → CopierRow p s.copy) → IsKeeperRow p else_next → IsKeeperRow p (copies_next p s c granted else_next)
 next_led p s c granted else_next rest row = either c.is_copied p else_next (copies p s granted) row (copies_led p s granted rest)
