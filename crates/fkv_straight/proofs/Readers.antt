@@ -8,6 +8,7 @@ use Rattle.fkv_map.specs.declared.operations.Call.TheVariants as call
 use Rattle.fkv_map.specs.declared.operations.Op.{Op}
 use Rattle.fkv_ops.specs.declared.answers.DiskRecord.{DiskRecord}
 use Rattle.fkv_ops.specs.Requests.{is_read}
+use Rattle.fkv_ops.specs.Trying.{is_prepare}
 use Rattle.fkv_pending.specs.declared.pending_requests.PendingRequest.{PendingRequest}
 use Rattle.fkv_pending.specs.declared.pending_requests.RequestName.TheVariants.{Read}
 use Rattle.fkv_pending.specs.declared.pending_requests.Ticket.{Ticket}
@@ -29,7 +30,7 @@ use Rattle.fkv_straight.proofs.Tests.{and_false}
 
 -- ---- a read that asks in its call
 pub reads_share_none : (c : Course) → is_read c.op ≡ true → shares c ≡ false
-reads_share_none c reads = rw (reads, and_false _) refl
+reads_share_none c reads = rw (reads, and_false (is_prepare c.lasts.seen.phase)) refl
 
 asking_lasts : (m : SessionState) (op : Op) (sought : DiskRecord) (has_asked : Bool)
     → lasting (read_waiting m op sought has_asked)

@@ -90,7 +90,7 @@ pub(crate) struct Asker {
 }
 
 /// The read that a poll may look into the mailbox for straight, if there is one: it alone waits, and has asked there.
-pub(crate) fn asker(machine: &Session) -> Option<Asker>
+pub(crate) fn asking_read(machine: &Session) -> Option<Asker>
     ensures { IfSome result (λ its. MayLook machine.now.state its) }
 {
     let only = machine.only_request();

@@ -23,7 +23,7 @@ use crate::going::Going;
 use crate::handing::catch_up;
 use crate::hot::{Due, go_due, go_hot};
 use crate::lines::Line;
-use crate::mailbox::{Asker, asker, poll_asker};
+use crate::mailbox::{Asker, asking_read, poll_asker};
 use crate::polling::poll_by;
 use crate::refreshing::refresh;
 use fkv_base::Serial;
@@ -288,7 +288,7 @@ impl StraightSession {
             × StandAlike (begins self.old.seat self.old.state call.Poll) (begins (L.seat line.old) (L.stands line.old) call.Poll) }
         ensures stayed { result ≡ Stayed → (line.new ≡ line.old) × (self.new ≡ self.old) }
     {
-        let reader = asker(&self.machine);
+        let reader = asking_read(&self.machine);
         match reader {
             Some(its) => self.poll_asker(line, its),
             None => self.poll_lone(line),

@@ -1,7 +1,7 @@
 -- What waits alone, and has asked.
 use Rattle.std.proofs.Common.{sym, ◌∙◌}
 use Rattle.fkv_straight.proofs.Polls.{only_is}
-use Rattle.fkv_straight.proofs.mailbox.asker.Goals as goal
+use Rattle.fkv_straight.proofs.mailbox.asking_read.Goals as goal
 
 pub returns : goal.returns
 returns c =
