@@ -151,7 +151,8 @@ fn take_record<L: Line>(line: &mut L, machine: &Session, its: Asker) -> MailReco
 #[inline(always)]
 fn ask_on<L: Line>(line: &mut L, machine: &mut Session, its: Asker, before: DiskRecord) -> Told
     requires seat { machine.old.seat ≡ L.seat line.old }
-    requires at { (s : SessionState) × (lasting machine.old.state ≡ lasting s) × PutsOn (L.seat line.old) s its.pending before (StoresAddress before.addr) (L.stands line.old) }
+    requires at { (s : SessionState) × (lasting machine.old.state ≡ lasting s)
+        × PutsOn (L.seat line.old) s its.pending before (StoresAddress before.addr) (L.stands line.old) }
     requires may { MayLook machine.old.state its }
     requires room { L.kept line.old ≤ 5 }
     ensures seat { L.seat line.new ≡ L.seat line.old }
@@ -214,8 +215,8 @@ fn judge<L: Line>(
     Some(told)
 }
 
-/// Makes the steps of a poll, each the one that the machine's table asks for, up to its answer. None if it has met anything unusual: the machine has to catch up
-/// with the line then.
+/// Makes the steps of a poll, each the one that the machine's table asks for, up to its answer. None if it has met anything unusual: the machine has to
+/// catch up with the line then.
 #[inline(never)]
 pub(crate) fn poll_asker<L: Line>(line: &mut L, machine: &mut Session, its: Asker) -> Option<Told>
     requires idle { is_busy (L.stands line.old).step ≡ false }

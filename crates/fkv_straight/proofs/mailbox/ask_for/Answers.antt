@@ -8,14 +8,14 @@ use Rattle.fkv_straight.proofs.mailbox.ask_for.Goals as goal
 pub put-has_asked-requires-clause-at : goal.put-has_asked-requires-clause-at
 put-has_asked-requires-clause-at g c = (c.requires.at.0, c.requires.at.2)
 
-pub returns-else-clause-goes_by : goal.returns-else-clause-goes_by
-returns-else-clause-goes_by g c = λ its by.
+pub returns-clause-goes_by : goal.returns-clause-goes_by
+returns-clause-goes_by g c = λ its by.
     let m = c.args.machine.now in
     let few : length m.state.requests + 1 < max_pending = omega arith in
     asking_by m c.take_pending_read-ticket.new.self c.args.op c.args.sought c.put-has_asked.result its few c.take_pending_read-ticket.ensures.next by
 
-pub returns-else-clause-ended : goal.returns-else-clause-ended
-returns-else-clause-ended g c =
+pub returns-clause-ended : goal.returns-clause-ended
+returns-clause-ended g c =
     let k = g.L.Line.seat c.args.line.now in
     let s = c.requires.at.0 in
     let m = c.args.machine.now in

@@ -53,8 +53,8 @@ store-requires-2-clause-asked g c =
     let stored = address_stored its c.args.sought c.store.result v w refl empty (leads_here k (g.L.Line.seat c.load-state.new.self) v w c.store.result c.load-state.ensures.seat c.store.ensures.next) in
     asks_here k (g.L.Line.seat c.store.new.self) w _ (c.store.ensures.seat ∙ c.load-state.ensures.seat) (asked_asks its c.args.sought w refl stored ∙ (λ i. Store (sym place i) 1))
 
-pub returns-else-state-clause-asks : goal.returns-else-state-clause-asks
-returns-else-state-clause-asks g c = λ s at.
+pub returns-clause-asks : goal.returns-clause-asks
+returns-clause-asks g c = λ s at.
     let k = g.L.Line.seat c.args.line.now in
     let its = course_of k s c.args._op (call.Op c.args._op) in
     let u = g.L.Line.stands c.args.line.now in
