@@ -9,9 +9,9 @@ returns c =
     record {
       waits = only_is c.args.machine.now.state.requests p (sym c.only_request-only.ensures ∙ c.in-Some.is);
       named = c.in-Read.is;
-      reads = sym c.is_read-reads.ensures ∙ c.if-reads.true;
-      seeks = c.in-Some-pending.is;
-      has_asked = c.if-pending.true;
-      awake = sym c.is_awake-awake.ensures ∙ c.if-awake.true;
+      reads = sym c.is_read-reads.ensures ∙ c.if-not-reads.false;
+      seeks = c.in-Some-sought.is;
+      has_asked = c.if-not-pending.false;
+      awake = sym c.is_awake-awake.ensures ∙ c.if-not-awake.false;
       no_orphan = sym c.is_orphaned-orphaned.ensures ∙ c.if-orphaned.false;
     }

@@ -22,11 +22,11 @@ first-state-requires-clause-asked g c =
     let place : c.place-state_place.result ≡ session_place k.number own.MailState = c.place-state_place.ensures ∙ (λ i. session_place (number i) own.MailState) in
     looks_asks k s (begins k s call.Poll) c.args.its.pending (looks_begun k s c.args.its.pending may.awake may.no_orphan may.waits may.has_asked) ∙ ap Load (sym place)
 
-pub returns-then-state-clause-goes_by : goal.returns-then-state-clause-goes_by
-returns-then-state-clause-goes_by g c = λ going by. none_by c.args.machine.now c.take_unpolled.new.self going c.take_unpolled.ensures by
+pub returns-then-state-ne-READY-clause-goes_by : goal.returns-then-state-ne-READY-clause-goes_by
+returns-then-state-ne-READY-clause-goes_by g c = λ going by. none_by c.args.machine.now c.take_unpolled.new.self going c.take_unpolled.ensures by
 
-pub returns-then-state-clause-ended : goal.returns-then-state-clause-ended
-returns-then-state-clause-ended g c =
+pub returns-then-state-ne-READY-clause-ended : goal.returns-then-state-ne-READY-clause-ended
+returns-then-state-ne-READY-clause-ended g c =
     let k = g.L.Line.seat c.args.line.now in
     let s = g.L.Line.stands c.args.line.now in
     let its = c.args.its in
@@ -34,7 +34,7 @@ returns-then-state-clause-ended g c =
     let m = c.args.machine.now in
     let n = c.take_unpolled.new.self in
     let may = look_alike m.state s its c.requires.alike c.requires.may in
-    let ended = found_none k s (begins k s call.Poll) u its.pending its.sought c.first-state.result (seeks_so m.state its c.requires.may) (looks_begun k s its.pending may.awake may.no_orphan may.waits may.has_asked) c.first-state.ensures.next c.if-state.true in
+    let ended = found_none k s (begins k s call.Poll) u its.pending its.sought c.first-state.result (seeks_so m.state its c.requires.may) (looks_begun k s its.pending may.awake may.no_orphan may.waits may.has_asked) c.first-state.ensures.next c.if-state-ne-READY.true in
     (read_asks k u _ _ ended, none_caught_up m.state n.state s u its c.requires.alike c.requires.may (ap (λ (x : Sitter). x.state) c.take_unpolled.ensures) ended)
 
 pub take_record-taken-requires-clause-at : goal.take_record-taken-requires-clause-at
@@ -44,7 +44,7 @@ take_record-taken-requires-clause-at g c =
     let its = c.args.its in
     let u = g.L.Line.stands c.first-state.new.self in
     let may = look_alike c.args.machine.now.state s its c.requires.alike c.requires.may in
-    let ready = found_ready k s (begins k s call.Poll) u its.pending c.first-state.result (looks_begun k s its.pending may.awake may.no_orphan may.waits may.has_asked) c.first-state.ensures.next c.if-state.false in
+    let ready = found_ready k s (begins k s call.Poll) u its.pending c.first-state.result (looks_begun k s its.pending may.awake may.no_orphan may.waits may.has_asked) c.first-state.ensures.next c.if-state-ne-READY.false in
     (s, subst (λ (x : Seat). Looks x s its.pending LoadsHeader u) (sym c.first-state.ensures.seat) ready)
 
 pub judge-requires-clause-at : goal.judge-requires-clause-at

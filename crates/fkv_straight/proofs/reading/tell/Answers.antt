@@ -45,4 +45,4 @@ pub returns-in-OnDisk-clause-left : goal.returns-in-OnDisk-clause-left
 returns-in-OnDisk-clause-left g c = λ its at.
     let slot = c.in-OnDisk.slot in
     let met = subst (λ (m : Met). HasMet its m (g.L.Line.stands c.args.line.now)) c.in-OnDisk.is at in
-    (slot.place, met)
+    (slot.place, met.0, met.1, met.2)
