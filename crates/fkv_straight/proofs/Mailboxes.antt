@@ -48,7 +48,7 @@ use Rattle.fkv_straight.specs.Standing.{IsEnded, IsLed, asked, begins, leads, le
 use Rattle.fkv_straight.proofs.Tests.{differs}
 
 -- ---- the chain leaves memory: the try ends, and the attempt loads the state of the mailbox
-awaiting : Course → Trail → ℕ → ℕ → Loading → ℕ → TryState
+abbrev awaiting : Course → Trail → ℕ → ℕ → Loading → ℕ → TryState
 awaiting c trail place entry loading addr = trying c (walking c trail place entry loading (walk.Ended (walked.OnDisk (record { 0 = addr })))) append_rested (Ended (tried.AwaitsDisk (record { entry = entry; addr = record { 0 = addr } })))
 
 leaves_memory : (c : Course) (trail : Trail) (place entry addr : ℕ) (loading : Loading) (step : Walking) → (addr == 0) ≡ false → nat_lt addr (head_in c) ≡ true → shares c ≡ false → is_read c.op ≡ true
@@ -94,7 +94,7 @@ unfolding mail_ask passed
 asked_asks c sought s calls at = put_asks c sought StoresAsked s calls at
 
 -- asks are counted
-counted : Course → ℕ → AttemptState → ℕ
+abbrev counted : Course → ℕ → AttemptState → ℕ
 counted c asks a = asks_after asks (is_word_ask (session_ask c.seat (sitting c asks a)))
 
 pub found_empty : (c : Course) (sought : DiskRecord) (found : ℕ) (s u : SessionState) → c.occasion ≡ AtCall → Puts c sought (LoadsState (Put sought.addr)) s → u ≡ leads c.seat s found → found ≡ 0 → Puts c sought (StoresAddress sought.addr) u
@@ -150,7 +150,7 @@ pub empty_asks : (k : Seat) (s u : SessionState) (its : PendingRequest) (taken :
 unfolding mail_ask passed
 empty_asks k s u its taken at = look_asks k s u its (StoresEmpty (Taken taken)) at
 
-polled : Seat → SessionState → PendingRequest → ℕ → AttemptState → ℕ
+abbrev polled : Seat → SessionState → PendingRequest → ℕ → AttemptState → ℕ
 polled k s its asks a = asks_after asks (is_word_ask (session_ask k (polling s its asks a)))
 
 pub found_ready : (k : Seat) (s u v : SessionState) (its : PendingRequest) (found : ℕ) → Looks k s its (LoadsState Take) u → v ≡ leads k u found → found ≡ 2 → Looks k s its LoadsHeader v
@@ -194,44 +194,68 @@ found_none k s u v its sought found so at e other = let not : (found == 2) ≡ f
   lasts = rw (e, at.1, not, so.reads, so.seeks) refl;
 }
 
+-- the same request with its name and its record spelled
+abbrev spelled : PendingRequest → Ticket → DiskRecord → PendingRequest
+spelled its ticket sought = record its { name = Read ticket; sought = Some sought }
+
+spelled_is : (its : PendingRequest) (ticket : Ticket) (sought : DiskRecord) → its.name ≡ Read ticket → its.sought ≡ Some sought → spelled its ticket sought ≡ its
+spelled_is its ticket sought named seeks = λ i. record its { name = sym named i; sought = sym seeks i }
+
 -- the record is the read's
-found_value : (k : Seat) (s u : SessionState) (its : PendingRequest) (sought : DiskRecord) (taken : MailRecord) (previous : Addr) (version : Version) (ticket : Ticket) (value : Option Value) → Seeks its sought → its.name ≡ Read ticket → HasTaken k s its taken u
-    → header_said taken.header ≡ Says previous version → (taken.key.0 == (key_of its.request.op).0) ≡ true → value_of taken.value ≡ as_number value → IsEnded (lasting (read_polled (lone s its) ticket value)) (told.Polled 0) u
+found_value : (k : Seat) (s u : SessionState) (its : PendingRequest) (sought : DiskRecord) (taken : MailRecord) (previous : Addr) (version : Version) (ticket : Ticket) (value : Option Value) → is_read its.request.op ≡ true → HasTaken k s (spelled its ticket sought) taken u
+    → header_said taken.header ≡ Says previous version → (taken.key.0 == (key_of its.request.op).0) ≡ true → value_of taken.value ≡ as_number value → IsEnded (lasting (read_polled (lone s (spelled its ticket sought)) ticket value)) (told.Polled 0) u
 unfolding HasTaken Looks leads sitting_next poll_ledto attempting_next look_ledto finishes_request polls_at attempting_ask mail_next mail_ask passed with_asked lasting
-found_value k s u its sought taken previous version ticket (Some value) so named (w, reply, at, e) said mine is = record {
-  ended = rw (e, at.1, so.reads, so.seeks, said, mine, is, named) refl;
-  lasts = rw (e, at.1, so.reads, so.seeks, said, mine, is, named) refl;
+found_value k s u its sought taken previous version ticket (Some value) reads (w, reply, at, e) said mine is = record {
+  ended = rw (e, at.1, reads, said, mine, is) refl;
+  lasts = rw (e, at.1, reads, said, mine, is) refl;
 }
-found_value k s u its sought taken previous version ticket None so named (w, reply, at, e) said mine is = record {
-  ended = rw (e, at.1, so.reads, so.seeks, said, mine, is, named) refl;
-  lasts = rw (e, at.1, so.reads, so.seeks, said, mine, is, named) refl;
+found_value k s u its sought taken previous version ticket None reads (w, reply, at, e) said mine is = record {
+  ended = rw (e, at.1, reads, said, mine, is) refl;
+  lasts = rw (e, at.1, reads, said, mine, is) refl;
 }
 
 pub mine_ends : (k : Seat) (s u : SessionState) (its : PendingRequest) (sought : DiskRecord) (taken : MailRecord) (previous : Addr) (version : Version) (ticket : Ticket) (value : Option Value) → Seeks its sought → its.name ≡ Read ticket → HasTaken k s its taken u
     → header_said taken.header ≡ Says previous version → taken.key.0 ≡ (key_of its.request.op).0 → as_number value ≡ value_of taken.value → IsEnded (lasting (read_polled (lone s its) ticket value)) (told.Polled 0) u
 mine_ends k s u its sought taken previous version ticket value so named at said mine is =
-    found_value k s u its sought taken previous version ticket value so named at said (grind (arith, nat_tests, mine)) (sym is)
+    let same = spelled_is its ticket sought named so.seeks in
+    subst (λ (x : PendingRequest). IsEnded (lasting (read_polled (lone s x) ticket value)) (told.Polled 0) u) same
+    (found_value k s u its sought taken previous version ticket value so.reads (subst (λ (x : PendingRequest). HasTaken k s x taken u) (sym same) at) said (grind (arith, nat_tests, mine)) (sym is))
 
 -- the chain ends, and has no record of its key
+found_last : (k : Seat) (s u : SessionState) (its : PendingRequest) (sought : DiskRecord) (taken : MailRecord) (previous : Addr) (version : Version) (ticket : Ticket) → is_read its.request.op ≡ true → HasTaken k s (spelled its ticket sought) taken u
+    → header_said taken.header ≡ Says previous version → (taken.key.0 == (key_of its.request.op).0) ≡ false → (previous.0 == 0) ≡ true → IsEnded (lasting (read_polled (lone s (spelled its ticket sought)) ticket None)) (told.Polled 0) u
+unfolding HasTaken Looks leads sitting_next poll_ledto attempting_next look_ledto finishes_request polls_at attempting_ask mail_next mail_ask passed with_asked lasting
+found_last k s u its sought taken previous version ticket reads (w, reply, at, e) said other last = record {
+  ended = rw (e, at.1, reads, said, other, last) refl;
+  lasts = rw (e, at.1, reads, said, other, last) refl;
+}
+
 pub last_ends : (k : Seat) (s u : SessionState) (its : PendingRequest) (sought : DiskRecord) (taken : MailRecord) (previous : Addr) (version : Version) (ticket : Ticket) → Seeks its sought → its.name ≡ Read ticket → HasTaken k s its taken u
     → header_said taken.header ≡ Says previous version → ¬ (taken.key.0 ≡ (key_of its.request.op).0) → previous.0 ≡ 0 → IsEnded (lasting (read_polled (lone s its) ticket None)) (told.Polled 0) u
-unfolding HasTaken Looks leads sitting_next poll_ledto attempting_next look_ledto finishes_request polls_at attempting_ask mail_next mail_ask passed with_asked lasting
-last_ends k s u its sought taken previous version ticket so named (w, reply, at, e) said other last =
-    let not : (taken.key.0 == (key_of its.request.op).0) ≡ false = differs taken.key.0 (key_of its.request.op).0 other in
-    let is : (previous.0 == 0) ≡ true = grind (arith, nat_tests, last) in
-    record {
-      ended = rw (e, at.1, so.reads, so.seeks, said, not, is, named) refl;
-      lasts = rw (e, at.1, so.reads, so.seeks, said, not, is, named) refl;
-    }
+last_ends k s u its sought taken previous version ticket so named at said other last =
+    let same = spelled_is its ticket sought named so.seeks in
+    subst (λ (x : PendingRequest). IsEnded (lasting (read_polled (lone s x) ticket None)) (told.Polled 0) u) same
+    (found_last k s u its sought taken previous version ticket so.reads (subst (λ (x : PendingRequest). HasTaken k s x taken u) (sym same) at) said (differs taken.key.0 (key_of its.request.op).0 other) (grind (arith, nat_tests, last)))
 
 -- else it asks for the record before
+abbrev seeking : PendingRequest → DiskRecord → PendingRequest
+seeking its sought = record its { sought = Some sought }
+
+seeking_is : (its : PendingRequest) (sought : DiskRecord) → its.sought ≡ Some sought → seeking its sought ≡ its
+seeking_is its sought seeks = λ i. record its { sought = sym seeks i }
+
+found_another : (k : Seat) (s u : SessionState) (its : PendingRequest) (sought : DiskRecord) (taken : MailRecord) (previous : Addr) (version : Version) → is_read its.request.op ≡ true → HasTaken k s (seeking its sought) taken u
+    → header_said taken.header ≡ Says previous version → (taken.key.0 == (key_of its.request.op).0) ≡ false → (previous.0 == 0) ≡ false → PutsOn k s (seeking its sought) (record sought { addr = previous }) (StoresAddress previous) u
+unfolding HasTaken Looks PutsOn leads sitting_next poll_ledto attempting_next look_ledto attempting_ask mail_next mail_ask passed with_asked with_sought
+found_another k s u its sought taken previous version reads (w, reply, at, e) said other more =
+    (polled k s (seeking its sought) at.0 (looking k s (seeking its sought) (StoresEmpty (Taken taken))), e ∙ rw (at.1, reads, said, other, more) refl)
+
 pub goes_on : (k : Seat) (s u : SessionState) (its : PendingRequest) (sought : DiskRecord) (taken : MailRecord) (previous : Addr) (version : Version) → Seeks its sought → HasTaken k s its taken u → header_said taken.header ≡ Says previous version
     → ¬ (taken.key.0 ≡ (key_of its.request.op).0) → ¬ (previous.0 ≡ 0) → PutsOn k s its (record sought { addr = previous }) (StoresAddress previous) u
-unfolding HasTaken Looks PutsOn leads sitting_next poll_ledto attempting_next look_ledto attempting_ask mail_next mail_ask passed with_asked with_sought
-goes_on k s u its sought taken previous version so (w, reply, at, e) said other more =
-    let not : (taken.key.0 == (key_of its.request.op).0) ≡ false = differs taken.key.0 (key_of its.request.op).0 other in
-    let some : (previous.0 == 0) ≡ false = differs previous.0 0 more in
-    (polled k s its at.0 (looking k s its (StoresEmpty (Taken taken))), e ∙ rw (at.1, so.reads, so.seeks, said, not, some) refl)
+goes_on k s u its sought taken previous version so at said other more =
+    let same = seeking_is its sought so.seeks in
+    subst (λ (x : PendingRequest). PutsOn k s x (record sought { addr = previous }) (StoresAddress previous) u) same
+    (found_another k s u its sought taken previous version so.reads (subst (λ (x : PendingRequest). HasTaken k s x taken u) (sym same) at) said (differs taken.key.0 (key_of its.request.op).0 other) (differs previous.0 0 more))
 
 put_on_asks : (k : Seat) (s u : SessionState) (its : PendingRequest) (sought : DiskRecord) (m : Mailing) → PutsOn k s its sought m u → asked k u ≡ passed (passed (mail_ask k.number m) tried.Shift) told.Slept
 unfolding PutsOn asked sitting_ask attempting_ask

@@ -25,7 +25,7 @@ returns-then-taken-key-clause-ended g c =
     (read_asks k u _ _ ended, read_ends m.state n.state s u its c.value_of_word-value.result c.requires.at.1 c.requires.may (ap (λ (x : Sitter). x.state) c.take_polled_read.ensures) ended)
 
 pub returns-then-previous-eq0-clause-goes_by : goal.returns-then-previous-eq0-clause-goes_by
-returns-then-previous-eq0-clause-goes_by g c = λ going by. read_by c.args.machine.now c.take_polled_read-2.new.self c.args.its None going c.requires.may c.take_polled_read-2.ensures by
+returns-then-previous-eq0-clause-goes_by g c = λ going by. read_by c.args.machine.now c.take_polled_read-then-previous-eq0.new.self c.args.its None going c.requires.may c.take_polled_read-then-previous-eq0.ensures by
 
 pub returns-then-previous-eq0-clause-ended : goal.returns-then-previous-eq0-clause-ended
 returns-then-previous-eq0-clause-ended g c =
@@ -34,10 +34,10 @@ returns-then-previous-eq0-clause-ended g c =
     let its = c.args.its in
     let u = g.L.Line.stands c.args.line.now in
     let m = c.args.machine.now in
-    let n = c.take_polled_read-2.new.self in
+    let n = c.take_polled_read-then-previous-eq0.new.self in
     let ended = last_ends k s u its.pending its.sought c.args.taken c.in-Says.previous c.in-Says.field-1 its.ticket (seeks_so m.state its c.requires.may) c.requires.may.named c.requires.at.2
     (sym c.header_said-said.ensures ∙ c.in-Says.is) (λ e. c.if-taken-key.false (e ∙ ap (λ (x : Key). x.0) (sym c.key-key.ensures))) c.if-previous-eq0.true in
-    (read_asks k u _ _ ended, read_ends m.state n.state s u its None c.requires.at.1 c.requires.may (ap (λ (x : Sitter). x.state) c.take_polled_read-2.ensures) ended)
+    (read_asks k u _ _ ended, read_ends m.state n.state s u its None c.requires.at.1 c.requires.may (ap (λ (x : Sitter). x.state) c.take_polled_read-then-previous-eq0.ensures) ended)
 
 pub ask_on-told-requires-clause-at : goal.ask_on-told-requires-clause-at
 ask_on-told-requires-clause-at g c =

@@ -49,8 +49,12 @@ take_record-taken-requires-clause-at g c =
 
 pub judge-requires-clause-at : goal.judge-requires-clause-at
 judge-requires-clause-at g c =
+    let k = g.L.Line.seat c.args.line.now in
     let s = g.L.Line.stands c.args.line.now in
     let its = c.args.its in
+    let u = g.L.Line.stands c.first-state.new.self in
     let v = g.L.Line.stands c.take_record-taken.new.line in
-    let at = c.take_record-taken.requires.at in
-    (s, c.requires.alike, subst (λ (x : Seat). HasTaken x s its.pending c.take_record-taken.result v) (sym c.take_record-taken.ensures.seat) (c.take_record-taken.ensures.taken s at.1))
+    let may = look_alike c.args.machine.now.state s its c.requires.alike c.requires.may in
+    let ready = found_ready k s (begins k s call.Poll) u its.pending c.first-state.result (looks_begun k s its.pending may.awake may.no_orphan may.waits may.has_asked) c.first-state.ensures.next c.if-state-ne-READY.false in
+    let at = subst (λ (x : Seat). Looks x s its.pending LoadsHeader u) (sym c.first-state.ensures.seat) ready in
+    (s, c.requires.alike, subst (λ (x : Seat). HasTaken x s its.pending c.take_record-taken.result v) (sym c.take_record-taken.ensures.seat) (c.take_record-taken.ensures.taken s at))
