@@ -1,6 +1,6 @@
 -- How a read asks for a record of the device by the session's mailbox, and how a poll takes it from there.
 use Rattle.std.proofs.Common.{◌≡◌, ℕ, ◌<◌, refl, sym, ap, ◌∙◌, subst, arith, true, false, ◌∷◌, []}
-use Rattle.std.specs.Prelude.{◌==◌, nat_lt, Option, Some, None}
+use Rattle.std.specs.Prelude.{Bool, ◌==◌, nat_lt, Option, Some, None}
 use Rattle.std.proofs.lemmas.Bool.Decides.{nat_tests}
 use Rattle.fkv_base.specs.declared.numbers.Addr.{Addr}
 use Rattle.fkv_base.specs.declared.numbers.Value.{Value}
@@ -8,6 +8,7 @@ use Rattle.fkv_base.specs.declared.numbers.Version.{Version}
 use Rattle.fkv_log.specs.declared.loading.Loading.{Loading}
 use Rattle.fkv_map.specs.declared.operations.Call.TheVariants as call
 use Rattle.fkv_map.specs.Keys.{as_number, key_of}
+use Rattle.fkv_map.specs.Map.{absent_word}
 use Rattle.fkv_ops.specs.declared.answers.DiskRecord.{DiskRecord}
 use Rattle.fkv_ops.specs.declared.answers.TryAnswer.TheVariants as tried
 use Rattle.fkv_ops.specs.declared.header_words.HeaderSaid.TheVariants.{Says}
@@ -202,6 +203,21 @@ spelled_is : (its : PendingRequest) (ticket : Ticket) (sought : DiskRecord) → 
 spelled_is its ticket sought named seeks = λ i. record its { name = sym named i; sought = sym seeks i }
 
 -- the record is the read's
+absent_is : (word : ℕ) → value_of word ≡ None → (word == absent_word) ≡ true
+absent_is word none = by (word == absent_word) refl
+  where
+    by : (b : Bool) → (word == absent_word) ≡ b → (word == absent_word) ≡ true
+    by true e = e
+    by false e = absurd (let f : value_of word ≡ Some word = rw e refl in let h : Some word ≡ None = sym f ∙ none in cc h)
+
+found_absent : (k : Seat) (s u : SessionState) (its : PendingRequest) (sought : DiskRecord) (taken : MailRecord) (previous : Addr) (version : Version) (ticket : Ticket) → is_read its.request.op ≡ true → HasTaken k s (spelled its ticket sought) taken u
+    → header_said taken.header ≡ Says previous version → (taken.key.0 == (key_of its.request.op).0) ≡ true → (taken.value == absent_word) ≡ true → IsEnded (lasting (read_polled (lone s (spelled its ticket sought)) ticket None)) (told.Polled 0) u
+unfolding HasTaken Looks leads sitting_next poll_ledto attempting_next look_ledto finishes_request polls_at attempting_ask mail_next mail_ask passed with_asked lasting
+found_absent k s u its sought taken previous version ticket reads (w, reply, at, e) said mine absent = record {
+  ended = rw (e, at.1, reads, said, mine, absent, reads) refl;
+  lasts = rw (e, at.1, reads, said, mine, absent, reads) refl;
+}
+
 found_value : (k : Seat) (s u : SessionState) (its : PendingRequest) (sought : DiskRecord) (taken : MailRecord) (previous : Addr) (version : Version) (ticket : Ticket) (value : Option Value) → is_read its.request.op ≡ true → HasTaken k s (spelled its ticket sought) taken u
     → header_said taken.header ≡ Says previous version → (taken.key.0 == (key_of its.request.op).0) ≡ true → value_of taken.value ≡ as_number value → IsEnded (lasting (read_polled (lone s (spelled its ticket sought)) ticket value)) (told.Polled 0) u
 unfolding HasTaken Looks leads sitting_next poll_ledto attempting_next look_ledto finishes_request polls_at attempting_ask mail_next mail_ask passed with_asked lasting
@@ -209,10 +225,7 @@ found_value k s u its sought taken previous version ticket (Some value) reads (w
   ended = rw (e, at.1, reads, said, mine, is) refl;
   lasts = rw (e, at.1, reads, said, mine, is) refl;
 }
-found_value k s u its sought taken previous version ticket None reads (w, reply, at, e) said mine is = record {
-  ended = rw (e, at.1, reads, said, mine, is) refl;
-  lasts = rw (e, at.1, reads, said, mine, is) refl;
-}
+found_value k s u its sought taken previous version ticket None reads at said mine is = found_absent k s u its sought taken previous version ticket reads at said mine (absent_is taken.value is)
 
 pub mine_ends : (k : Seat) (s u : SessionState) (its : PendingRequest) (sought : DiskRecord) (taken : MailRecord) (previous : Addr) (version : Version) (ticket : Ticket) (value : Option Value) → Seeks its sought → its.name ≡ Read ticket → HasTaken k s its taken u
     → header_said taken.header ≡ Says previous version → taken.key.0 ≡ (key_of its.request.op).0 → as_number value ≡ value_of taken.value → IsEnded (lasting (read_polled (lone s its) ticket value)) (told.Polled 0) u
@@ -226,8 +239,8 @@ found_last : (k : Seat) (s u : SessionState) (its : PendingRequest) (sought : Di
     → header_said taken.header ≡ Says previous version → (taken.key.0 == (key_of its.request.op).0) ≡ false → (previous.0 == 0) ≡ true → IsEnded (lasting (read_polled (lone s (spelled its ticket sought)) ticket None)) (told.Polled 0) u
 unfolding HasTaken Looks leads sitting_next poll_ledto attempting_next look_ledto finishes_request polls_at attempting_ask mail_next mail_ask passed with_asked lasting
 found_last k s u its sought taken previous version ticket reads (w, reply, at, e) said other last = record {
-  ended = rw (e, at.1, reads, said, other, last) refl;
-  lasts = rw (e, at.1, reads, said, other, last) refl;
+  ended = rw (e, at.1, reads, said, other, last, reads) refl;
+  lasts = rw (e, at.1, reads, said, other, last, reads) refl;
 }
 
 pub last_ends : (k : Seat) (s u : SessionState) (its : PendingRequest) (sought : DiskRecord) (taken : MailRecord) (previous : Addr) (version : Version) (ticket : Ticket) → Seeks its sought → its.name ≡ Read ticket → HasTaken k s its taken u
