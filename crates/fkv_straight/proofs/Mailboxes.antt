@@ -1,6 +1,6 @@
 -- How a read asks for a record of the device by the session's mailbox, and how a poll takes it from there.
 use Rattle.std.proofs.Common.{◌≡◌, ℕ, ◌<◌, refl, sym, ap, ◌∙◌, subst, arith, true, false, ◌∷◌, []}
-use Rattle.std.specs.Prelude.{Bool, ◌==◌, nat_lt, Option, Some, None}
+use Rattle.std.specs.Prelude.{◌==◌, nat_lt, Option, Some, None}
 use Rattle.std.proofs.lemmas.Bool.Decides.{nat_tests}
 use Rattle.fkv_base.specs.declared.numbers.Addr.{Addr}
 use Rattle.fkv_base.specs.declared.numbers.Value.{Value}
@@ -8,8 +8,8 @@ use Rattle.fkv_base.specs.declared.numbers.Version.{Version}
 use Rattle.fkv_log.specs.declared.loading.Loading.{Loading}
 use Rattle.fkv_map.specs.declared.operations.Call.TheVariants as call
 use Rattle.fkv_map.specs.Keys.{as_number, key_of}
-use Rattle.fkv_map.specs.Map.{absent_word}
 use Rattle.fkv_ops.specs.declared.answers.DiskRecord.{DiskRecord}
+use Rattle.fkv_ops.specs.declared.answers.TryAnswer.{TryAnswer}
 use Rattle.fkv_ops.specs.declared.answers.TryAnswer.TheVariants as tried
 use Rattle.fkv_ops.specs.declared.header_words.HeaderSaid.TheVariants.{Says}
 use Rattle.fkv_ops.specs.declared.requests.Occasion.TheVariants.{Call as AtCall}
@@ -20,14 +20,15 @@ use Rattle.fkv_ops.specs.declared.walking.Walking.TheVariants as walk
 use Rattle.fkv_ops.specs.Appending.{append_rested}
 use Rattle.fkv_ops.specs.HeaderWords.{header_said}
 use Rattle.fkv_ops.specs.Requests.{is_read}
-use Rattle.fkv_ops.specs.Trying.{TryState, trying_ask, walk_ledto, ends}
+use Rattle.fkv_ops.specs.Trying.{TryState, told_value, trying_ask, walk_ledto, ends}
 use Rattle.fkv_ops.specs.Values.{value_of}
 use Rattle.fkv_ops.specs.Walking.{reached, walking_ask}
+use Rattle.fkv_pending.specs.declared.attempting.Attempting.TheVariants.{Ended as AtEnd}
 use Rattle.fkv_pending.specs.declared.mailing.MailAnswer.TheVariants.{Taken}
 use Rattle.fkv_pending.specs.declared.mailing.MailRecord.{MailRecord}
 use Rattle.fkv_pending.specs.declared.mailing.MailTask.TheVariants.{Put, Take}
 use Rattle.fkv_pending.specs.declared.mailing.Mailing.{Mailing}
-use Rattle.fkv_pending.specs.declared.mailing.Mailing.TheVariants.{LoadsState, LoadsHeader, LoadsKey, LoadsValue, StoresEmpty, StoresAddress, StoresAsked}
+use Rattle.fkv_pending.specs.declared.mailing.Mailing.TheVariants.{Ended as AtRest, LoadsState, LoadsHeader, LoadsKey, LoadsValue, StoresEmpty, StoresAddress, StoresAsked}
 use Rattle.fkv_pending.specs.declared.pending_requests.PendingRequest.{PendingRequest}
 use Rattle.fkv_pending.specs.declared.pending_requests.RequestName.TheVariants.{Read}
 use Rattle.fkv_pending.specs.declared.pending_requests.Ticket.{Ticket}
@@ -35,7 +36,7 @@ use Rattle.fkv_pending.specs.Attempting.{AttemptState, attempting_ask, attemptin
 use Rattle.fkv_pending.specs.Mailing.{mail_ask, mail_next}
 use Rattle.fkv_pending.specs.Pending.{with_asked, with_held, with_latch, with_sought}
 use Rattle.fkv_plane.specs.declared.asks.Ask.{Ask}
-use Rattle.fkv_plane.specs.declared.asks.Ask.TheVariants.{Load, Store}
+use Rattle.fkv_plane.specs.declared.asks.Ask.TheVariants.{Load, Store, Done}
 use Rattle.fkv_plane.specs.declared.places.SessionWord.TheVariants as own
 use Rattle.fkv_plane.specs.Passing.{passed}
 use Rattle.fkv_plane.specs.Places.{session_place}
@@ -203,29 +204,38 @@ spelled_is : (its : PendingRequest) (ticket : Ticket) (sought : DiskRecord) → 
 spelled_is its ticket sought named seeks = λ i. record its { name = sym named i; sought = sym seeks i }
 
 -- the record is the read's
-absent_is : (word : ℕ) → value_of word ≡ None → (word == absent_word) ≡ true
-absent_is word none = by (word == absent_word) refl
-  where
-    by : (b : Bool) → (word == absent_word) ≡ b → (word == absent_word) ≡ true
-    by true e = e
-    by false e = absurd (let f : value_of word ≡ Some word = rw e refl in let h : Some word ≡ None = sym f ∙ none in cc h)
+abbrev answered : Seat → SessionState → PendingRequest → MailRecord → ℕ → TryAnswer → SessionState
+answered k s its taken asks answer = polling s its asks (record (looking k s its (AtRest (Taken taken))) { pending = record its { has_asked = false }; is_emptied = true; step = AtEnd answer })
 
-found_absent : (k : Seat) (s u : SessionState) (its : PendingRequest) (sought : DiskRecord) (taken : MailRecord) (previous : Addr) (version : Version) (ticket : Ticket) → is_read its.request.op ≡ true → HasTaken k s (spelled its ticket sought) taken u
-    → header_said taken.header ≡ Says previous version → (taken.key.0 == (key_of its.request.op).0) ≡ true → (taken.value == absent_word) ≡ true → IsEnded (lasting (read_polled (lone s (spelled its ticket sought)) ticket None)) (told.Polled 0) u
-unfolding HasTaken Looks leads sitting_next poll_ledto attempting_next look_ledto finishes_request polls_at attempting_ask mail_next mail_ask passed with_asked lasting
-found_absent k s u its sought taken previous version ticket reads (w, reply, at, e) said mine absent = record {
-  ended = rw (e, at.1, reads, said, mine, absent, reads) refl;
-  lasts = rw (e, at.1, reads, said, mine, absent, reads) refl;
-}
+taken_tells : (k : Seat) (s u : SessionState) (its : PendingRequest) (sought : DiskRecord) (taken : MailRecord) (previous : Addr) (version : Version) (ticket : Ticket) → is_read its.request.op ≡ true → HasTaken k s (spelled its ticket sought) taken u
+    → header_said taken.header ≡ Says previous version → (taken.key.0 == (key_of its.request.op).0) ≡ true
+    → (asks : ℕ) × (u ≡ poll_ledto k (answered k s (spelled its ticket sought) taken asks (told_value (value_of taken.value))) 0 (Done (told_value (value_of taken.value))))
+unfolding HasTaken Looks leads sitting_next attempting_next look_ledto attempting_ask mail_next mail_ask passed with_asked
+taken_tells k s u its sought taken previous version ticket reads (w, reply, at, e) said mine =
+    (polled k s (spelled its ticket sought) at.0 (looking k s (spelled its ticket sought) (StoresEmpty (Taken taken))), e ∙ rw (at.1, reads, said, mine) refl)
+
+found_ends : (k : Seat) (s : SessionState) (its : PendingRequest) (sought : DiskRecord) (taken : MailRecord) (ticket : Ticket) (asks : ℕ) (value : Value) → is_read its.request.op ≡ true
+    → IsEnded (lasting (read_polled (lone s (spelled its ticket sought)) ticket (Some value))) (told.Polled 0) (poll_ledto k (answered k s (spelled its ticket sought) taken asks (tried.Found value)) 0 (Done (tried.Found value)))
+unfolding poll_ledto finishes_request polls_at lasting
+found_ends k s its sought taken ticket asks value reads = record { ended = rw reads refl; lasts = rw reads refl }
+
+absent_ends : (k : Seat) (s : SessionState) (its : PendingRequest) (sought : DiskRecord) (taken : MailRecord) (ticket : Ticket) (asks : ℕ) → is_read its.request.op ≡ true
+    → IsEnded (lasting (read_polled (lone s (spelled its ticket sought)) ticket None)) (told.Polled 0) (poll_ledto k (answered k s (spelled its ticket sought) taken asks tried.Absent) 0 (Done tried.Absent))
+unfolding poll_ledto finishes_request polls_at lasting
+absent_ends k s its sought taken ticket asks reads = record { ended = rw reads refl; lasts = rw reads refl }
 
 found_value : (k : Seat) (s u : SessionState) (its : PendingRequest) (sought : DiskRecord) (taken : MailRecord) (previous : Addr) (version : Version) (ticket : Ticket) (value : Option Value) → is_read its.request.op ≡ true → HasTaken k s (spelled its ticket sought) taken u
     → header_said taken.header ≡ Says previous version → (taken.key.0 == (key_of its.request.op).0) ≡ true → value_of taken.value ≡ as_number value → IsEnded (lasting (read_polled (lone s (spelled its ticket sought)) ticket value)) (told.Polled 0) u
-unfolding HasTaken Looks leads sitting_next poll_ledto attempting_next look_ledto finishes_request polls_at attempting_ask mail_next mail_ask passed with_asked lasting
-found_value k s u its sought taken previous version ticket (Some value) reads (w, reply, at, e) said mine is = record {
-  ended = rw (e, at.1, reads, said, mine, is) refl;
-  lasts = rw (e, at.1, reads, said, mine, is) refl;
-}
-found_value k s u its sought taken previous version ticket None reads at said mine is = found_absent k s u its sought taken previous version ticket reads at said mine (absent_is taken.value is)
+found_value k s u its sought taken previous version ticket (Some value) reads at said mine is =
+    let t = taken_tells k s u its sought taken previous version ticket reads at said mine in
+    let so : told_value (value_of taken.value) ≡ tried.Found value = ap told_value is in
+    subst (IsEnded (lasting (read_polled (lone s (spelled its ticket sought)) ticket (Some value))) (told.Polled 0))
+    (sym (t.1 ∙ ap (λ (a : TryAnswer). poll_ledto k (answered k s (spelled its ticket sought) taken t.0 a) 0 (Done a)) so)) (found_ends k s its sought taken ticket t.0 value reads)
+found_value k s u its sought taken previous version ticket None reads at said mine is =
+    let t = taken_tells k s u its sought taken previous version ticket reads at said mine in
+    let so : told_value (value_of taken.value) ≡ tried.Absent = ap told_value is in
+    subst (IsEnded (lasting (read_polled (lone s (spelled its ticket sought)) ticket None)) (told.Polled 0))
+    (sym (t.1 ∙ ap (λ (a : TryAnswer). poll_ledto k (answered k s (spelled its ticket sought) taken t.0 a) 0 (Done a)) so)) (absent_ends k s its sought taken ticket t.0 reads)
 
 pub mine_ends : (k : Seat) (s u : SessionState) (its : PendingRequest) (sought : DiskRecord) (taken : MailRecord) (previous : Addr) (version : Version) (ticket : Ticket) (value : Option Value) → Seeks its sought → its.name ≡ Read ticket → HasTaken k s its taken u
     → header_said taken.header ≡ Says previous version → taken.key.0 ≡ (key_of its.request.op).0 → as_number value ≡ value_of taken.value → IsEnded (lasting (read_polled (lone s its) ticket value)) (told.Polled 0) u
