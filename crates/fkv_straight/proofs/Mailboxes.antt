@@ -1,5 +1,5 @@
 -- How a read asks for a record of the device by the session's mailbox, and how a poll takes it from there.
-use Rattle.std.proofs.Common.{◌≡◌, ℕ, ◌<◌, refl, sym, ap, ◌∙◌, subst, arith, true, false, ◌∷◌, []}
+use Rattle.std.proofs.Common.{◌≡◌, ℕ, refl, sym, ap, ◌∙◌, subst, arith, true, false, ◌∷◌, []}
 use Rattle.std.specs.Prelude.{◌==◌, nat_lt, Option, Some, None}
 use Rattle.std.proofs.lemmas.Bool.Decides.{nat_tests}
 use Rattle.fkv_base.specs.declared.numbers.Addr.{Addr}
@@ -35,7 +35,6 @@ use Rattle.fkv_pending.specs.declared.pending_requests.Ticket.{Ticket}
 use Rattle.fkv_pending.specs.Attempting.{AttemptState, attempting_ask, attempting_next, look_ledto, put_ledto, try_ledto}
 use Rattle.fkv_pending.specs.Mailing.{mail_ask, mail_next}
 use Rattle.fkv_pending.specs.Pending.{with_asked, with_held, with_latch, with_sought}
-use Rattle.fkv_plane.specs.declared.asks.Ask.{Ask}
 use Rattle.fkv_plane.specs.declared.asks.Ask.TheVariants.{Load, Store, Done}
 use Rattle.fkv_plane.specs.declared.places.SessionWord.TheVariants as own
 use Rattle.fkv_plane.specs.Passing.{passed}

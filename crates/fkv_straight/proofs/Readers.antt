@@ -1,5 +1,5 @@
 -- When a read's call, and a poll of it, may go on straight by the mailbox, and how the machine has caught up behind.
-use Rattle.std.proofs.Common.{◌≡◌, ℕ, ◌+◌, ◌<◌, refl, sym, ap, ◌∙◌, subst, true, false, List, [], ◌∷◌, ◌++◌, length}
+use Rattle.std.proofs.Common.{◌≡◌, ℕ, ◌+◌, ◌<◌, refl, sym, ap, ◌∙◌, subst, true, false, [], ◌∷◌, ◌++◌, length}
 use Rattle.std.specs.Prelude.{Bool, Option, Some, slice_set}
 use Rattle.std.specs.List.{remove}
 use Rattle.fkv_base.specs.Limits.{max_pending}

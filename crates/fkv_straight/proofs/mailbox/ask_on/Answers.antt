@@ -1,6 +1,5 @@
 -- The address of the record before is put into the mailbox, and the machine has caught up.
-use Rattle.std.proofs.Common.{◌≡◌, refl, sym, ap, ◌∙◌, Some}
-use Rattle.fkv_pending.specs.declared.pending_requests.PendingRequest.{PendingRequest}
+use Rattle.std.proofs.Common.{◌≡◌, sym, ap, ◌∙◌}
 use Rattle.fkv_plane.specs.declared.asks.Ask.TheVariants.{Store}
 use Rattle.fkv_plane.specs.declared.places.SessionWord.TheVariants as own
 use Rattle.fkv_plane.specs.Places.{session_place}

@@ -1,6 +1,5 @@
 -- Each word is loaded in its turn, and then the mailbox is emptied.
 use Rattle.std.proofs.Common.{◌≡◌, sym, ap, ◌∙◌}
-use Rattle.fkv_pending.specs.declared.mailing.Mailing.TheVariants.{LoadsHeader}
 use Rattle.fkv_plane.specs.declared.asks.Ask.TheVariants.{Load, Store}
 use Rattle.fkv_plane.specs.declared.places.SessionWord.TheVariants as own
 use Rattle.fkv_plane.specs.Places.{session_place}
