@@ -1,6 +1,6 @@
 -- The numbers that a call goes by, as those of its course.
 use Rattle.std.proofs.Common.{◌≡◌, ℕ, ◌<◌, ◌≤◌, refl, sym, ap, ◌∙◌, subst, arith, Bool, true, false}
-use Rattle.std.specs.Prelude.{◌+◌, ◌*◌, ◌%◌, ◌&&◌, not, nat_le, nat_lt, Option, Some, None, IfSome, IfNone}
+use Rattle.std.specs.Prelude.{◌+◌, ◌*◌, ◌%◌, ◌&&◌, not, nat_le, nat_lt, Option, Some, None, IfSome, IfNone, Result, Ok, Err, IfOk, IfErr}
 use Rattle.std.proofs.lemmas.Bool.Decides.{nat_tests}
 use Rattle.fkv_base.specs.Limits.{last_serial, last_version}
 use Rattle.fkv_base.specs.declared.numbers.Key.{Key}
@@ -107,6 +107,12 @@ goes_at c k op g q goes same = subst (λ (x : Seat). Goes c x op g) (sym same) g
 
 pub some_of : {A : Type 0} (P : A → Type 0) (found : Option A) (x : A) → found ≡ Some x → IfSome found P → P x
 some_of P found x e h = subst (λ (o : Option _). IfSome o P) e h
+
+pub ok_of : {A E : Type 0} (P : A → Type 0) (found : Result A E) (x : A) → found ≡ Ok x → IfOk found P → P x
+ok_of P found x e h = subst (λ (o : Result _ _). IfOk o P) e h
+
+pub err_of : {A E : Type 0} (P : E → Type 0) (found : Result A E) (x : E) → found ≡ Err x → IfErr found P → P x
+err_of P found x e h = subst (λ (o : Result _ _). IfErr o P) e h
 
 pub none_of : {A : Type 0} (P : Type 0) (found : Option A) → found ≡ None → IfNone found P → P
 none_of P found e h = subst (λ (o : Option _). IfNone o P) e h

@@ -43,7 +43,7 @@ pub none_of : {A : Type 0} (x : Option A) → is_some x ≡ false → x ≡ None
 none_of None h = refl
 none_of (Some x) h = absurd (cc h)
 
-only_is : (l : List PendingRequest) (its : PendingRequest) → only_of l ≡ Some its → l ≡ its ∷ []
+pub only_is : (l : List PendingRequest) (its : PendingRequest) → only_of l ≡ Some its → l ≡ its ∷ []
 only_is [] its e = absurd (cc e)
 only_is (x ∷ []) its e = cc e
 only_is (x ∷ y ∷ l) its e = absurd (cc e)

@@ -173,7 +173,7 @@ IsUnshifted c r = (trail : Trail) → IsTrail trail r.entry r.addr → (shares c
 abbrev pub HasMet : Course → Met → SessionState → Type 0
 HasMet c (Found r) s = IsMet c r s
 HasMet c (Nowhere slot) s = IsReached c slot.place slot.entry 0 s
-HasMet c (OnDisk slot) s = (addr : ℕ) × (0 < addr) × (addr < head_in c) × IsReached c slot.place slot.entry addr s
+HasMet c (OnDisk slot addr) s = (0 < addr) × (addr < head_in c) × IsReached c slot.place slot.entry addr s
 
 -- ---- at the record
 abbrev pub holding : Course → Trail → Record → Trying → TryState

@@ -64,7 +64,7 @@ fn play_scene<R: Abort>(
 const TAGS: u64 = 1 << 15;
 
 /// What operations meet that go straight to their end.
-const STRAIGHT: [Meeting; 24] = [
+const STRAIGHT: [Meeting; 26] = [
     Meeting::Read,
     Meeting::Upsert,
     Meeting::Delete,
@@ -89,6 +89,8 @@ const STRAIGHT: [Meeting; 24] = [
     Meeting::OnDevice,
     Meeting::LostTail,
     Meeting::LostValue,
+    Meeting::Asks,
+    Meeting::Occupied,
 ];
 
 /// What the others meet of which the machine goes on. In prepare these are new records, and updates that lost to another session.
@@ -109,8 +111,16 @@ const REFRESHED: [Meeting; 5] = [
     Meeting::WaitFlush,
 ];
 
-/// In what phases polls go straight to their end. None does in prepare, where an update shares a latch, and wait-pending is short.
-const POLLED: [Meeting; 3] = [Meeting::Rest, Meeting::InProgress, Meeting::WaitFlush];
+/// In what phases polls go straight to their end, and what those meet that look into the mailbox. In prepare only these do, since an update shares a latch
+/// there, and wait-pending is short.
+const POLLED: [Meeting; 6] = [
+    Meeting::Rest,
+    Meeting::InProgress,
+    Meeting::WaitFlush,
+    Meeting::NotReady,
+    Meeting::Takes,
+    Meeting::AsksOn,
+];
 
 /// Each of these was met more than a hundred times.
 fn has_met(meetings: &Meetings, wanted: &[Meeting]) -> bool {

@@ -52,7 +52,7 @@ impl Ways {
                     self.refreshed.add_phase(phase);
                 }
             }
-            Call::Poll => self.add_poll(way, seen.phase),
+            Call::Poll => self.add_poll(way, seen.phase, trace),
             _ => {}
         }
     }
@@ -65,10 +65,10 @@ impl Ways {
         }
     }
 
-    fn add_poll(&mut self, way: Way, phase: Phase) {
+    fn add_poll(&mut self, way: Way, phase: Phase, trace: &Trace) {
         match way {
-            Way::Straight => self.polled.add_phase(phase),
-            Way::HandedOver => self.polled_on.add_phase(phase),
+            Way::Straight => self.polled.add_poll(phase, trace),
+            Way::HandedOver => self.polled_on.add_poll(phase, trace),
             Way::Machine => {}
         }
     }
@@ -120,7 +120,7 @@ impl Twins {
             return Err(Wrong::NoSession);
         };
         let seen = machine.seen();
-        let mut trace = Trace::new(Parts::of(&self.places), seen.offsets.head);
+        let mut trace = Trace::new(Parts::of(&self.places, number), seen.offsets.head);
         let rival = rival_of(self.places, seen, value);
         let words = &mut self.straight.words;
         let Begun { way, steps, ask } = begin(rt, words, rival, session, call);
