@@ -58,9 +58,9 @@ report_of_run device other LeftBy lines sizes (Ok report) shape logs logs' mediu
 report_of_run device other LeftBy lines sizes (Err e) shape logs logs' medium finished after same sized played left says = tt
 
 -- what the device behind a mirror may leave, the mirror may
-pub opened_again : {D : Type 0} (device : Ghosts D) (closed : Mirror D device) (image : List ℕ) → is_lost closed ≡ false → device.honest (mirror_device closed) → AreBytes image → device.may_leave (mirror_device closed) image
-    → MayLeaveBytes (mirror_opening closed) (mirror_calls closed) image
-opened_again device closed image passed claim bytes left = record { allowed = (mirror_after closed passed claim).leaves image left; are_bytes = bytes }
+pub opened_again : {D : Type 0} (device : Ghosts D) → ((d : D) (image : List ℕ) → device.honest d → device.may_leave d image → AreBytes image) → (closed : Mirror D device) (image : List ℕ) → is_lost closed ≡ false
+    → device.honest (mirror_device closed) → device.may_leave (mirror_device closed) image → MayLeaveBytes (mirror_opening closed) (mirror_calls closed) image
+opened_again device fits closed image passed claim left = record { allowed = (mirror_after closed passed claim).leaves image left; are_bytes = fits (mirror_device closed) image claim left }
 
 -- what is said of a report is said of it where it is passed on
 pub passed_on : {X E F : Type 0} (Says : X → Type 0) (r : Result X E) (r' : Result X F) → IfOk r' (λ x. r ≡ Ok x) → IfOk r Says → IfOk r' Says

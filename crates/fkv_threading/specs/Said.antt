@@ -1,6 +1,5 @@
 -- What the clauses of `src` say: they take all of it under one name.
 pub use Rattle.fkv_base.specs.declared.faults.Fault.TheVariants.{BadShape, Device, Memory}
-pub use Rattle.fkv_disk.specs.Ahead.{ahead_device}
 pub use Rattle.fkv_disk.specs.Device.{LeavesOnly}
 pub use Rattle.fkv_opening.specs.Opened.{IsStoreOf}
 pub use Rattle.fkv_threads.specs.Below.fkv_table.Starts.{EachAt}

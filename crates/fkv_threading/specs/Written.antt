@@ -8,7 +8,6 @@ use Rattle.fkv_base.specs.declared.numbers.Version.{Version}
 use Rattle.fkv_base.specs.declared.shapes.Shape.{Shape}
 use Rattle.fkv_creating.specs.Created.{IsNewStore}
 use Rattle.fkv_disk.specs.Ahead.{ahead_device}
-use Rattle.fkv_disk.specs.Bytes.{AreBytes}
 use Rattle.fkv_disk.specs.declared.ahead.ReadAhead.{ReadAhead}
 use Rattle.fkv_disk.specs.declared.devices.Device.{Ghosts}
 use Rattle.fkv_files.specs.Mirrors.{is_lost, mirror_device}
@@ -81,12 +80,11 @@ pub record IsReportOfRun {D E : Type 0} (device : Ghosts D) (other : Ghosts E) (
 abbrev pub HoldsLeft : {D E : Type 0} → Ghosts D → Ghosts E → D → E → Type 0
 HoldsLeft device other medium after = device.may_leave medium (other.seen after)
 
--- The file behind a mirror is closed, and a file is opened again. Say that the closed device is honest and has refused no call, and that the other one reads as a crash may leave it, which
--- is bytes. Then that one reads as a crash may leave the mirror.
+-- The file behind a mirror is closed, and a file is opened again. Say that the closed device is honest and has refused no call, and that the other one reads as a crash may leave it.
+-- Then that one reads as a crash may leave the mirror.
 pub record IsOpenedAgain {D : Type 0} (device : Ghosts D) (mirrored : Ghosts (Mirror D device)) (ahead : Ghosts (ReadAhead D device)) (is_opened : D → Type 0) (closed : Mirror D device) (again : ReadAhead D device) : Type 0 where
   pub opened : is_opened (ahead_device again)
-  pub left : is_lost closed ≡ false → device.honest (mirror_device closed) → AreBytes (device.seen (ahead_device again)) → device.may_leave (mirror_device closed) (device.seen (ahead_device again))
-      → HoldsLeft mirrored ahead closed again
+  pub left : is_lost closed ≡ false → device.honest (mirror_device closed) → device.may_leave (mirror_device closed) (device.seen (ahead_device again)) → HoldsLeft mirrored ahead closed again
 
 -- ---- what is written
 -- a report's lines, or the refusal that stands in their place

@@ -208,8 +208,7 @@ where
         finished,
         ..
     } = keeper;
-    drop(device);
-    let mut ahead = match opened_again(places, alloc, path) {
+    let mut ahead = match opened_again(places, alloc, path, device) {
         Ok(ahead) => ahead,
         Err(trouble) => return Err(NoReport::Closed(trouble)),
     };
@@ -229,14 +228,17 @@ fn made<S: StorePlaces>(places: &S, alloc: Global, path: &str) -> Result<Mirror<
     Ok(device)
 }
 
-/// The file of this path, which a store lies in.
+/// Closes the file behind a mirror, and opens the file of this path.
 fn opened_again<S: StorePlaces>(
     places: &S,
     alloc: Global,
     path: &str,
+    closed: Mirror<S::Disk>,
 ) -> Result<ReadAhead<S::Disk>, Trouble>
-    ensures { said.IfOk result (λ ahead. S.is_opened places.now path.now (said.ahead_device ahead)) }
+    ensures { said.IfOk result (said.IsOpenedAgain S.Disk.Device ⟦<Mirror<S::Disk> as Device>⟧ ⟦<ReadAhead<S::Disk> as Device>⟧
+        (S.is_opened places.now path.now) closed) }
 {
+    drop(closed);
     let (file, _) = places.open_alone(path)?;
     let pages = Pages::new(alloc, PageSize::Kib4, PAGES)?;
     Ok(ReadAhead::new(file, pages))
