@@ -74,8 +74,9 @@ const char *fkv_formats(void);
 /* Bytes of a read that a turn posts. */
 #define FKV_READ_SIZE 24
 
-/* Commits that a store takes in all its life. */
+/* Commits that a specified store takes in all its life, and a living one. */
 #define FKV_MOST_COMMITS 8190
+#define FKV_MOST_LIVING_COMMITS UINT64_C(35184372088830)
 
 /* A handle is the word `at`. The call that makes the handle writes the word. If the call is refused, then the word stays as it was. */
 typedef struct { void *at; } fkv_store;
@@ -103,6 +104,7 @@ typedef struct {
     uint64_t number;     /* the last finished commit, 0 in a new store */
     uint64_t damage;     /* after -FKV_DAMAGED: 1 manifest slot, 2 triple, 3 record, 4 link of a record, 5 full bucket */
     uint64_t damaged_at; /* and which: a slot's, triple's or bucket's number, or a record's address */
+    uint64_t entries;    /* after 0: entries of the index that are taken. Keys share one if they have the same bucket and tag, as few do */
 } fkv_opened;
 
 /* What a renewal found and wrote. */
@@ -235,7 +237,7 @@ enum {
     FKV_MEMORY = 18,         /* memory was refused */
     FKV_NO_SESSION = 19,     /* the shape has no session of this number, or its handle was ended */
     FKV_AWAKE = 20,          /* the session is awake */
-    FKV_LOST_FULL = 21,      /* a log commit: more than eight ranges of lost records are in hand; a full commit clears them */
+    FKV_LOST_FULL = 21,      /* a log commit: over eight ranges of lost records are in hand, or the full one is too old. A full commit helps */
     FKV_HANDLE_OUT = 22,     /* a handle of the store is out still; of fkv_stop: called by a hook, or held up by the caller's session */
     FKV_HANDLE_TAKEN = 23,   /* the handle was taken before; of fkv_start: the keeper's thread runs already */
     FKV_ROOM_SMALL = 24,     /* the caller's room is too small */

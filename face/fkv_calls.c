@@ -40,10 +40,14 @@ static void take_update(void *its, const fkv_finished *finished) {
     if (finished->kind == FKV_UPDATED && finished->name == told->serial) told->value = finished->value;
 }
 
-/* Notes that a call waits: a read (0), or an update, for this reason. */
-static void note_waiting(fkv_file *file, const fkv_session *session, uint64_t reason) {
-    atomic_ullong *count = &file->seats[session - file->sessions].waited[reason < FKV_REASONS ? reason : 0];
-    atomic_store_explicit(count, atomic_load_explicit(count, memory_order_relaxed) + 1, memory_order_relaxed);
+/* Notes that a call waits for so many requests: reads (0), or an update, for this reason. Nobody else writes the session's counts. */
+static void note_waiting(fkv_file *file, const fkv_session *session, uint64_t reason, unsigned count) {
+    struct seat *seat = &file->seats[session - file->sessions];
+    uint64_t its = reason < FKV_REASONS ? reason : 0;
+    uint64_t waited = atomic_load_explicit(&seat->waited[its], memory_order_relaxed);
+    unsigned pending = atomic_load_explicit(&seat->pending[its], memory_order_relaxed);
+    atomic_store_explicit(&seat->waited[its], waited + count, memory_order_relaxed);
+    atomic_store_explicit(&seat->pending[its], pending + count, memory_order_relaxed);
 }
 
 static void note_full(fkv_file *file, int32_t result) {
@@ -67,7 +71,7 @@ static int32_t update_now(fkv_file *file, fkv_session *session, update_fn *updat
     }
     note_full(file, result);
     if (result != FKV_PENDING) return result;
-    note_waiting(file, session, told->reason);
+    note_waiting(file, session, told->reason, 1);
     return fkv_settle(file, session, take_update, told);
 }
 
@@ -113,22 +117,39 @@ static void take_read(void *its, const fkv_finished *finished) {
     }
 }
 
+/* Waits for a read that is pending: FKV_FOUND (`*value`) or FKV_NONE, or a refusal, and then it stays pending. `*value` was its ticket. */
+static int32_t await_read(fkv_file *file, fkv_session *session, uint64_t *value) {
+    fkv_each_read told = {.value = *value, .result = FKV_PENDING};
+    struct awaited awaited = {&told, 1, 1};
+    note_waiting(file, session, 0, 1);
+    /* It has asked already, so a turn comes before the first poll. */
+    fkv_help(file);
+    int32_t result = fkv_settle(file, session, take_read, &awaited);
+    if (result < 0) return result;
+    *value = told.value;
+    return told.result;
+}
+
 int32_t fkv_read(fkv_file *file, fkv_session *session, uint64_t key, uint64_t *value) {
     int32_t result = fkv_get(session, key, value);
     if (result == -FKV_PENDING_FULL) {
         result = fkv_settle(file, session, NULL, NULL);
         if (result == 0) result = fkv_get(session, key, value);
     }
-    if (result != FKV_PENDING) return result;
-    fkv_each_read told = {.value = *value, .result = FKV_PENDING};
-    struct awaited awaited = {&told, 1, 1};
-    note_waiting(file, session, 0);
-    /* It has asked already, so a turn comes before the first poll. */
-    fkv_help(file);
-    result = fkv_settle(file, session, take_read, &awaited);
+    return result == FKV_PENDING ? await_read(file, session, value) : result;
+}
+
+/* One of many: fkv_get_many and its results would take longer for it. Whether it had to wait. */
+static int32_t read_alone(fkv_file *file, fkv_session *session, uint64_t key, fkv_each_read *told, size_t *waited) {
+    told->value = 0;
+    told->result = fkv_get(session, key, &told->value);
+    if (told->result == -FKV_PENDING_FULL) told->result = fkv_read(file, session, key, &told->value);
+    *waited = told->result == FKV_PENDING;
+    if (*waited == 0) return 0;
+    int32_t result = await_read(file, session, &told->value);
     if (result < 0) return result;
-    *value = told.value;
-    return told.result;
+    told->result = result;
+    return 0;
 }
 
 /*
@@ -137,11 +158,12 @@ int32_t fkv_read(fkv_file *file, fkv_session *session, uint64_t key, uint64_t *v
  */
 static int32_t read_batch(fkv_file *file, fkv_session *session, const uint64_t *keys, size_t count, fkv_each_read *told, size_t *waited) {
     struct awaited awaited = {told, count, 0};
+    if (count == 1) return read_alone(file, session, *keys, told, waited);
     int32_t result = fkv_get_many(session, keys, count, told, count);
     for (size_t i = 0; i < count && result == 0; i++) awaited.left += told[i].result == FKV_PENDING;
     *waited = awaited.left;
     if (awaited.left) {
-        for (size_t i = 0; i < *waited; i++) note_waiting(file, session, 0);
+        note_waiting(file, session, 0, (unsigned)*waited);
         fkv_help(file);
         result = fkv_settle(file, session, take_read, &awaited);
     }
@@ -184,6 +206,7 @@ int32_t fkv_tick(fkv_file *file, fkv_session *session) {
         fkv_finished finished[FKV_MOST_PENDING];
         uint64_t count;
         int32_t result = fkv_poll(session, finished, FKV_MOST_PENDING, &count);
+        if (result == 0) fkv_note_settled(file, session);
         if (result >= 0) result = fkv_refresh_seat(file, session);
         if (result < 0) return result;
     }

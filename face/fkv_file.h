@@ -9,14 +9,15 @@
 #include <stdatomic.h>
 #include <stdbool.h>
 
-/* What is noted of a joined session. It is its thread's, but for `begun` and `thread`, and that all read `waited`. */
+/* What is noted of a joined session. It is its thread's, but for `begun` and `thread`, and that all read `waited` and `pending`. */
 struct seat {
     uint32_t ticks;                 /* since the last refresh */
     uint32_t phase;                 /* that the last refresh has seen */
     atomic_ullong begun;            /* how many commits had begun by the last refresh that this library made */
     atomic_uintptr_t thread;        /* and which thread made it, or joined */
     atomic_ullong waited[FKV_REASONS]; /* so many calls had to wait, by their reasons: since the opening, whoever had the session */
-    char apart[104 - 8 * FKV_REASONS]; /* each seat has two cache lines of its own */
+    atomic_uint pending[FKV_REASONS]; /* of these so many requests are pending, unless a poll of somebody else has finished them */
+    char apart[104 - 12 * FKV_REASONS]; /* each seat has two cache lines of its own */
 };
 
 /* All bytes of a file, in memory of their own or mapped: for munmap. */
@@ -32,6 +33,7 @@ struct turn {
     uint64_t written; /* bytes */
     uint64_t end;     /* the furthest place that was written */
     uint64_t reads;   /* records that were read back */
+    uint64_t copied;  /* entries of the index that were written, as a full commit writes all */
     int why;          /* errno of the call of the file that has failed */
     bool has_called;  /* it has called the file, so the next turn may have something to do */
 };
@@ -81,6 +83,8 @@ struct fkv_file {
     uint32_t abandoned;    /* and for each that was abandoned, and has requests pending */
     bool was_joined;       /* some session was, since the last commit began */
     bool is_renewed;       /* it is renewed in place: nobody joins meanwhile */
+    uint64_t most_commits; /* that its store takes in all its life */
+    uint64_t entries;      /* of the index that were taken by the opening, or by the last full commit since */
     uint64_t number;       /* the last finished commit, and its points */
     uint64_t points[FKV_MOST_SESSIONS];
 
@@ -238,6 +242,9 @@ int32_t fkv_settle_until(fkv_file *file, fkv_session *session, const struct time
 
 /* Refreshes a session, and notes what it has seen. */
 int32_t fkv_refresh_seat(fkv_file *file, fkv_session *session);
+
+/* Notes that nothing of a session is pending. Whoever has the session calls. */
+void fkv_note_settled(fkv_file *file, const fkv_session *session);
 
 /* Makes turns until nothing of what was abandoned is pending, or that can't be, or a second has passed. No thread runs, and none begins. */
 void fkv_end_abandoned(fkv_file *file);

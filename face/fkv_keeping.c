@@ -42,6 +42,8 @@ struct run {
     struct patience tends; /* with what was abandoned */
     uint32_t log_left;     /* so many log commits before the next full one */
     uint64_t written;      /* bytes, since the commit in hand began */
+    uint64_t copied;       /* entries that it has written */
+    bool is_full;          /* it writes them all */
     uint32_t idle;         /* so many turns in a row had nothing to do */
     bool has_called;       /* the last turn has called the file, so the next one may have something to do */
     bool is_put_off;       /* a commit was due, and has to wait for more turns */
@@ -69,7 +71,7 @@ static void note_begun(struct run *run) {
     file->covers = file->asked;
     file->was_joined = (file->joined | file->abandoned) != 0;
     file->commit_begun = fkv_now();
-    run->written = 0;
+    run->written = run->copied = 0;
     run->next = fkv_later(file->commit_begun, (uint64_t)file->keeping.commit_ms * 1000);
     run->haste = fkv_later(file->commit_begun, HASTE_US);
 }
@@ -88,6 +90,7 @@ static bool begin_commit(struct run *run) {
     }
     if (result == 0) {
         run->log_left = is_log ? run->log_left - 1 : file->keeping.log_commits;
+        run->is_full = !is_log;
         note_begun(run);
         return true;
     }
@@ -104,11 +107,12 @@ static void note_finished(const struct run *run, const struct turn *turn) {
     file->number = turn->turned.number;
     file->commit_us = fkv_since(file->commit_begun);
     file->commit_bytes = run->written;
+    if (run->is_full) file->entries = run->copied;
     memcpy(file->points, turn->points, sizeof file->points);
     file->stuck = 0;
     fkv_find_end(file);
     pthread_cond_broadcast(&file->news);
-    if (file->number >= FKV_MOST_COMMITS) fkv_note_fault(file, -FKV_VERSIONS_SPENT, 0);
+    if (file->number >= file->most_commits) fkv_note_fault(file, -FKV_VERSIONS_SPENT, 0);
 }
 
 /* ---- What was abandoned --------------------------------------------------------------------------------------------------------- */
@@ -126,7 +130,10 @@ static uint32_t tend(fkv_file *file, uint32_t abandoned, uint64_t *done) {
         if (!(abandoned >> i & 1)) continue;
         fkv_poll(&file->sessions[i], finished, FKV_MOST_PENDING, &count);
         fkv_refresh(&file->sessions[i], &seen);
-        if (fkv_sleep(&file->sessions[i]) != -FKV_PENDING_LEFT) left &= ~(UINT32_C(1) << i);
+        if (fkv_sleep(&file->sessions[i]) != -FKV_PENDING_LEFT) {
+            fkv_note_settled(file, &file->sessions[i]);
+            left &= ~(UINT32_C(1) << i);
+        }
         *done += count;
     }
     return left;
@@ -226,6 +233,7 @@ static void go_on(struct run *run) {
     if (begins) tell_progress(run, &turn);
     int32_t result = fkv_make_turn(file, &turn, commits ? tell_progress : NULL, run);
     run->written += turn.written;
+    run->copied += turn.copied;
     run->has_called = turn.has_called;
     pthread_mutex_lock(&file->lock);
     bool is_finished = result == FKV_OVER && turn.turned.finished;

@@ -270,6 +270,11 @@ static bool begins_as_store(const uint8_t *bytes) {
     return false;
 }
 
+/* How many commits the store of these bytes takes in all its life: the first format is that of specified stores. */
+static uint64_t most_commits_of(const uint8_t *bytes) {
+    return memcmp(bytes, fkv_formats(), FORMAT_SIZE) == 0 ? FKV_MOST_COMMITS : FKV_MOST_LIVING_COMMITS;
+}
+
 /*
  * Writes the slots of a store's file anew, as they read, so that the next sync brings them to the disk. After a sync that has failed,
  * Linux may go on showing what the disk hasn't, and takes it for written. A commit that was told by such a slot would be lost later.
@@ -286,7 +291,7 @@ static int write_slots_anew(int fd) {
 
 /* Opens the store of a file's bytes. */
 static int32_t open_store(fkv_file *file, const char *path, const fkv_how *how) {
-    fkv_opened opened = {0, 0, 0};
+    fkv_opened opened = {.entries = 0};
     struct bytes shown = {NULL, 0};
     /* A process that was killed may have written what no sync has kept, or made the file and not synced its name. */
     if (write_slots_anew(file->fd) || fsync(file->fd) || fkv_sync_folder_of(path)) return -FKV_DEVICE;
@@ -295,9 +300,11 @@ static int32_t open_store(fkv_file *file, const char *path, const fkv_how *how) 
         result = fkv_open(shown.at, shown.size, how->keys, how->warm, &file->store.at, &file->shape, &opened, file->points, FKV_MOST_SESSIONS);
     }
     int why = errno;
+    if (result == 0) file->most_commits = most_commits_of(shown.at);
     if (shown.at) munmap(shown.at, shown.size);
     errno = why;
     file->number = opened.number;
+    file->entries = opened.entries;
     file->keys = how->keys;
     file->is_mapped = how->mapped != 0;
     file->warm = how->warm;
@@ -394,7 +401,9 @@ int32_t fkv_open_bytes(const struct bytes *bytes, uint32_t keys, uint64_t warm, 
         fkv_give_up(file);
         return result;
     }
+    file->most_commits = most_commits_of(bytes->at);
     file->number = opened.number;
+    file->entries = opened.entries;
     file->log_end = bytes->size;
     *out = file;
     return 0;

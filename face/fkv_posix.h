@@ -390,13 +390,21 @@ typedef struct {
     uint64_t read_only;     /* records below it aren't updated in place */
     uint64_t tail;          /* the next record's address */
     uint64_t overflow;      /* overflow buckets of the index that are taken, of the shape's `overflow` */
+    uint64_t entries;       /* entries of the index that were taken at the opening, or as the last full commit since copied it. See below */
     int32_t stopped;        /* what fkv_tick answers of the store, 0 while commits go on */
-    uint64_t waited[FKV_REASONS]; /* calls of this header that had to wait: updates by their first reason (FKV_FUZZY ..), reads at 0 */
+    uint64_t waited[FKV_REASONS]; /* requests that calls of this header had to wait for: updates by their first reason (FKV_FUZZY ..), reads at 0 */
+    uint64_t pending[FKV_REASONS]; /* those of them that are pending just now. See below */
 } fkv_stats;
 
 /*
  * Tells how a store fares. A session of `late` may hold the commit in hand up: if it is awake, and its thread makes neither calls that
  * wait nor fkv_refresh. Who calls fkv_refresh or sleeps is called late too.
+ *
+ * `entries` costs no search: it is what the opening found, and then what each full commit writes. Keys that came later aren't in it, and log
+ * commits don't count. An entry is never given back, and `overflow` is of this moment: an update is refused (-FKV_INDEX_FULL) once its bucket
+ * is full and all overflow buckets are taken. `pending` has the reads and updates that calls of this header wait for. If waiting was
+ * refused, they stay in it until a wait or a tick of the session, or the keeper's thread after fkv_abandon, finds that nothing of it is pending.
+ * What the calls of fkv.h have left pending isn't in it: each of them told its reason to its caller.
  * 0; -FKV_DEVICE where the system doesn't tell the file's size.
  */
 int32_t fkv_stats_of(fkv_file *file, fkv_stats *stats);

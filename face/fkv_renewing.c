@@ -43,7 +43,8 @@ static void swap(fkv_file *file, fkv_file *fresh) {
     file->fd = fresh->fd, file->store = fresh->store, file->keeper = fresh->keeper, file->shape = fresh->shape;
     memcpy(file->sessions, fresh->sessions, sizeof old.sessions);
     memcpy(file->points, fresh->points, sizeof file->points);
-    file->number = fresh->number, file->log_end = fresh->log_end;
+    file->most_commits = fresh->most_commits, file->number = fresh->number, file->log_end = fresh->log_end;
+    file->entries = fresh->entries;
     file->fault = file->full = file->stuck = 0;
     file->index_full = file->in_hand = false;
     file->commit_us = file->commit_bytes = 0;

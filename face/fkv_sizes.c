@@ -137,7 +137,7 @@ int32_t fkv_shape_for(const fkv_wish *wish, fkv_shape *shape) {
         records /= 2;
         shape_memory(shape, records, updated);
     }
-    /* Each commit of the store's life may take a record for each of these keys, and others race for some. */
+    /* There is room for so many commits as a specified store takes. Each may take a record for each of these keys, and others race for some. */
     uint64_t pages = 2 * (updated * FKV_MOST_COMMITS / shape->page + 1);
     shape->disk_pages = least(most(power_for(pages), USUAL_DISK_PAGES), MOST_DISK_PAGES);
     return 0;

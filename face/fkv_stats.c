@@ -26,6 +26,13 @@ static uint64_t waited_for(const fkv_file *file, int reason) {
     return sum;
 }
 
+/* How many requests are pending for this reason, of all sessions, as far as this library knows. */
+static uint64_t pending_for(const fkv_file *file, int reason) {
+    uint64_t sum = 0;
+    for (int i = 0; i < FKV_MOST_SESSIONS; i++) sum += atomic_load_explicit(&file->seats[i].pending[reason], memory_order_relaxed);
+    return sum;
+}
+
 int32_t fkv_stats_of(fkv_file *file, fkv_stats *stats) {
     struct stat known;
     fkv_offsets offsets = {.head = 0};
@@ -36,7 +43,7 @@ int32_t fkv_stats_of(fkv_file *file, fkv_stats *stats) {
     (void)fkv_hint_store(&file->store, &offsets);
     *stats = (fkv_stats){
         .commits = file->number,
-        .commits_left = file->number < FKV_MOST_COMMITS ? FKV_MOST_COMMITS - file->number : 0,
+        .commits_left = file->number < file->most_commits ? file->most_commits - file->number : 0,
         .commit_us = file->commit_us,
         .commit_bytes = file->commit_bytes,
         .in_hand_us = is_in_hand ? fkv_since(file->commit_begun) + 1 : 0,
@@ -54,9 +61,13 @@ int32_t fkv_stats_of(fkv_file *file, fkv_stats *stats) {
         .read_only = offsets.read_only,
         .tail = offsets.tail,
         .overflow = offsets.overflow,
+        .entries = file->entries,
         .stopped = atomic_load(&file->ends),
     };
     pthread_mutex_unlock(&file->lock);
-    for (int i = 0; i < FKV_REASONS; i++) stats->waited[i] = waited_for(file, i);
+    for (int i = 0; i < FKV_REASONS; i++) {
+        stats->waited[i] = waited_for(file, i);
+        stats->pending[i] = pending_for(file, i);
+    }
     return is_known ? 0 : -FKV_DEVICE;
 }

@@ -8,7 +8,9 @@ enum {
     /* What has waited so long and for so many turns waits for ever: where the log is known to be full, and where it isn't. */
     KNOWN_FULL_US = 50000,
     FULL_US = 1000000,
-    FULL_TURNS = 200
+    FULL_TURNS = 200,
+    /* Bytes that a full commit writes of an entry, between the slots and the log. */
+    TRIPLE_SIZE = 16
 };
 
 /* ---- What a store has come to. The lock is held. -------------------------------------------------------------------------------- */
@@ -96,11 +98,12 @@ int32_t fkv_with_errno(const fkv_file *file, int32_t result) {
 
 /* ---- Turns ---------------------------------------------------------------------------------------------------------------------- */
 
-static void note_call(struct turn *turn, int32_t call) {
-    uint64_t end = turn->turned.place + turn->turned.length;
+static void note_call(const fkv_file *file, struct turn *turn, int32_t call) {
+    uint64_t place = turn->turned.place, end = place + turn->turned.length;
     if (call == FKV_READ) turn->reads++;
     if (call != FKV_WRITE) return;
     turn->written += turn->turned.length;
+    if (place >= FKV_IMAGE_SIZE && place < fkv_log_place(&file->shape)) turn->copied += turn->turned.length / TRIPLE_SIZE;
     if (end > turn->end) turn->end = end;
 }
 
@@ -120,7 +123,7 @@ int32_t fkv_make_turn(fkv_file *file, struct turn *turn, tell_turn_fn *tell, voi
     while (call > FKV_OVER) {
         int failed = make_call(file, call, &turn->turned, into);
         if (failed) turn->why = errno;
-        else note_call(turn, call);
+        else note_call(file, turn, call);
         if (tell) tell(user, turn);
         size_t size = call == FKV_READ ? FKV_READ_SIZE : 0;
         call = fkv_io_done(&file->keeper, failed != 0, into, size, &turn->turned, turn->points, FKV_MOST_SESSIONS);
@@ -171,7 +174,7 @@ int32_t fkv_help(fkv_file *file) {
     }
     pthread_mutex_unlock(&file->lock);
     if (!is_own) return fkv_with_errno(file, why);
-    turn.written = turn.end = turn.reads = 0;
+    turn.written = turn.end = turn.reads = turn.copied = 0;
     turn.why = 0;
     int32_t result = fkv_make_turn(file, &turn, NULL, NULL);
     pthread_mutex_lock(&file->lock);

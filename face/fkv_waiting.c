@@ -39,6 +39,11 @@ int32_t fkv_refresh_seat(fkv_file *file, fkv_session *session) {
     return 0;
 }
 
+void fkv_note_settled(fkv_file *file, const fkv_session *session) {
+    struct seat *seat = &file->seats[session - file->sessions];
+    for (int i = 0; i < FKV_REASONS; i++) atomic_store_explicit(&seat->pending[i], 0, memory_order_relaxed);
+}
+
 static void pause_a_little(void) {
     for (int i = 0; i < PAUSES; i++) {
 #if defined(__x86_64__) || defined(__i386__)
@@ -92,6 +97,7 @@ int32_t fkv_settle_until(fkv_file *file, fkv_session *session, const struct time
         uint64_t count = 0;
         int32_t left = fkv_poll(session, finished, FKV_MOST_PENDING, &count);
         for (uint64_t i = 0; i < count && told; i++) told(user, &finished[i]);
+        if (left == 0) fkv_note_settled(file, session);
         if (left <= 0) return left;
         if (polls == FIRST_POLLS || (polls > FIRST_POLLS && count > 0)) begin_patience(file, &patience, bit_of(file, session));
         if (until && !fkv_is_before(fkv_now(), *until)) {

@@ -51,6 +51,14 @@ static void open_at(const char *name, const fkv_wish *wish, const fkv_keeping *k
     if (keeping) WANTS("starting the keeper", fkv_start(file, keeping), 0);
 }
 
+/* Makes the store of a file that nobody has open a specified one: the text by which it begins says so. */
+static void specify(const char *name) {
+    FILE *its = fopen(path_of(name), "r+b");
+    WANTS("opening a store's bytes", its != NULL, true);
+    WANTS("writing its text", fwrite(fkv_formats(), 8, 1, its), 1);
+    WANTS("closing its bytes", fclose(its), 0);
+}
+
 /* ---- Order ---------------------------------------------------------------------------------------------------------------------- */
 
 struct worker {
@@ -191,14 +199,17 @@ static void merges_together(void) {
 
 static void note_stopped(void *its, int32_t fault) { atomic_store((atomic_int *)its, fault); }
 
-/* The last commit is told at once, by a tick, by a hook and by what is refused. What it keeps is there, and what came later isn't. */
+/* The last commit of a specified store is told at once, by a tick, by a hook and by what is refused. What it keeps is there, and what came later isn't. */
 static void spent(void) {
     atomic_int stopped = 0;
     fkv_keeping keeping = {.log_commits = 100, .stopped = note_stopped, .user = &stopped};
     fkv_stats stats;
     uint64_t value, ticket;
     syncs_are_left_out = true;
-    open_at("spent", &(fkv_wish){.keys = 10, .sessions = 1}, &keeping);
+    open_at("spent", &(fkv_wish){.keys = 10, .sessions = 1}, NULL);
+    WANTS("closing a new store", fkv_close_file(file), 0);
+    specify("spent");
+    open_at("spent", NULL, &keeping);
     fkv_session *session = joined(0);
     for (int commit = 1; commit <= FKV_MOST_COMMITS; commit++) {
         WANTS("an increment", fkv_increment(file, session, 7, 1, NULL), FKV_DONE);
@@ -225,6 +236,38 @@ static void spent(void) {
     WANTS("its value", value, FKV_MOST_COMMITS);
     WANTS("leaving", fkv_leave(file, session), 0);
     WANTS("closing with nothing to keep", fkv_close_file(file), 0);
+}
+
+/*
+ * A living store goes on where a specified one ends, though marks of versions come again. Its keeper makes a full commit where the last one is
+ * too old for another log commit.
+ */
+static void goes_on(void) {
+    enum { COMMITS = FKV_MOST_COMMITS + 200 };
+    fkv_keeping keeping = {.log_commits = 2 * FKV_MOST_COMMITS};
+    fkv_stats stats;
+    uint64_t value;
+    syncs_are_left_out = true;
+    open_at("living", &(fkv_wish){.keys = 10, .sessions = 1}, &keeping);
+    fkv_session *session = joined(0);
+    for (int commit = 1; commit <= COMMITS; commit++) {
+        WANTS("an increment", fkv_increment(file, session, 7, 1, NULL), FKV_DONE);
+        WANTS("a tick", fkv_tick(file, session), 0);
+        WANTS("a commit", fkv_commit_and_wait(file, session), 0);
+    }
+    WANTS("how it fares", fkv_stats_of(file, &stats), 0);
+    WANTS("its commits", stats.commits, COMMITS);
+    WANTS("those that are left", stats.commits_left, FKV_MOST_LIVING_COMMITS - COMMITS);
+    WANTS("whether it has stopped", stats.stopped, 0);
+    WANTS("leaving", fkv_leave(file, session), 0);
+    WANTS("closing", fkv_close_file(file), 0);
+    syncs_are_left_out = false;
+    open_at("living", NULL, &(fkv_keeping){0});
+    session = joined(0);
+    WANTS("a read in the next life", fkv_read(file, session, 7, &value), FKV_FOUND);
+    WANTS("its value", value, COMMITS);
+    WANTS("leaving", fkv_leave(file, session), 0);
+    WANTS("closing", fkv_close_file(file), 0);
 }
 
 /* Two sessions want the log's last records. Each update is done or refused, and none waits for ever. */
@@ -505,6 +548,7 @@ int main(int count, char **words) {
     merges_together();
     no_keeper();
     spent();
+    goes_on();
     full();
     closing();
     idle();

@@ -10,12 +10,13 @@
 #include <time.h>
 #include <unistd.h>
 
-/* A round of reads that wait for the disk is shorter. */
-enum { KEYS = 1 << 20, BLOCK = 64, BLOCKS = 300, DISK_BLOCKS = 10, ROUNDS = 5, MOST_THREADS = 4 };
+/* A round of reads that wait for the disk is shorter. Reads that are counted are of fewer keys. */
+enum { KEYS = 1 << 20, BLOCK = 64, BLOCKS = 300, DISK_BLOCKS = 10, ROUNDS = 5, MOST_THREADS = 4, COUNTED_KEYS = 4096, LONG_US = 60000000 };
 
 static const char *path;
 static fkv_file *file;
 static int is_many, blocks;
+static uint64_t key_count = KEYS;
 
 static int32_t must(int32_t result, const char *what) {
     if (result >= 0) return result;
@@ -60,7 +61,7 @@ static void *read_blocks(void *its) {
             state ^= state << 13;
             state ^= state >> 7;
             state ^= state << 17;
-            keys[i] = state % KEYS;
+            keys[i] = state % key_count;
         }
         read_block(session, keys);
     }
@@ -91,12 +92,12 @@ static void time_round(const char *where, int threads) {
 }
 
 static void make(void) {
-    fkv_wish wish = {.keys = KEYS, .sessions = MOST_THREADS};
+    fkv_wish wish = {.keys = key_count, .sessions = MOST_THREADS};
     fkv_session *session;
     must(fkv_open_or_make(path, &wish, &file), "make");
     must(fkv_start(file, NULL), "start");
     must(fkv_join(file, FKV_ANY_SESSION, &session), "join");
-    for (uint64_t key = 0; key < KEYS; key++) {
+    for (uint64_t key = 0; key < key_count; key++) {
         must(fkv_put(file, session, key, key + 1, NULL), "put");
         must(fkv_tick(file, session), "tick");
     }
@@ -121,9 +122,26 @@ static void time_rounds(const char *where, int is_on_disk) {
     must(fkv_close_file(file), "close");
 }
 
+/* So many blocks of reads by this thread, which makes each turn of the keeper: for callgrind. Before the first count the store is made. */
+static int count_reads(const char *way, int block_count) {
+    fkv_how how = {.warm = FKV_COLD};
+    fkv_keeping keeping = {.turn_us = LONG_US};
+    uint64_t seed = 88172645463325252u;
+    key_count = COUNTED_KEYS, blocks = block_count, is_many = strcmp(way, "many") == 0;
+    if (strcmp(way, "make") == 0) {
+        make();
+        return 0;
+    }
+    must(fkv_open_file(path, &how, &file), "open");
+    must(fkv_start(file, &keeping), "start");
+    read_blocks(&seed);
+    return must(fkv_close_file(file), "close");
+}
+
 int main(int count, char **words) {
-    if (count != 2) return 2;
+    if (count != 2 && count != 4) return 2;
     path = words[1];
+    if (count == 4) return count_reads(words[2], atoi(words[3]));
     make();
     time_rounds("memory", 0);
     time_rounds("mapped", 0);

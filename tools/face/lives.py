@@ -20,10 +20,10 @@ WORKERS = 4
 class Life:
     """A counter that runs, and what it has written."""
 
-    def __init__(self, command):
+    def __init__(self, command, nicer=19):
         self.lines, self.news = [], threading.Condition()
         # (its threads may keep all processors, and who kills it wants one at once)
-        self.process = subprocess.Popen(command, stdin=subprocess.DEVNULL, stdout=subprocess.PIPE, stderr=subprocess.PIPE, preexec_fn=lambda: os.nice(19))
+        self.process = subprocess.Popen(command, stdin=subprocess.DEVNULL, stdout=subprocess.PIPE, stderr=subprocess.PIPE, preexec_fn=lambda: os.nice(nicer))
         self.reader = threading.Thread(target=self.read)
         self.reader.start()
 

@@ -3,7 +3,7 @@ import os
 import sys
 
 sys.path.insert(0, os.path.join(os.path.dirname(os.path.abspath(__file__)), "..", "openings"))
-from slow_opening import LAST_SERIAL, LAST_VERSION, MAX_LOST, OPEN, PLACES, Log, Slot, find, is_open, most_triples, newest, shape_of, slot_numbers, slot_of
+from slow_opening import LAST_SERIAL, LAST_VERSION, MAX_LOST, OPEN, PLACES, Log, Slot, find, is_open, most_triples, newest, number_at, shape_of, slot_numbers, slot_of
 from samples import changed
 
 
@@ -88,7 +88,7 @@ def store_lines(log):
     slot, shape = log.slot, log.shape
     yield f"entries {len(log.entries())} of {most_triples(shape)}"
     yield f"records {slot.tail - 1} of {shape[1] * shape[6] - 1}"
-    yield f"commits {slot.number} of {LAST_VERSION - 1}"
+    yield f"commits {slot.number} of {LAST_VERSION[number_at(log.image, 0)] - 1}"
     yield f"sessions {sum(point > 0 for point in slot.points)} of {shape[4]}"
     yield f"buckets by entries{words(buckets_by_entries(log))}"
     yield f"lost in hand{words(colons(log.lost_in_hand()))}"

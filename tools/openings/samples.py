@@ -2,12 +2,17 @@
 import random
 from dataclasses import dataclass, replace
 
-from slow_opening import ABSENT, LIVING_TEXT, OPEN, PLACES, SPECIFIED_TEXT, most_triples
+from slow_opening import ABSENT, LIVING_TEXT, MARKS, OPEN, PLACES, SPECIFIED_TEXT, most_triples
 
 FIRST = 1 << 48  # the header of a record of version 1
 SECOND = 2 << 48
 THIRD = 3 << 48
 INVALID = 1 << 62
+
+
+def of_version(version):
+    """The header of a record of this version that leads nowhere."""
+    return ((version - 1) % MARKS + 1) << 48
 
 
 def spelled(*numbers):
@@ -154,6 +159,32 @@ LIVES = Sample(
     ),
     records=((SECOND, 1, 1), (THIRD, 1, 1), (4 * FIRST, 1, 1)),
 )
+# a living store whose commit lies 8,188 behind its checkpoint, one less than it may: the scan has versions 112 to 8301, and marks 1 to 110 are
+# those of 8192 to 8301
+MARKED = Sample(
+    commits=(Commit(8300, 3, 9, (7,), triples=((*HOME, 1), (2, 0, 2)), area=0, checkpoint=112, lost=((7, 8193),)),),
+    records=(
+        (FIRST, 1, 10),
+        (of_version(50), 2, 20),
+        (of_version(8191) + 1, 1, 11),
+        (of_version(8192) + 3, 1, 12),
+        (of_version(8193) + 2, 2, 21),
+        (of_version(112), 17, 30),
+        (of_version(8300) + 4, 524289, 40),
+        (of_version(8301), 3, 50),
+    ),
+    text=LIVING_TEXT,
+)
+
+
+def marked(number, version):
+    """That store as if its commit had this number, and its sixth record this version."""
+    (commit,), records = MARKED.commits, list(MARKED.records)
+    records[5] = (of_version(version), *records[5][1:])
+    return replace(MARKED, commits=(replace(commit, number=number),), records=tuple(records))
+
+
+MARKED_WHOLE = "commit 8300 tail 9 points 7, checkpoint 112 from 3 triples 2 area 0, lost 7:8193 9:8301, entries 1.0:7 1.1:6 2.0:2, pairs 1=12 2=20 17=30 524289=40"
 # eight homes in each of two buckets, one more than a bucket has slots
 CROWD = Sample(
     commits=(Commit(1, 1, 17, (16,), checkpoint=0, area=0),),
@@ -194,6 +225,7 @@ SAMPLES = [
     *((f"{name} of a living store", replace(sample, text=LIVING_TEXT)) for name, sample in (("a log commit", LOGGED), ("four homes", TWO_HOMES), ("three lives", LIVES))),
     ("two full buckets", CROWD),
     ("two overflow buckets that are full", FULL),
+    ("marks that come again", MARKED),
 ]
 
 TABLE = [
@@ -231,6 +263,11 @@ TABLE = [
     ("one overflow bucket", replace(CROWD, overflow=1), "Full 1"),
     ("no overflow bucket", replace(CROWD, overflow=0), "Full 0"),
     ("a home more than an overflow bucket has slots", CROWDED, "Full 0"),
+    ("marks that come again", MARKED, MARKED_WHOLE),
+    ("a mark that no version of the window has", marked(8300, 111), "Record 6"),
+    ("the mark of the next version", marked(8300, 8301), MARKED_WHOLE.replace("1.1:6 ", "").replace("17=30 ", "")),
+    ("the same images of a specified store", replace(MARKED, text=SPECIFIED_TEXT), "Manifest 0"),
+    ("a commit past the window of its checkpoint", marked(8302, 112), "Manifest 0"),
     (
         "as many triples as slots",
         TRIPLES,

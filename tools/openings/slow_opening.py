@@ -1,12 +1,12 @@
 """What an image of any of the three formats holds, worked out slowly and from its bytes alone, rule by rule."""
 MAX_SESSIONS = 32
-LAST_VERSION = 8191
 # a header holds the mark of its version: the versions 1, 2, 3, .. have the marks 1 to this in turn
 MARKS = 8191
 LAST_SERIAL = 2**48 - 1
 MAX_LOST = 8
 # what bucket bits, page, frames, overflow buckets and disk pages are at most, by the text that begins the image
 SPECIFIED_TEXT, LIVING_TEXT = (int.from_bytes(text, "little") for text in (b"FKVSTOR1", b"FKVSTOR2"))
+LAST_VERSION = {SPECIFIED_TEXT: 8191, LIVING_TEXT: 2**45 - 1}
 MOST = {SPECIFIED_TEXT: (10, 1024, 64, 1024, 65536), LIVING_TEXT: (24, 65536, 4096, 2**24, 2**30)}
 OPEN = 0xA5
 INVALID = 62
@@ -119,7 +119,7 @@ def slot_of(image, shape, index):
     versions = slot.number + 1 - oldest(image, slot.checkpoint) + 1
     before = [(0, 0), *slot.lost]
     fits = (
-        slot.number < LAST_VERSION
+        slot.number < LAST_VERSION[number_at(image, 0)]
         and slot.number % 2 == index
         and 1 <= slot.start <= slot.tail <= shape[6] * shape[1]
         and slot.count <= most_triples(shape)

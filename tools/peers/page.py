@@ -317,7 +317,7 @@ def committed(figures, pictures):
 
 ![Throughput that is kept]({pictures}/kept.svg)
 
-The share of throughput that is kept, in percent, by the clock. The last column is how many processors the keeper takes beside the threads that call. If gets keep next to nothing, their records lie in the file alone: memory lets go of what wasn't updated for long, and a get that waits for the file takes as long as one right after an opening. A store takes 8,190 commits, 410 seconds at one each 50 ms.
+The share of throughput that is kept, in percent, by the clock. The last column is how many processors the keeper takes beside the threads that call. If gets keep next to nothing, their records lie in the file alone: memory lets go of what wasn't updated for long, and a get that waits for the file takes as long as one right after an opening.
 
 {kept(figures, "log")}
 

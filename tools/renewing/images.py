@@ -5,7 +5,8 @@ from tables import rows
 
 # of the images with bytes changed one in so many
 EACH = 16
-LAST = 8190
+# the last commit of a store, by the text of its image
+LAST = {b"FKVSTOR1": 8190, b"FKVSTOR2": 2**45 - 2}
 # the text of a new store, by the word in front of its sizes
 TEXTS = {"--shape": b"FKVSTOR1", "--large": b"FKVSTOR2"}
 
@@ -40,13 +41,13 @@ def spread(key):
     return word ^ word >> 32
 
 
-def saved(old, tail, number, new, pairs):
-    """What is printed of a renewal from the one sizes to the others."""
+def saved(old, tail, number, new, pairs, texts):
+    """What is printed of a renewal from the one sizes to the others, of images that begin with these texts."""
     return (
         f"renewed pairs {len(pairs)}\n"
         f"records {tail - 1} now {len(pairs)}\n"
         f"bytes {bytes_to(old, tail)} now {bytes_to(new, len(pairs) + 1)}\n"
-        f"commits left {LAST - number} now {LAST - 1}\n"
+        f"commits left {LAST[texts[0]] - number} now {LAST[texts[1]] - 1}\n"
     )
 
 
@@ -58,14 +59,15 @@ def renews(folder, name, image, answer, words=(), is_spread=False):
     old = sizes_of(image)
     new = list(map(int, words[1:])) or old
     flag = ["--spread"] if is_spread else []
-    need(name, renew(pair.old, pair.new, *words, *flag), (0, saved(old, tail, number, new, pairs), ""))
+    texts = image[:8], TEXTS[words[0]] if words else image[:8]
+    need(name, renew(pair.old, pair.new, *words, *flag), (0, saved(old, tail, number, new, pairs, texts), ""))
     need(f"{name}: the folder", pair.names(), ["new", "old"])
     need(f"{name}: the bytes of the new file", len(held(pair.new)), bytes_to(new, len(pairs) + 1))
     pair.need_old(name)
     more = ["0"] * (new[4] - len(points))
     laid = sorted((spread(key), value) for key, value in pairs) if is_spread else pairs
     need(f"{name}: the new store", played(pair.new, "open\n"), (0, opened(1, points[: new[4]] + more, laid)))
-    need(f"{name}: its text", held(pair.new)[:8], TEXTS[words[0]] if words else image[:8])
+    need(f"{name}: its text", held(pair.new)[:8], texts[1])
 
 
 def refuses(folder, name, image):

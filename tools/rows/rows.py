@@ -24,6 +24,7 @@ class Row:
     ends: bool = False
     complaint: str = None  # what stands on standard error, where it is compared
     file: str = STORE  # the name of the row's file
+    seconds: int = SECONDS  # it has to end within so many
 
 
 def side_by_side(text):
@@ -67,11 +68,11 @@ def difference(program, row):
         if row.image is not None:
             with open(path, "wb") as file:
                 file.write(row.image)
-        how = {"cwd": folder, "input": spelled(row.script), "stdout": subprocess.PIPE, "stderr": subprocess.PIPE, "timeout": SECONDS}
+        how = {"cwd": folder, "input": spelled(row.script), "stdout": subprocess.PIPE, "stderr": subprocess.PIPE, "timeout": row.seconds}
         try:
             ran = subprocess.run([program, *row.words], **how)
         except subprocess.TimeoutExpired:
-            return f"it has not ended after {SECONDS} seconds"
+            return f"it has not ended after {row.seconds} seconds"
         wanted = spelled(row.wanted)
         is_other = not ran.stdout.endswith(wanted) if row.ends else ran.stdout != wanted
         if ran.returncode != row.status:

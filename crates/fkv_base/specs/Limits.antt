@@ -67,9 +67,15 @@ small_overflow = 1024
 abbrev pub small_disk_pages : ℕ
 small_disk_pages = 65536
 
--- the last version, and the last serial of a session
+-- The last version that there is, and that of a store: a specified one has the versions that are their own marks.
 abbrev pub last_version : ℕ
-last_version = 8191
+last_version = 2 ^ 45 - 1
+
+abbrev pub last_of : StoreClass → ℕ
+last_of Specified = 8191
+last_of Living = last_version
+
+-- the last serial of a session
 
 abbrev pub last_serial : ℕ
 last_serial = 2 ^ 48 - 1

@@ -49,7 +49,7 @@ pub enum Fault {
     NoSession,
     #[error("the session is awake")]
     Awake,
-    #[error("more than eight ranges of lost records are in hand")]
+    #[error("more than eight ranges of lost records are in hand, or the last full commit is too old")]
     LostFull,
 }
 

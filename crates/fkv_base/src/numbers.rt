@@ -17,13 +17,13 @@ impl Value {
 #[derive(Clone, Copy, Debug, Default, PartialEq, Eq, PartialOrd, Ord, Hash)]
 pub struct Addr(pub u64);
 
-/// A version of the store, 1 to 8191. A commit has the number of the version that it commits.
+/// A version of the store, 1 to 2^45 - 1, and to 8191 of a specified one. A commit has the number of the version that it commits.
 #[derive(Clone, Copy, Debug, Default, PartialEq, Eq, PartialOrd, Ord, Hash)]
 pub struct Version(pub u64);
 
 impl Version {
-    /// The last version that there is.
-    pub const LAST: u64 = 8191;
+    /// The last version that there is. [`StoreClass::last_version`](crate::StoreClass::last_version) is that of a store.
+    pub const LAST: u64 = 35184372088831;
 }
 
 /// The number of an update within its session, 1 to 2^48 - 1. As a point, 0 says that there is none yet.

@@ -15,7 +15,7 @@ use Rattle.fkv_plane.specs.declared.places.SharedWord.TheVariants as one
 use Rattle.fkv_plane.specs.declared.places.SessionWord.TheVariants as own
 use Rattle.fkv_plane.specs.Places.{shared_place, session_place, drain_place}
 use Rattle.fkv_epoch.specs.Claiming.{phase_stored}
-use Rattle.fkv_base.specs.declared.commits.CommitKind.{CommitKind}
+use Rattle.fkv_commit.specs.declared.starting.StartAsked.{StartAsked}
 use Rattle.fkv_commit.specs.Commits.{version_after}
 use Rattle.fkv_commit.specs.Finishing.{point_of}
 use Rattle.fkv_commit.specs.Exchanges.{Exchange, ChangesNothing, AreIdle, HoldsSlot, IsDeferred}
@@ -86,8 +86,8 @@ joined : (a b : List Exchange) → phases_told (a ++ b) ≡ phases_told a ++ pha
 joined [] b = refl
 joined (its ∷ a) b = rw (joined a b) (sym (append_assoc (phases_of its.ask its.reply) (phases_told a) (phases_told b)))
 
-start_tells : (kind : CommitKind) (lost : ℕ) (number : Version) (first : Addr) (told : List Exchange) → HasBegun kind lost number first told → phases_told told ≡ phase_stored phase.InProgress (version_after number) ∷ phase_stored phase.Prepare number ∷ []
-start_tells kind lost number first told begun = deferral_tells begun.slot begun.epoch phase.InProgress (version_after number) _ told begun.deferred
+start_tells : (asked : StartAsked) (number : Version) (first : Addr) (told : List Exchange) → HasBegun asked number first told → phases_told told ≡ phase_stored phase.InProgress (version_after number) ∷ phase_stored phase.Prepare number ∷ []
+start_tells asked number first told begun = deferral_tells begun.slot begun.epoch phase.InProgress (version_after number) _ told begun.deferred
     ∙ ap (λ (l : List ℕ). phase_stored phase.InProgress (version_after number) ∷ phase_stored phase.Prepare number ∷ l) (held_tells begun.slot begun.before begun.held)
 
 enter_tells : (number : Version) (told : List Exchange) → HasEntered number told → phases_told told ≡ phase_stored phase.WaitPending (version_after number) ∷ []
@@ -104,12 +104,12 @@ finish_tells number sessions points told finished = rw finished.its (ap (λ (l :
 
 pub in_order : PhasesInOrder
 in_order number c =
-    let s = start_told c.starter c.kind c.lost c.start_replies in
+    let s = start_told c.starter c.asked c.start_replies in
     let e = enter_told c.enterer number c.enter_replies in
     let k = seek_told c.seeker number c.floor c.seek_replies in
     let points = (sought c.seeker number c.floor c.seek_replies).points in
     let f = finish_told points c.finisher number c.finish_replies in
-    let first = start_tells c.kind c.lost number c.first s (starts_end c.starter c.kind c.lost c.start_replies (Begun number c.first) c.begun) in
+    let first = start_tells c.asked number c.first s (starts_end c.starter c.asked c.start_replies (Begun number c.first) c.begun) in
     let second = enter_tells number e (enters_end c.enterer number c.enter_replies Entered c.has_entered) in
     let third = seek_tells c.floor number c.seeker.sessions points c.end c.epoch k (seeks_end c.seeker number c.floor c.seek_replies (Taken c.end c.epoch) c.taken) in
     let fourth = finish_tells number c.finisher.sessions points f (finishes_end c.finisher number points c.finish_replies c.has_finished) in

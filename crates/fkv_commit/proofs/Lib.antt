@@ -1,3 +1,4 @@
+mod Asked
 mod CutsRead
 mod DeferTold
 mod EndLeft

@@ -1,4 +1,5 @@
 -- What crates above may cite.
+pub use Rattle.fkv_commit.proofs.Asked.{last_low, start_asked}
 pub use Rattle.fkv_commit.proofs.StartLeft.{start_left, start_fewer}
 pub use Rattle.fkv_commit.proofs.EnterLeft.{enter_left, enter_begun_left, enter_fewer}
 pub use Rattle.fkv_commit.proofs.SeekLeft.{seek_left, seek_begun_left, seek_fewer}

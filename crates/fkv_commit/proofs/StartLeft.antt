@@ -1,7 +1,6 @@
 -- The start of a commit asks just where asks are left to it, and each reply leaves fewer.
 use Rattle.std.proofs.Common.{◌≡◌, ℕ, ◌+◌, ◌<◌, ◌≤◌, refl, arith, Bool, true, false}
 use Rattle.std.specs.Prelude.{nat_le, if◌then◌else◌}
-use Rattle.fkv_base.specs.Limits.{last_version}
 use Rattle.fkv_base.specs.declared.faults.Fault.TheVariants.{VersionsSpent, LostFull}
 use Rattle.fkv_base.specs.declared.numbers.Addr.{Addr}
 use Rattle.fkv_base.specs.declared.numbers.Version.{Version}
@@ -20,6 +19,7 @@ use Rattle.fkv_commit.specs.declared.starting.Starting.TheVariants.{Ended, Loads
 use Rattle.fkv_commit.specs.declared.starting.StartAnswer.TheVariants.{Idle}
 use Rattle.fkv_commit.specs.Commits.{version_after}
 use Rattle.fkv_commit.specs.Deferring.{defer_begun, defer_ask, defer_next}
+use Rattle.fkv_base.specs.Limits.{last_of}
 use Rattle.fkv_commit.specs.Starting.{StartState, starting_ask, start_ask, starting_next, start_next, phase_found, refused, is_lost_full, seek_led, defer_led}
 use Rattle.fkv_plane.specs.AsksLeft.{AsksWhereLeft, sum_left}
 use Rattle.fkv_commit.specs.AsksLeft.{deferring_asks_left, defer_asks_left, defer_asks_later, most_slot_asks, most_raise_asks, starting_asks_left, start_asks_left}
@@ -47,7 +47,7 @@ begun_left s number false false = omega arith
 
 phase_left : (s : StartState) (said : PhaseSaid) → start_asks_left (phase_found s said) ≤ most_slot_asks + most_raise_asks + 2
 unfolding starting_asks_left
-phase_left s (Says phase.Rest number) = begun_left s number (nat_le last_version number.0) (is_lost_full s.kind s.lost)
+phase_left s (Says phase.Rest number) = begun_left s number (nat_le (last_of s.asked.class) number.0) (is_lost_full s.asked number.0)
 phase_left s said = omega arith
 
 seek_left : (s : StartState) (number : Version) (old : ℕ) (ask : Ask DeferAnswer) → s.step ≡ Seeks number → 0 < old → defer_asks_left s.defer < old → (ask ≡ Done Held → defer_asks_later s.defer ≤ most_raise_asks)

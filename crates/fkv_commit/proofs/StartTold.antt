@@ -1,12 +1,12 @@
 -- What the start of a commit tells.
-use Rattle.std.proofs.Common.{◌≡◌, ◌≢◌, ℕ, ◌<◌, ◌≤◌, refl, sym, subst, inl, inr, arith, List, true, false}
-use Rattle.std.specs.Prelude.{[], ◌∷◌, nat_le}
+use Rattle.std.proofs.Common.{◌≡◌, ◌≢◌, ℕ, ◌-◌, ◌<◌, ◌≤◌, refl, sym, subst, inl, inr, arith, List, Bool, true, false}
+use Rattle.std.specs.Prelude.{[], ◌∷◌, nat_le, nat_lt, ◌&&◌, ◌||◌}
 use Rattle.std.proofs.lemmas.Bool.Decides.{nat_tests}
-use Rattle.fkv_base.specs.Limits.{last_version}
 use Rattle.fkv_base.specs.declared.faults.Fault.TheVariants.{CommitRunning}
 use Rattle.fkv_base.specs.declared.numbers.Addr.{Addr}
 use Rattle.fkv_base.specs.declared.numbers.Version.{Version}
 use Rattle.fkv_base.specs.declared.phases.Phase.TheVariants as phase
+use Rattle.fkv_marks.specs.Window.{oldest}
 use Rattle.fkv_words.specs.declared.phase_words.PhaseSaid.{PhaseSaid}
 use Rattle.fkv_words.specs.declared.phase_words.PhaseSaid.TheVariants.{Says, Spoiled}
 use Rattle.fkv_words.specs.PhaseWords.{phase_said}
@@ -21,14 +21,16 @@ use Rattle.fkv_base.specs.declared.commits.CommitKind.{CommitKind}
 use Rattle.fkv_base.specs.declared.commits.CommitKind.TheVariants.{Full, Log}
 use Rattle.fkv_commit.specs.declared.deferring.Deferred.TheVariants.{EntersPhase}
 use Rattle.fkv_commit.specs.declared.deferring.DeferAnswer.{DeferAnswer}
+use Rattle.fkv_commit.specs.declared.starting.StartAsked.{StartAsked}
 use Rattle.fkv_commit.specs.declared.starting.Starting.{Starting}
 use Rattle.fkv_commit.specs.declared.starting.Starting.TheVariants.{Ended, LoadsPhase, Seeks, StoresPrepare, LoadsTail, Defers}
 use Rattle.fkv_commit.specs.declared.starting.StartAnswer.TheVariants.{Idle}
-use Rattle.fkv_commit.specs.Commits.{version_after}
+use Rattle.fkv_commit.specs.Commits.{is_log, version_after}
 use Rattle.fkv_commit.specs.Deferring.{defer_ask, defer_next}
-use Rattle.fkv_commit.specs.Starting.{max_lost, StartState, start_begun, starting_ask, start_ask, starting_next, start_next, phase_found, refused, is_lost_full, seek_led, defer_led}
+use Rattle.fkv_base.specs.Limits.{last_of}
+use Rattle.fkv_commit.specs.Starting.{max_lost, is_past_window, StartState, start_begun, starting_ask, start_ask, starting_next, start_next, phase_found, refused, is_lost_full, seek_led, defer_led}
 use Rattle.fkv_commit.specs.Exchanges.{Exchange, exchange, exchanged, AreIdle, AreSlotsBehind, HoldsSlot}
-use Rattle.fkv_commit.specs.Phases.{SaidRest, MayStart, IsStartEnd, StartsEndRight, started, start_told}
+use Rattle.fkv_commit.specs.Phases.{HasNoRoom, SaidRest, MayStart, IsStartEnd, StartsEndRight, started, start_told}
 use Rattle.fkv_commit.proofs.Replies.{by_replies, passed_exchanged, stays_among}
 use Rattle.fkv_commit.proofs.DeferTold.{truth, IsSeeking, IsHolding, SeekOutcome, SeeksOn, HasHeld, HasNone, IsSpent, seek_step, begins_seeking, IsDeferring, DeferOutcome, DefersOn, HasArmed, defer_step, goes_on_deferring, none_met, seek_behind, defer_behind}
 
@@ -43,7 +45,7 @@ record IsHeldAt (s : StartState) (number : Version) (before : List Exchange) : T
   pub slot : ℕ
   pub holding : IsHolding slot s.defer
   pub held : HoldsSlot slot before
-  pub may : MayStart s.kind s.lost number before
+  pub may : MayStart s.asked number before
 
 record IsPrepared (s : StartState) (number : Version) (told : List Exchange) : Type 0 where
   pub before : List Exchange
@@ -56,49 +58,53 @@ record IsAtDeferral (s : StartState) (number : Version) (first : Addr) (told : L
   pub reply : ℕ
   pub slot : ℕ
   pub held : HoldsSlot slot before
-  pub may : MayStart s.kind s.lost number before
+  pub may : MayStart s.asked number before
   pub deferring : IsDeferring (EntersPhase phase.InProgress (version_after number)) slot (tail_loaded number first reply before) s.defer told
 
-abbrev KnowsAt : CommitKind → ℕ → StartState → Starting → List Exchange → Type 0
-KnowsAt kind lost s (Ended its) told = IsStartEnd kind lost its told
-KnowsAt kind lost s LoadsPhase told = told ≡ []
-KnowsAt kind lost s (Seeks number) told = IsSeeking s.defer told × AreIdle told × MayStart kind lost number told
-KnowsAt kind lost s (StoresPrepare number) told = IsHeldAt s number told
-KnowsAt kind lost s (LoadsTail number) told = IsPrepared s number told
-KnowsAt kind lost s (Defers number first) told = IsAtDeferral s number first told
+abbrev KnowsAt : StartAsked → StartState → Starting → List Exchange → Type 0
+KnowsAt asked s (Ended its) told = IsStartEnd asked its told
+KnowsAt asked s LoadsPhase told = told ≡ []
+KnowsAt asked s (Seeks number) told = IsSeeking s.defer told × AreIdle told × MayStart asked number told
+KnowsAt asked s (StoresPrepare number) told = IsHeldAt s number told
+KnowsAt asked s (LoadsTail number) told = IsPrepared s number told
+KnowsAt asked s (Defers number first) told = IsAtDeferral s number first told
 
-record Knows (kind : CommitKind) (lost : ℕ) (s : StartState) (told : List Exchange) : Type 0 where
-  pub its_kind : s.kind ≡ kind
-  pub its_lost : s.lost ≡ lost
-  pub at : KnowsAt kind lost s s.step told
+record Knows (asked : StartAsked) (s : StartState) (told : List Exchange) : Type 0 where
+  pub its_asked : s.asked ≡ asked
+  pub at : KnowsAt asked s s.step told
 
 -- what was said stays said
 still_rest : {A : Type 0} (number : Version) (ask : Ask A) (reply : ℕ) (told : List Exchange) → SaidRest number told → SaidRest number (exchanged ask reply told)
 still_rest number ask reply told h = record { word = h.word; loaded = stays_among (exchange (Load (shared_place one.Phase)) h.word) ask reply told h.loaded; says = h.says }
 
-still_allowed : {A : Type 0} (kind : CommitKind) (lost : ℕ) (number : Version) (ask : Ask A) (reply : ℕ) (told : List Exchange) → MayStart kind lost number told → MayStart kind lost number (exchanged ask reply told)
-still_allowed kind lost number ask reply told h = record { rest = still_rest number ask reply told h.rest; follows = h.follows; few_lost = h.few_lost }
+still_allowed : {A : Type 0} (asked : StartAsked) (number : Version) (ask : Ask A) (reply : ℕ) (told : List Exchange) → MayStart asked number told → MayStart asked number (exchanged ask reply told)
+still_allowed asked number ask reply told h = record { rest = still_rest number ask reply told h.rest; follows = h.follows; few_lost = h.few_lost }
 
--- what a log commit with too many ranges is
-too_many : (kind : CommitKind) (lost : ℕ) → is_lost_full kind lost ≡ true → (kind ≡ Log) × (max_lost < lost)
-too_many Full lost e = cc
-too_many Log lost e = let more : max_lost < lost = grind (arith, nat_tests, e) in (refl, more)
+-- why a log commit has no room
+no_room : (asked : StartAsked) (number : ℕ) (many past : Bool) → nat_lt max_lost asked.lost ≡ many → is_past_window asked number ≡ past → (many || past) ≡ true → HasNoRoom asked number
+no_room asked number true past many_so past_so e = inl (grind (arith, nat_tests, many_so))
+no_room asked number false true many_so past_so e = let far : 8189 < number - oldest asked.class asked.checkpoint.0 = grind (arith, nat_tests, past_so) in inr (omega (arith, far))
+no_room asked number false false many_so past_so e = cc
 
-found_rest : (s : StartState) (number : Version) (told : List Exchange) → AreIdle told → SaidRest number told → Knows s.kind s.lost (phase_found s (Says phase.Rest number)) told
-found_rest s number told idle rest = elim (truth (nat_le last_version number.0)) [
-  | inl e ↦ let last : last_version ≤ number.0 = grind (arith, nat_tests, e) in rw e (record { its_kind = refl; its_lost = refl; at = (idle, (number, last, rest)) })
-  | inr e ↦ let follows : number.0 < last_version = grind (arith, nat_tests, e) in
-      rw e (elim (truth (is_lost_full s.kind s.lost)) [
-        | inl full ↦ let many = too_many s.kind s.lost full in rw full (record { its_kind = refl; its_lost = refl; at = (idle, (number, follows, rest, many.0, many.1)) })
-        | inr full ↦ rw full (record { its_kind = refl; its_lost = refl; at = (begins_seeking s.defer told, idle, record { rest = rest; follows = follows; few_lost = full }) })
+too_many : (asked : StartAsked) (number : ℕ) (kind : CommitKind) → asked.kind ≡ kind → (is_log kind && (nat_lt max_lost asked.lost || is_past_window asked number)) ≡ true → (asked.kind ≡ Log) × HasNoRoom asked number
+too_many asked number Full is e = cc
+too_many asked number Log is e = (is, no_room asked number (nat_lt max_lost asked.lost) (is_past_window asked number) refl refl e)
+
+found_rest : (s : StartState) (number : Version) (told : List Exchange) → AreIdle told → SaidRest number told → Knows s.asked (phase_found s (Says phase.Rest number)) told
+found_rest s number told idle rest = elim (truth (nat_le (last_of s.asked.class) number.0)) [
+  | inl e ↦ let last : last_of s.asked.class ≤ number.0 = grind (arith, nat_tests, e) in rw e (record { its_asked = refl; at = (idle, (number, last, rest)) })
+  | inr e ↦ let follows : number.0 < last_of s.asked.class = grind (arith, nat_tests, e) in
+      rw e (elim (truth (is_lost_full s.asked number.0)) [
+        | inl full ↦ let many = too_many s.asked number.0 s.asked.kind refl full in rw full (record { its_asked = refl; at = (idle, (number, follows, rest, many.0, many.1)) })
+        | inr full ↦ rw full (record { its_asked = refl; at = (begins_seeking s.defer told, idle, record { rest = rest; follows = follows; few_lost = full }) })
       ])
 ]
 
 running : (s : StartState) (word : ℕ) (told : List Exchange) → AreIdle told → Among (exchange (Load (shared_place one.Phase)) word) told → ((number : Version) → phase_said word ≢ Says phase.Rest number)
-    → Knows s.kind s.lost (refused s CommitRunning) told
-running s word told idle loaded isnt = record { its_kind = refl; its_lost = refl; at = (idle, (word, loaded, isnt)) }
+    → Knows s.asked (refused s CommitRunning) told
+running s word told idle loaded isnt = record { its_asked = refl; at = (idle, (word, loaded, isnt)) }
 
-found : (s : StartState) (word : ℕ) (told : List Exchange) (said : PhaseSaid) → phase_said word ≡ said → AreIdle told → Among (exchange (Load (shared_place one.Phase)) word) told → Knows s.kind s.lost (phase_found s said) told
+found : (s : StartState) (word : ℕ) (told : List Exchange) (said : PhaseSaid) → phase_said word ≡ said → AreIdle told → Among (exchange (Load (shared_place one.Phase)) word) told → Knows s.asked (phase_found s said) told
 found s word told (Says phase.Rest number) says idle loaded = found_rest s number told idle (record { word = word; loaded = loaded; says = says })
 found s word told (Says phase.Prepare number) says idle loaded = running s word told idle loaded (λ n e. cc)
 found s word told (Says phase.InProgress number) says idle loaded = running s word told idle loaded (λ n e. cc)
@@ -116,33 +122,32 @@ unfolding defer_led
 defers_on number first s (Done its) e = cc
 defers_on number first s ask e = refl
 
-sought : (number : Version) (s : StartState) (told : List Exchange) → s.step ≡ Seeks number → MayStart s.kind s.lost number told → SeekOutcome s.defer told → Knows s.kind s.lost (seek_led number s (defer_ask s.defer)) told
+sought : (number : Version) (s : StartState) (told : List Exchange) → s.step ≡ Seeks number → MayStart s.asked number told → SeekOutcome s.defer told → Knows s.asked (seek_led number s (defer_ask s.defer)) told
 unfolding seek_led
-sought number s told at may (SeeksOn e seeking idle) = rw (seeks_on number s (defer_ask s.defer) e) (record { its_kind = refl; its_lost = refl; at = rw at (seeking, idle, may) })
-sought number s told at may (HasHeld slot e holding held) = rw e (record { its_kind = refl; its_lost = refl; at = record { slot = slot; holding = holding; held = held; may = may } })
-sought number s told at may (HasNone e taken idle) = rw e (record { its_kind = refl; its_lost = refl; at = (idle, (number, may, taken)) })
-sought number s told at may (IsSpent e last idle) = rw e (record { its_kind = refl; its_lost = refl; at = (idle, (number, may, last)) })
+sought number s told at may (SeeksOn e seeking idle) = rw (seeks_on number s (defer_ask s.defer) e) (record { its_asked = refl; at = rw at (seeking, idle, may) })
+sought number s told at may (HasHeld slot e holding held) = rw e (record { its_asked = refl; at = record { slot = slot; holding = holding; held = held; may = may } })
+sought number s told at may (HasNone e taken idle) = rw e (record { its_asked = refl; at = (idle, (number, may, taken)) })
+sought number s told at may (IsSpent e last idle) = rw e (record { its_asked = refl; at = (idle, (number, may, last)) })
 
-deferred : (number : Version) (first : Addr) (reply slot : ℕ) (before : List Exchange) (s : StartState) (told : List Exchange) → s.step ≡ Defers number first → HoldsSlot slot before → MayStart s.kind s.lost number before
-    → DeferOutcome (EntersPhase phase.InProgress (version_after number)) slot (tail_loaded number first reply before) s.defer told → Knows s.kind s.lost (defer_led number first s (defer_ask s.defer)) told
+deferred : (number : Version) (first : Addr) (reply slot : ℕ) (before : List Exchange) (s : StartState) (told : List Exchange) → s.step ≡ Defers number first → HoldsSlot slot before → MayStart s.asked number before
+    → DeferOutcome (EntersPhase phase.InProgress (version_after number)) slot (tail_loaded number first reply before) s.defer told → Knows s.asked (defer_led number first s (defer_ask s.defer)) told
 unfolding defer_led
 deferred number first reply slot before s told at held may (DefersOn e deferring) = rw (defers_on number first s (defer_ask s.defer) e)
-    (record { its_kind = refl; its_lost = refl; at = rw at (record { before = before; reply = reply; slot = slot; held = held; may = may; deferring = deferring }) })
+    (record { its_asked = refl; at = rw at (record { before = before; reply = reply; slot = slot; held = held; may = may; deferring = deferring }) })
 deferred number first reply slot before s told at held may (HasArmed epoch e its) =
-    rw e (record { its_kind = refl; its_lost = refl; at = record { slot = slot; epoch = epoch; before = before; held = held; may = may; store_reply = reply; deferred = its } })
+    rw e (record { its_asked = refl; at = record { slot = slot; epoch = epoch; before = before; held = held; may = may; store_reply = reply; deferred = its } })
 
-starting_keeps : (s : StartState) (step : Starting) (told : List Exchange) (reply : ℕ) → s.step ≡ step → KnowsAt s.kind s.lost s step told
-    → Knows s.kind s.lost (starting_next s step reply) (exchanged (starting_ask s step) reply told)
+starting_keeps : (s : StartState) (step : Starting) (told : List Exchange) (reply : ℕ) → s.step ≡ step → KnowsAt s.asked s step told
+    → Knows s.asked (starting_next s step reply) (exchanged (starting_ask s step) reply told)
 unfolding starting_next starting_ask exchanged passed
-starting_keeps s (Ended its) told reply at knows = record { its_kind = refl; its_lost = refl; at = rw at knows }
+starting_keeps s (Ended its) told reply at knows = record { its_asked = refl; at = rw at knows }
 starting_keeps s LoadsPhase told reply at knows = found s reply (exchange (Load (shared_place one.Phase)) reply ∷ told) (phase_said reply) refl (tt, rw knows tt) (inl refl)
 starting_keeps s (Seeks number) told reply at knows = rw (passed_exchanged (defer_ask s.defer) Idle reply told)
-    (sought number (record s { defer = defer_next s.defer reply }) (exchanged (defer_ask s.defer) reply told) at (still_allowed s.kind s.lost number (defer_ask s.defer) reply told knows.2) (seek_step s.defer told reply knows.0 knows.1))
+    (sought number (record s { defer = defer_next s.defer reply }) (exchanged (defer_ask s.defer) reply told) at (still_allowed s.asked number (defer_ask s.defer) reply told knows.2) (seek_step s.defer told reply knows.0 knows.1))
 starting_keeps s (StoresPrepare number) told reply at knows =
-    record { its_kind = refl; its_lost = refl; at = record { before = told; reply = reply; its = refl; at = record { slot = knows.slot; holding = knows.holding; held = knows.held; may = knows.may } } }
+    record { its_asked = refl; at = record { before = told; reply = reply; its = refl; at = record { slot = knows.slot; holding = knows.holding; held = knows.held; may = knows.may } } }
 starting_keeps s (LoadsTail number) told reply at knows = record {
-  its_kind = refl;
-  its_lost = refl;
+  its_asked = refl;
   at = record {
     before = knows.before;
     reply = knows.reply;
@@ -156,38 +161,36 @@ starting_keeps s (Defers number first) told reply at knows = rw (passed_exchange
     (deferred number first knows.reply knows.slot knows.before (record s { defer = defer_next s.defer reply }) (exchanged (defer_ask s.defer) reply told) at knows.held knows.may
     (defer_step (EntersPhase phase.InProgress (version_after number)) knows.slot (tail_loaded number first knows.reply knows.before) s.defer told reply knows.deferring))
 
-keeps : (kind : CommitKind) (lost : ℕ) (s : StartState) (told : List Exchange) (reply : ℕ) → Knows kind lost s told → Knows kind lost (start_next s reply) (exchanged (start_ask s) reply told)
-keeps kind lost s told reply knows =
-    subst (λ (k : CommitKind). Knows k lost (start_next s reply) (exchanged (start_ask s) reply told)) knows.its_kind
-    (subst (λ (n : ℕ). Knows s.kind n (start_next s reply) (exchanged (start_ask s) reply told)) knows.its_lost
-    (starting_keeps s s.step told reply refl
-    (subst (λ (n : ℕ). KnowsAt s.kind n s s.step told) (sym knows.its_lost) (subst (λ (k : CommitKind). KnowsAt k lost s s.step told) (sym knows.its_kind) knows.at))))
+keeps : (asked : StartAsked) (s : StartState) (told : List Exchange) (reply : ℕ) → Knows asked s told → Knows asked (start_next s reply) (exchanged (start_ask s) reply told)
+keeps asked s told reply knows =
+    subst (λ (a : StartAsked). Knows a (start_next s reply) (exchanged (start_ask s) reply told)) knows.its_asked
+    (starting_keeps s s.step told reply refl (subst (λ (a : StartAsked). KnowsAt a s s.step told) (sym knows.its_asked) knows.at))
 
 pub starts_end : StartsEndRight
-starts_end opening kind lost replies its ended =
-    let s : StartState = started opening kind lost replies in
-    let begins : Knows kind lost (start_begun opening kind lost) [] = record { its_kind = refl; its_lost = refl; at = refl } in
-    let knows : Knows kind lost s (start_told opening kind lost replies) = by_replies start_ask start_next (Knows kind lost) (start_begun opening kind lost) begins (keeps kind lost) replies in
-    subst (λ (step : Starting). KnowsAt kind lost s step (start_told opening kind lost replies)) ended knows.at
+starts_end opening asked replies its ended =
+    let s : StartState = started opening asked replies in
+    let begins : Knows asked (start_begun opening asked) [] = record { its_asked = refl; at = refl } in
+    let knows : Knows asked s (start_told opening asked replies) = by_replies start_ask start_next (Knows asked) (start_begun opening asked) begins (keeps asked) replies in
+    subst (λ (step : Starting). KnowsAt asked s step (start_told opening asked replies)) ended knows.at
 
-behind_at : (kind : CommitKind) (lost : ℕ) (s : StartState) (step : Starting) (told : List Exchange) (reply : ℕ) → KnowsAt kind lost s step told → AreSlotsBehind told → AreSlotsBehind (exchanged (starting_ask s step) reply told)
+behind_at : (asked : StartAsked) (s : StartState) (step : Starting) (told : List Exchange) (reply : ℕ) → KnowsAt asked s step told → AreSlotsBehind told → AreSlotsBehind (exchanged (starting_ask s step) reply told)
 unfolding starting_ask exchanged passed
-behind_at kind lost s (Ended its) told reply knows behind = behind
-behind_at kind lost s LoadsPhase told reply knows behind = (none_met (shared_place one.Phase) told (inl (omega arith)), behind)
-behind_at kind lost s (Seeks number) told reply knows behind = rw (passed_exchanged (defer_ask s.defer) Idle reply told) (seek_behind s.defer told reply knows.0 behind)
-behind_at kind lost s (StoresPrepare number) told reply knows behind = (λ met. absurd met, behind)
-behind_at kind lost s (LoadsTail number) told reply knows behind = (none_met (shared_place one.Tail) told (inl (omega arith)), behind)
-behind_at kind lost s (Defers number first) told reply knows behind = rw (passed_exchanged (defer_ask s.defer) Idle reply told)
+behind_at asked s (Ended its) told reply knows behind = behind
+behind_at asked s LoadsPhase told reply knows behind = (none_met (shared_place one.Phase) told (inl (omega arith)), behind)
+behind_at asked s (Seeks number) told reply knows behind = rw (passed_exchanged (defer_ask s.defer) Idle reply told) (seek_behind s.defer told reply knows.0 behind)
+behind_at asked s (StoresPrepare number) told reply knows behind = (λ met. absurd met, behind)
+behind_at asked s (LoadsTail number) told reply knows behind = (none_met (shared_place one.Tail) told (inl (omega arith)), behind)
+behind_at asked s (Defers number first) told reply knows behind = rw (passed_exchanged (defer_ask s.defer) Idle reply told)
     (defer_behind (EntersPhase phase.InProgress (version_after number)) knows.slot (tail_loaded number first knows.reply knows.before) s.defer told reply knows.deferring behind)
 
-abbrev Both : CommitKind → ℕ → StartState → List Exchange → Type 0
-Both kind lost s told = Knows kind lost s told × AreSlotsBehind told
+abbrev Both : StartAsked → StartState → List Exchange → Type 0
+Both asked s told = Knows asked s told × AreSlotsBehind told
 
-pub starts_behind : (opening : StartState) (kind : CommitKind) (lost : ℕ) (replies : List ℕ) → AreSlotsBehind (start_told opening kind lost replies)
-starts_behind opening kind lost replies =
-    let s : StartState = started opening kind lost replies in
-    let begins : Knows kind lost (start_begun opening kind lost) [] = record { its_kind = refl; its_lost = refl; at = refl } in
-    let both : Both kind lost s (start_told opening kind lost replies) =
-    by_replies start_ask start_next (Both kind lost) (start_begun opening kind lost) (begins, tt)
-    (λ s told reply knows. (keeps kind lost s told reply knows.0, behind_at kind lost s s.step told reply knows.0.at knows.1)) replies in
+pub starts_behind : (opening : StartState) (asked : StartAsked) (replies : List ℕ) → AreSlotsBehind (start_told opening asked replies)
+starts_behind opening asked replies =
+    let s : StartState = started opening asked replies in
+    let begins : Knows asked (start_begun opening asked) [] = record { its_asked = refl; at = refl } in
+    let both : Both asked s (start_told opening asked replies) =
+    by_replies start_ask start_next (Both asked) (start_begun opening asked) (begins, tt)
+    (λ s told reply knows. (keeps asked s told reply knows.0, behind_at asked s s.step told reply knows.0.at knows.1)) replies in
     both.1

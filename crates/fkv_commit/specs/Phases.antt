@@ -1,12 +1,13 @@
 -- The phases of a commit, in their order, and what is told as it starts, goes on to wait-pending and finishes.
-use Rattle.std.specs.Prelude.{◌≡◌, ◌≢◌, ℕ, zero, suc, ◌<◌, ◌≤◌, false, ◌==◌, ◌&&◌, ◌⊎◌, if◌then◌else◌, List, [], ◌∷◌, ◌++◌, slice_get}
-use Rattle.fkv_base.specs.Limits.{drain_slots, last_version}
+use Rattle.std.specs.Prelude.{◌≡◌, ◌≢◌, ℕ, zero, suc, ◌+◌, ◌<◌, ◌≤◌, false, ◌==◌, ◌&&◌, ◌⊎◌, if◌then◌else◌, List, [], ◌∷◌, ◌++◌, slice_get}
+use Rattle.fkv_base.specs.Limits.{drain_slots, last_of}
 use Rattle.fkv_base.specs.declared.faults.Fault.{Fault}
 use Rattle.fkv_base.specs.declared.faults.Fault.TheVariants as fault
 use Rattle.fkv_base.specs.declared.numbers.Addr.{Addr}
 use Rattle.fkv_base.specs.declared.numbers.Serial.{Serial}
 use Rattle.fkv_base.specs.declared.numbers.Version.{Version}
 use Rattle.fkv_base.specs.declared.phases.Phase.TheVariants as phase
+use Rattle.fkv_marks.specs.Window.{oldest}
 use Rattle.fkv_words.specs.declared.phase_words.PhaseSaid.TheVariants.{Says}
 use Rattle.fkv_words.specs.PhaseWords.{phase_said}
 use Rattle.fkv_plane.specs.declared.actions.Action.TheVariants as act
@@ -17,8 +18,8 @@ use Rattle.fkv_plane.specs.declared.places.SessionWord.TheVariants as own
 use Rattle.fkv_plane.specs.Places.{shared_place, session_place}
 use Rattle.fkv_epoch.specs.Claiming.{phase_stored}
 use Rattle.fkv_epoch.specs.Once.{Among}
-use Rattle.fkv_base.specs.declared.commits.CommitKind.{CommitKind}
 use Rattle.fkv_base.specs.declared.commits.CommitKind.TheVariants.{Log}
+use Rattle.fkv_commit.specs.declared.starting.StartAsked.{StartAsked}
 use Rattle.fkv_commit.specs.declared.starting.Starting.TheVariants as start
 use Rattle.fkv_commit.specs.declared.starting.StartAnswer.{StartAnswer}
 use Rattle.fkv_commit.specs.declared.starting.StartAnswer.TheVariants as start_answer
@@ -47,39 +48,43 @@ pub record SaidRest (number : Version) (told : List Exchange) : Type 0 where
   pub loaded : Among (exchange (Load (shared_place one.Phase)) word) told
   pub says : phase_said word ≡ Says phase.Rest number
 
--- a commit of this version may start, as far as its version and the ranges of lost records go
-pub record MayStart (kind : CommitKind) (lost : ℕ) (number : Version) (told : List Exchange) : Type 0 where
+-- a commit of this version may start, as far as its version, the ranges of lost records and the window of the checkpoint go
+pub record MayStart (asked : StartAsked) (number : Version) (told : List Exchange) : Type 0 where
   pub rest : SaidRest number told
-  pub follows : number.0 < last_version
-  pub few_lost : is_lost_full kind lost ≡ false
+  pub follows : number.0 < last_of asked.class
+  pub few_lost : is_lost_full asked number.0 ≡ false
 
 -- A commit has begun: the phase was rest of a version that may start, a slot was held, and then prepare was stored, the tail loaded, and
 -- in-progress deferred.
-pub record HasBegun (kind : CommitKind) (lost : ℕ) (number : Version) (first : Addr) (told : List Exchange) : Type 0 where
+pub record HasBegun (asked : StartAsked) (number : Version) (first : Addr) (told : List Exchange) : Type 0 where
   pub slot : ℕ
   pub epoch : ℕ
   pub before : List Exchange
   pub held : HoldsSlot slot before
-  pub may : MayStart kind lost number before
+  pub may : MayStart asked number before
   pub store_reply : ℕ
   pub deferred : IsDeferred slot epoch (act.Phase phase.InProgress (version_after number))
       (exchange (Load (shared_place one.Tail)) first.0 ∷ exchange (Store (shared_place one.Phase) (phase_stored phase.Prepare number)) store_reply ∷ before) told
 
+-- a log commit has more lost ranges than it can store, or it lies past the window of the checkpoint
+abbrev pub HasNoRoom : StartAsked → ℕ → Type 0
+HasNoRoom asked number = (max_lost < asked.lost) ⊎ (oldest asked.class asked.checkpoint.0 + 8189 < number)
+
 -- the reason of a refusal was met
-abbrev pub IsRefusalTrue : CommitKind → ℕ → Fault → List Exchange → Type 0
-IsRefusalTrue kind lost fault.CommitRunning told =
+abbrev pub IsRefusalTrue : StartAsked → Fault → List Exchange → Type 0
+IsRefusalTrue asked fault.CommitRunning told =
     (word : ℕ) × Among (exchange (Load (shared_place one.Phase)) word) told × ((number : Version) → phase_said word ≢ Says phase.Rest number)
-IsRefusalTrue kind lost fault.VersionsSpent told = (number : Version) × (last_version ≤ number.0) × SaidRest number told
-IsRefusalTrue kind lost fault.LostFull told = (number : Version) × (number.0 < last_version) × SaidRest number told × (kind ≡ Log) × (max_lost < lost)
-IsRefusalTrue kind lost fault.EpochsSpent told = (number : Version) × MayStart kind lost number told × WasEpochLast told
-IsRefusalTrue kind lost fault.DrainFull told = (number : Version) × MayStart kind lost number told × WereTaken drain_slots told
-IsRefusalTrue kind lost why told = ⊥
+IsRefusalTrue asked fault.VersionsSpent told = (number : Version) × (last_of asked.class ≤ number.0) × SaidRest number told
+IsRefusalTrue asked fault.LostFull told = (number : Version) × (number.0 < last_of asked.class) × SaidRest number told × (asked.kind ≡ Log) × HasNoRoom asked number.0
+IsRefusalTrue asked fault.EpochsSpent told = (number : Version) × MayStart asked number told × WasEpochLast told
+IsRefusalTrue asked fault.DrainFull told = (number : Version) × MayStart asked number told × WereTaken drain_slots told
+IsRefusalTrue asked why told = ⊥
 
 -- where a start is refused nothing is changed, and the reason was met
-abbrev pub IsStartEnd : CommitKind → ℕ → StartAnswer → List Exchange → Type 0
-IsStartEnd kind lost (start_answer.Begun number first) told = HasBegun kind lost number first told
-IsStartEnd kind lost (start_answer.Refused why) told = AreIdle told × IsRefusalTrue kind lost why told
-IsStartEnd kind lost start_answer.Idle told = ⊥
+abbrev pub IsStartEnd : StartAsked → StartAnswer → List Exchange → Type 0
+IsStartEnd asked (start_answer.Begun number first) told = HasBegun asked number first told
+IsStartEnd asked (start_answer.Refused why) told = AreIdle told × IsRefusalTrue asked why told
+IsStartEnd asked start_answer.Idle told = ⊥
 
 -- a slot was held, and wait-pending is deferred
 pub record HasEntered (number : Version) (told : List Exchange) : Type 0 where
@@ -139,11 +144,11 @@ phases_of_commit number =
     phase_stored phase.Rest (version_after number) ∷ phase_stored phase.WaitFlush (version_after number) ∷ phase_stored phase.WaitPending (version_after number)
     ∷ phase_stored phase.InProgress (version_after number) ∷ phase_stored phase.Prepare number ∷ []
 
-abbrev pub started : StartState → CommitKind → ℕ → List ℕ → StartState
-started opening kind lost replies = run_of start_next (start_begun opening kind lost) replies
+abbrev pub started : StartState → StartAsked → List ℕ → StartState
+started opening asked replies = run_of start_next (start_begun opening asked) replies
 
-abbrev pub start_told : StartState → CommitKind → ℕ → List ℕ → List Exchange
-start_told opening kind lost replies = exchanges start_ask start_next (start_begun opening kind lost) replies
+abbrev pub start_told : StartState → StartAsked → List ℕ → List Exchange
+start_told opening asked replies = exchanges start_ask start_next (start_begun opening asked) replies
 
 abbrev pub entered : EnterState → Version → List ℕ → EnterState
 entered opening number replies = run_of enter_next (enter_begun opening number) replies
@@ -164,8 +169,8 @@ abbrev pub finish_told : List Serial → FinishState → Version → List ℕ �
 finish_told points opening number replies = exchanges (finish_ask points) finish_next (finish_begun opening number) replies
 
 abbrev pub StartsEndRight : Type 0
-StartsEndRight = (opening : StartState) (kind : CommitKind) (lost : ℕ) (replies : List ℕ) (its : StartAnswer) → (started opening kind lost replies).step ≡ start.Ended its
-    → IsStartEnd kind lost its (start_told opening kind lost replies)
+StartsEndRight = (opening : StartState) (asked : StartAsked) (replies : List ℕ) (its : StartAnswer) → (started opening asked replies).step ≡ start.Ended its
+    → IsStartEnd asked its (start_told opening asked replies)
 
 abbrev pub EntersEndRight : Type 0
 EntersEndRight = (opening : EnterState) (number : Version) (replies : List ℕ) (its : EnterAnswer) → (entered opening number replies).step ≡ enter.Ended its
@@ -181,18 +186,17 @@ FinishesEndRight = (opening : FinishState) (number : Version) (points : List Ser
 -- whatever is replied, a slot is sought and held only where the epoch was loaded before and was below its last
 abbrev pub EpochComesFirst : Type 0
 EpochComesFirst =
-    ((opening : StartState) (kind : CommitKind) (lost : ℕ) (replies : List ℕ) → AreSlotsBehind (start_told opening kind lost replies))
+    ((opening : StartState) (asked : StartAsked) (replies : List ℕ) → AreSlotsBehind (start_told opening asked replies))
     × ((opening : EnterState) (number : Version) (replies : List ℕ) → AreSlotsBehind (enter_told opening number replies))
     × ((opening : SeekState) (number : Version) (floor : List Serial) (replies : List ℕ) → AreSlotsBehind (seek_told opening number floor replies))
 
 -- the four machines of a commit, each from its start to its end
 pub record WholeCommit (number : Version) : Type 0 where
   pub starter : StartState
-  pub kind : CommitKind
-  pub lost : ℕ
+  pub asked : StartAsked
   pub start_replies : List ℕ
   pub first : Addr
-  pub begun : (started starter kind lost start_replies).step ≡ start.Ended (start_answer.Begun number first)
+  pub begun : (started starter asked start_replies).step ≡ start.Ended (start_answer.Begun number first)
   pub enterer : EnterState
   pub enter_replies : List ℕ
   pub has_entered : (entered enterer number enter_replies).step ≡ enter.Ended enter_answer.Entered
@@ -208,7 +212,7 @@ pub record WholeCommit (number : Version) : Type 0 where
 
 -- what they have told, one after another; the points that are finished with are those that were taken
 abbrev pub commit_told : (number : Version) → WholeCommit number → List Exchange
-commit_told number c = finish_told (sought c.seeker number c.floor c.seek_replies).points c.finisher number c.finish_replies ++ (seek_told c.seeker number c.floor c.seek_replies ++ (enter_told c.enterer number c.enter_replies ++ start_told c.starter c.kind c.lost c.start_replies))
+commit_told number c = finish_told (sought c.seeker number c.floor c.seek_replies).points c.finisher number c.finish_replies ++ (seek_told c.seeker number c.floor c.seek_replies ++ (enter_told c.enterer number c.enter_replies ++ start_told c.starter c.asked c.start_replies))
 
 -- a commit goes through all its phases in order, each once
 abbrev pub PhasesInOrder : Type 0

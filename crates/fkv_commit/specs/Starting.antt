@@ -1,12 +1,13 @@
 -- How a commit starts: where the phase is rest a drain slot is held, prepare is stored, the tail is loaded, and in-progress is deferred until
 -- all have seen prepare.
-use Rattle.std.specs.Prelude.{ℕ, ◌&&◌, nat_lt, nat_le, if◌then◌else◌, Bool}
-use Rattle.fkv_base.specs.Limits.{last_version}
+use Rattle.std.specs.Prelude.{ℕ, ◌-◌, ◌&&◌, ◌||◌, nat_lt, nat_le, if◌then◌else◌, Bool}
+use Rattle.fkv_base.specs.Limits.{last_of}
 use Rattle.fkv_base.specs.declared.faults.Fault.{Fault}
 use Rattle.fkv_base.specs.declared.faults.Fault.TheVariants.{CommitRunning, VersionsSpent, LostFull, EpochsSpent, DrainFull}
 use Rattle.fkv_base.specs.declared.numbers.Addr.{Addr}
 use Rattle.fkv_base.specs.declared.numbers.Version.{Version}
 use Rattle.fkv_base.specs.declared.phases.Phase.TheVariants.{Rest, Prepare, InProgress}
+use Rattle.fkv_marks.specs.Window.{oldest}
 use Rattle.fkv_words.specs.declared.phase_words.PhaseSaid.{PhaseSaid}
 use Rattle.fkv_words.specs.declared.phase_words.PhaseSaid.TheVariants.{Says}
 use Rattle.fkv_words.specs.PhaseWords.{phase_said}
@@ -16,12 +17,12 @@ use Rattle.fkv_plane.specs.declared.places.SharedWord.TheVariants as one
 use Rattle.fkv_plane.specs.Places.{shared_place}
 use Rattle.fkv_plane.specs.Passing.{passed}
 use Rattle.fkv_epoch.specs.Claiming.{phase_stored}
-use Rattle.fkv_base.specs.declared.commits.CommitKind.{CommitKind}
 use Rattle.fkv_commit.specs.declared.deferring.Deferred.TheVariants.{EntersPhase}
 use Rattle.fkv_commit.specs.declared.deferring.DeferAnswer.{DeferAnswer}
 use Rattle.fkv_commit.specs.declared.deferring.DeferAnswer.TheVariants.{Held, Spent, Armed}
 use Rattle.fkv_commit.specs.declared.starting.StartAnswer.{StartAnswer}
 use Rattle.fkv_commit.specs.declared.starting.StartAnswer.TheVariants.{Idle, Begun, Refused}
+use Rattle.fkv_commit.specs.declared.starting.StartAsked.{StartAsked}
 use Rattle.fkv_commit.specs.declared.starting.Starting.{Starting}
 use Rattle.fkv_commit.specs.declared.starting.Starting.TheVariants.{Ended, LoadsPhase, Seeks, StoresPrepare, LoadsTail, Defers}
 use Rattle.fkv_commit.specs.Commits.{is_log, version_after}
@@ -32,18 +33,21 @@ abbrev pub max_lost : ℕ
 max_lost = 8
 
 pub record StartState : Type 0 where
-  pub kind : CommitKind
-  -- ranges of lost records in hand
-  pub lost : ℕ
+  -- what was asked for last, of a store of this class
+  pub asked : StartAsked
   pub defer : DeferState
   pub step : Starting
 
-abbrev pub start_begun : StartState → CommitKind → ℕ → StartState
-start_begun s kind lost = record s { kind = kind; lost = lost; step = LoadsPhase }
+abbrev pub start_begun : StartState → StartAsked → StartState
+start_begun s asked = record s { asked = asked; step = LoadsPhase }
 
--- a log commit has too many of them to store
-abbrev pub is_lost_full : CommitKind → ℕ → Bool
-is_lost_full kind lost = is_log kind && nat_lt max_lost lost
+-- a commit of this number lies past the window of the checkpoint: behind that some mark would be of two versions
+abbrev pub is_past_window : StartAsked → ℕ → Bool
+is_past_window asked number = nat_lt 8189 (number - oldest asked.class asked.checkpoint.0)
+
+-- a log commit has too many lost ranges to store, or lies past its window: only a full one helps then
+abbrev pub is_lost_full : StartAsked → ℕ → Bool
+is_lost_full asked number = is_log asked.kind && (nat_lt max_lost asked.lost || is_past_window asked number)
 
 -- what each state asks
 unfoldable pub starting_ask : StartState → Starting → Ask StartAnswer
@@ -60,11 +64,11 @@ start_ask s = starting_ask s s.step
 abbrev pub refused : StartState → Fault → StartState
 refused s why = record s { step = Ended (Refused why) }
 
--- a commit starts where the phase is rest, but not of the last version
+-- a commit starts where the phase is rest, but not of the store's last version
 abbrev pub phase_found : StartState → PhaseSaid → StartState
 phase_found s (Says Rest number) =
-    if nat_le last_version number.0 then refused s VersionsSpent
-    else if is_lost_full s.kind s.lost then refused s LostFull
+    if nat_le (last_of s.asked.class) number.0 then refused s VersionsSpent
+    else if is_lost_full s.asked number.0 then refused s LostFull
     else record s { defer = defer_begun s.defer; step = Seeks number }
 phase_found s said = refused s CommitRunning
 

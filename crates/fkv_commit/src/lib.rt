@@ -18,5 +18,5 @@ pub use entering::{EnterAnswer, EnterWaitPending};
 pub use finishing::{FinishAnswer, FinishCommit};
 pub use laws::{law_of_phases, law_of_points};
 pub use seeking::{SeekAnswer, SeekPoints};
-pub use starting::{StartAnswer, StartCommit};
+pub use starting::{StartAnswer, StartAsked, StartCommit};
 pub use waiting::{WaitAnswer, WaitFlush};

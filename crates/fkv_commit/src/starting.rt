@@ -1,21 +1,37 @@
 //! How a commit starts.
 ghost use Rattle.std.specs.Prelude.{◌≡◌, ◌≤◌, ◌<◌, ◌+◌, ◌*◌};
-ghost use Rattle.fkv_base.specs.Limits.{drain_slots};
+ghost use Rattle.fkv_base.specs.Limits.{drain_slots, last_of};
 ghost use Rattle.fkv_plane.specs.AsksLeft.{AsksWhereLeft};
 ghost use Rattle.fkv_commit.specs.AsksLeft.{start_asks_left};
-ghost use Rattle.fkv_commit.specs.Starting.{is_lost_full, start_begun, start_ask, start_next, phase_found, seek_led, defer_led};
+ghost use Rattle.fkv_commit.specs.Starting.{is_lost_full, is_past_window, start_begun, start_ask, start_next, phase_found, seek_led, defer_led};
 ghost use Rattle.fkv_commit.specs.declared.starting.Starting.TheVariants.{Ended};
 ghost use Rattle.fkv_commit.specs.declared.starting.StartAnswer.TheVariants.{Idle, Refused};
 
 use crate::deferring::{Defer, DeferAnswer, Deferred};
 use crate::phase_steps::{phase_stored, version_after};
-use fkv_base::{Addr, CommitKind, Fault, Phase, Version};
+use fkv_base::{Addr, CommitKind, Fault, Phase, StoreClass, Version};
+use fkv_marks::oldest;
 use fkv_plane::{Ask, SharedWord, passed};
 use fkv_words::{PhaseSaid, phase_said};
 use std::marker::Model;
 
 /// Ranges of lost records that a log commit may store, at most.
 const MAX_LOST: usize = 8;
+
+/// So far a log commit's number may lie from the oldest version that a record behind the checkpoint may have.
+const WINDOW: u64 = 8189;
+
+/// The commit that is to start, and the store's state that bounds it.
+#[derive(Clone, Copy)]
+pub struct StartAsked {
+    /// The class of the store.
+    pub class: StoreClass,
+    pub kind: CommitKind,
+    /// Ranges of lost records in hand, which a log commit has to store.
+    pub lost: usize,
+    /// The number of the commit whose checkpoint is in force.
+    pub checkpoint: Version,
+}
 
 /// What the start of a commit has come to.
 #[derive(Clone, Copy, Debug, PartialEq, Eq)]
@@ -42,12 +58,11 @@ pub(crate) enum Starting {
 }
 
 /// Starts a commit: stores prepare, loads the tail, and defers in-progress until all have seen prepare. It is refused where a
-/// commit runs, the version is the last, a log commit would have too many ranges of lost records to store, the epoch is at
-/// its last, or no drain slot is free, in this order.
+/// commit runs, the version is the store's last, a log commit would have too many ranges of lost records to store or lie past the
+/// window of its checkpoint, the epoch is at its last, or no drain slot is free, in this order.
 #[derive(Drop)]
 pub struct StartCommit {
-    kind: CommitKind,
-    lost: usize,
+    asked: StartAsked,
     defer: Defer,
     step: Starting,
 }
@@ -57,32 +72,36 @@ impl Model for StartCommit {
 
     ghost Value = { StartState };
 
-    ghost view = { λ m. record { kind = m.kind; lost = m.lost; defer = m.defer; step = m.step } };
+    ghost view = { λ m. record { asked = m.asked; defer = m.defer; step = m.step } };
 }
 
 impl StartCommit {
-    /// The machine at rest.
-    pub fn new() -> StartCommit
-        ensures { result.step ≡ Ended Idle }
+    /// The machine at rest, of a store of this class.
+    pub fn new(class: StoreClass) -> StartCommit
+        ensures rests { result.step ≡ Ended Idle }
+        ensures class { result.asked.class ≡ class }
     {
         StartCommit {
-            kind: CommitKind::Full,
-            lost: 0,
+            asked: StartAsked {
+                class,
+                kind: CommitKind::Full,
+                lost: 0,
+                checkpoint: Version(0),
+            },
             defer: Defer::new(),
             step: Starting::Ended(StartAnswer::Idle),
         }
     }
 
-    /// The first ask, for a commit of this kind, where so many ranges of lost records are in hand.
+    /// The first ask, for this commit.
     #[tactic(auto, unfolding(crate::specs::AsksLeft::starting_asks_left))]
-    pub fn start(&mut self, kind: CommitKind, lost: usize) -> Ask<StartAnswer>
-        ensures next { self.new ≡ start_begun self.old kind lost }
+    pub fn start(&mut self, asked: StartAsked) -> Ask<StartAnswer>
+        ensures next { self.new ≡ start_begun self.old asked }
         ensures ask { result ≡ start_ask self.new }
         ensures asks { AsksWhereLeft (start_asks_left self.new) result }
         ensures bounded { start_asks_left self.new ≤ 2 * drain_slots + 7 }
     {
-        self.kind = kind;
-        self.lost = lost;
+        self.asked = asked;
         self.step = Starting::LoadsPhase;
         self.ask()
     }
@@ -119,9 +138,16 @@ impl StartCommit {
 
     /// The kind of the commit that was asked for last.
     pub fn kind(&self) -> CommitKind
-        ensures { result ≡ self.now.kind }
+        ensures { result ≡ self.now.asked.kind }
     {
-        self.kind
+        self.asked.kind
+    }
+
+    /// The class of the store.
+    pub fn class(&self) -> StoreClass
+        ensures { result ≡ self.now.asked.class }
+    {
+        self.asked.class
     }
 
     /// What it asks now.
@@ -149,9 +175,9 @@ impl StartCommit {
     {
         match said {
             PhaseSaid::Says(Phase::Rest, number) => {
-                if number.0 >= Version::LAST {
+                if number.0 >= self.asked.class.last_version() {
                     self.refuse(Fault::VersionsSpent);
-                } else if self.is_lost_full() {
+                } else if self.is_lost_full(number) {
                     self.refuse(Fault::LostFull);
                 } else {
                     self.defer.start();
@@ -162,11 +188,20 @@ impl StartCommit {
         }
     }
 
-    /// A log commit would have too many ranges of lost records to store.
-    fn is_lost_full(&self) -> bool
-        ensures { result ≡ is_lost_full self.now.kind self.now.lost }
+    /// A log commit would have too many ranges of lost records to store, or lie past its window.
+    fn is_lost_full(&self, number: Version) -> bool
+        ensures { result ≡ is_lost_full self.now.asked number.0 }
     {
-        self.kind == CommitKind::Log && self.lost > MAX_LOST
+        self.asked.kind == CommitKind::Log
+            && (self.asked.lost > MAX_LOST || self.is_past_window(number))
+    }
+
+    /// Some mark would be of two versions behind the checkpoint.
+    fn is_past_window(&self, number: Version) -> bool
+        ensures { result ≡ is_past_window self.now.asked number.0 }
+    {
+        let oldest = oldest(self.asked.class, self.asked.checkpoint.0);
+        number.0.saturating_sub(oldest) > WINDOW
     }
 
     fn refuse(&mut self, why: Fault)

@@ -3,6 +3,7 @@ use Rattle.std.proofs.Common.{◌≡◌, ◌∙◌, ap, ℕ, Bool, true, false, 
 use Rattle.fkv_base.specs.declared.numbers.Addr.{Addr}
 use Rattle.fkv_base.specs.declared.phases.Phase.{Phase}
 use Rattle.fkv_base.specs.declared.phases.Phase.TheVariants.{Rest}
+use Rattle.fkv_marks.specs.Marks.{mark}
 use Rattle.fkv_words.specs.Layout.{cut_word, phase_spelled, wide_word}
 use Rattle.fkv_words.specs.Phases.{phase_number}
 use Rattle.fkv_words.specs.declared.cut_word.CutWord.{CutWord}
@@ -45,7 +46,7 @@ pub cut_so : (o : Opened) (session parity : ℕ) (its : CutWord) → IsOpeningCu
 cut_so o session parity its is =
     let of : Bool = nat_eq (o.number.0 % 2) parity in
     ap (λ (n : ℕ). n + its.version.0 * 2 ^ 48) is.serial ∙ ap (λ (n : ℕ). (if of then point_of o session else 0) + n * 2 ^ 48) is.version
-    ∙ both_or_none of (point_of o session) o.number.0
+    ∙ both_or_none of (point_of o session) (mark o.number.0)
 
 pub own_so : (o : Opened) (session : ℕ) (its : SessionWords) (even odd : ℕ) → AreSessionWords o session its → even ≡ cut_word its.even_cut → odd ≡ cut_word its.odd_cut
     → its.epoch ∷ even ∷ odd ∷ its.owing ∷ its.durable.0 ∷ its.mail_state ∷ its.mail_address ∷ its.mail_header ∷ its.mail_key ∷ its.mail_value ∷ 0 ∷ 0 ∷ 0 ∷ 0 ∷ 0 ∷ 0 ∷ [] ≡ words_of_session o session

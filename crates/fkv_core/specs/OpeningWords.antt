@@ -2,6 +2,7 @@
 use Rattle.std.specs.Prelude.{◌≡◌, ℕ, zero, suc, ◌+◌, ◌*◌, ◌^◌, ◌%◌, nat_eq, if◌then◌else◌, List, [], ◌∷◌, ◌++◌, length, map, replicate, slice_index, slice_set}
 use Rattle.fkv_base.specs.Limits.{drain_slots}
 use Rattle.fkv_base.specs.declared.phases.Phase.TheVariants.{Rest}
+use Rattle.fkv_marks.specs.Marks.{mark}
 use Rattle.fkv_words.specs.Layout.{phase_spelled}
 use Rattle.fkv_words.specs.Phases.{phase_number}
 use Rattle.fkv_plane.specs.declared.places.SharedWord.{SharedWord}
@@ -27,9 +28,9 @@ shared_word o taken one.Head = o.warm.0
 shared_word o taken one.Closed = o.warm.0
 shared_word o taken one.Taken = taken
 
--- the cut word of the commit's parity has its number and the session's point; the other one is 0
+-- the cut word of the commit's parity has the mark of its number and the session's point; the other one is 0
 abbrev pub opening_cut : Opened → ℕ → ℕ → ℕ
-opening_cut o session parity = if nat_eq (o.number.0 % 2) parity then point_of o session + o.number.0 * 2 ^ 48 else 0
+opening_cut o session parity = if nat_eq (o.number.0 % 2) parity then point_of o session + mark o.number.0 * 2 ^ 48 else 0
 
 -- a session is protected in epoch 1, cut at the commit, durable up to its point, and owes and asks for nothing
 abbrev pub session_word : Opened → ℕ → SessionWord → ℕ

@@ -10,7 +10,6 @@ use Rattle.fkv_disk.proofs.Shown.{byte_at-listed, byte_at-written_in, byte_at-wr
 use Rattle.fkv_disk.specs.Bytes.{byte_at, covers, listed, range_end, written}
 use Rattle.fkv_disk.specs.Fuse.{with_refused}
 use Rattle.fkv_disk.specs.declared.fuses.FuseState.{FuseState}
-use Rattle.fkv_disk.specs.declared.fuses.FuseState.TheVariants.{Sound}
 use Rattle.fkv_disk.specs.Calls.{Call, Write, Sync, far_end, is_untouched, reads_as, torn_image}
 
 bool_is : (b : Bool) → (b ≡ true) ⊎ (b ≡ false)
@@ -96,8 +95,9 @@ torn_behind calls torn image is = record {
     at : (i : ℕ) → byte_at image i ≡ (if is_untouched (as_calls calls) i then byte_at (reads_as [] (as_calls calls)) i else torn)
     at i = ap (λ (l : List ℕ). byte_at l i) is ∙ image_at (as_calls calls) torn i
 
--- so it is of a fuse that isn't armed, around the device that was called
-pub crashed : {X E : Type 0} (shows : X → List ℕ) (calls : List MadeCall) (torn : ℕ) (opening : List ℕ) (state : FuseState) (its : List Call) (r : Result X E) → opening ≡ [] → state ≡ Sound → its ≡ as_calls calls
-    → IfOk r (λ x. shows x ≡ torn_image opening (with_refused state its) torn) → IfOk r (λ x. IsTornBehind calls torn (shows x))
-crashed shows calls torn opening state its (Ok x) none sound same is = torn_behind calls torn (shows x) (is ∙ (λ i. torn_image (none i) (with_refused (sound i) (same i)) torn))
-crashed shows calls torn opening state its (Err e) none sound same is = tt
+-- So it is of a fuse around the device that was called, if it blew at no write: it adds no call.
+pub crashed : {X E : Type 0} (shows : X → List ℕ) (calls : List MadeCall) (torn : ℕ) (still : FuseState) (opening : List ℕ) (state : FuseState) (its : List Call) (r : Result X E) → ((cs : List Call) → with_refused still cs ≡ cs)
+    → opening ≡ [] → state ≡ still → its ≡ as_calls calls → IfOk r (λ x. shows x ≡ torn_image opening (with_refused state its) torn) → IfOk r (λ x. IsTornBehind calls torn (shows x))
+crashed shows calls torn still opening state its (Ok x) adds none stays same is =
+    torn_behind calls torn (shows x) (is ∙ (λ i. torn_image (none i) (with_refused (stays i) (same i)) torn) ∙ ap (λ (cs : List Call). torn_image [] cs torn) (adds (as_calls calls)))
+crashed shows calls torn still opening state its (Err e) adds none stays same is = tt

@@ -29,3 +29,10 @@ pub record IsTornBehind (calls : List MadeCall) (torn : ℕ) (image : List ℕ) 
   pub ends : length image ≡ last_end calls 0
   pub tears : (i : ℕ) → is_unsynced calls false i ≡ true → byte_at image i ≡ torn
   pub keeps : (i : ℕ) → is_unsynced calls false i ≡ false → byte_at image i ≡ last_byte calls 0 i
+
+-- The image of a crash behind these calls of a new device and within one write more. Its whole range is torn, as far as that reaches.
+pub record IsTornWithin (calls : List MadeCall) (at n torn : ℕ) (image : List ℕ) : Type 0 where
+  pub ends : length image ≡ max (last_end calls 0) (range_end at n)
+  pub cuts : (i : ℕ) → covers at n i ≡ true → byte_at image i ≡ torn
+  pub tears : (i : ℕ) → is_unsynced calls false i ≡ true → byte_at image i ≡ torn
+  pub keeps : (i : ℕ) → covers at n i ≡ false → is_unsynced calls false i ≡ false → byte_at image i ≡ last_byte calls 0 i

@@ -1,9 +1,9 @@
 //! A device in memory whose calls are made here, and which is crashed behind them.
-ghost use Rattle.std.specs.Prelude.{◌≡◌, ◌∷◌, [], IfErr, IfOk, OnOk};
+ghost use Rattle.std.specs.Prelude.{◌≡◌, ◌∷◌, [], IfErr, IfOk, OnOk, length};
 ghost use Rattle.fkv_base.specs.declared.faults.Fault.TheVariants as fault;
 ghost use Rattle.fkv_crashes.specs.Made.{as_call, as_calls};
 ghost use Rattle.fkv_crashes.specs.Refused.{IsCallRefused, IsRefused};
-ghost use Rattle.fkv_crashes.specs.Torn.{IsTornBehind};
+ghost use Rattle.fkv_crashes.specs.Torn.{IsTornBehind, IsTornWithin};
 ghost use Rattle.fkv_disk.specs.Memory.{disk_calls, disk_opening};
 
 use fkv_base::Fault;
@@ -27,6 +27,61 @@ pub fn crash_behind(alloc: Global, calls: &[MadeCall], torn: u8) -> Result<MemDi
     let mut disk = MemDisk::new(alloc);
     make_all(&mut disk, calls)?;
     Fuse::new(disk).crash(torn)
+}
+
+/// Makes these calls of a new device in memory, and crashes it within one write more: the fuse blows at that write. Each byte in the range of the
+/// write is torn, and each other one is as `crash_behind` leaves it. So a crash that spares the write at which it comes, or that leaves it
+/// whole, isn't proved. It is refused as `crash_behind` is.
+pub fn crash_within(
+    alloc: Global,
+    calls: &[MadeCall],
+    at: u64,
+    bytes: &[u8],
+    torn: u8,
+) -> Result<MemDisk, Fault>
+    ensures image { IfOk result (λ disk. IsTornWithin calls.now at (length bytes.now) torn (⟦<MemDisk as Device>⟧.seen disk)) }
+    ensures why { IfErr result (λ its. IsRefused calls.now its) }
+{
+    let mut disk = MemDisk::new(alloc);
+    make_all(&mut disk, calls)?;
+    let mut fuse = Fuse::new(disk);
+    fuse.arm(0);
+    // Refused: the fuse blows here.
+    let _ = fuse.write(at, bytes);
+    fuse.crash(torn)
+}
+
+/// Makes these calls of a new device in memory, and crashes it at a sync: the fuse blows at that. So the sync hasn't come through, and the image is
+/// the one that `crash_behind` leaves. It is refused as `crash_behind` is.
+pub fn crash_at_sync(alloc: Global, calls: &[MadeCall], torn: u8) -> Result<MemDisk, Fault>
+    ensures image { IfOk result (λ disk. IsTornBehind calls.now torn (⟦<MemDisk as Device>⟧.seen disk)) }
+    ensures why { IfErr result (λ its. IsRefused calls.now its) }
+{
+    let mut disk = MemDisk::new(alloc);
+    make_all(&mut disk, calls)?;
+    let mut fuse = Fuse::new(disk);
+    fuse.arm(0);
+    // Refused: the fuse blows here.
+    let _ = fuse.sync();
+    fuse.crash(torn)
+}
+
+/// Makes these calls of a new device in memory, and crashes it while a fuse would let so many more pass. The image is the one that `crash_behind`
+/// leaves. It is refused as `crash_behind` is.
+pub fn crash_before(
+    alloc: Global,
+    calls: &[MadeCall],
+    left: u64,
+    torn: u8,
+) -> Result<MemDisk, Fault>
+    ensures image { IfOk result (λ disk. IsTornBehind calls.now torn (⟦<MemDisk as Device>⟧.seen disk)) }
+    ensures why { IfErr result (λ its. IsRefused calls.now its) }
+{
+    let mut disk = MemDisk::new(alloc);
+    make_all(&mut disk, calls)?;
+    let mut fuse = Fuse::new(disk);
+    fuse.arm(left);
+    fuse.crash(torn)
 }
 
 /// Makes these calls, one behind the other.

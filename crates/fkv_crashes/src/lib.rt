@@ -3,4 +3,4 @@
 
 mod crashing;
 
-pub use crashing::{MadeCall, crash_behind};
+pub use crashing::{MadeCall, crash_at_sync, crash_before, crash_behind, crash_within};

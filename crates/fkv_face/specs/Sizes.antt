@@ -9,6 +9,7 @@ use Rattle.fkv_base.specs.declared.faults.Fault.TheVariants.{Damaged}
 use Rattle.fkv_base.specs.declared.shapes.Shape.{Shape}
 use Rattle.fkv_face.specs.declared.sizes.Image.{Image}
 use Rattle.fkv_face.specs.declared.sizes.Sizes.{Sizes}
+use Rattle.fkv_handles.specs.declared.stores.Recovered.{Recovered}
 pub use Rattle.fkv_base.specs.declared.faults.Fault.TheVariants.{BadShape}
 pub use Rattle.fkv_face.specs.Points.{ArePoints}
 pub use Rattle.std.specs.Prelude.{Err, IfOk, OnErr, is_ok}
@@ -38,6 +39,10 @@ damage_number damage.Triple = 2
 damage_number damage.Record = 3
 damage_number damage.Link = 4
 damage_number damage.Full = 5
+
+-- with the last commit's number, and how many homes have an entry
+abbrev pub told_of : Recovered → Image → Image
+told_of recovered image = record image { number = recovered.number.0; entries = recovered.entries }
 
 -- with the part that is damaged, where that is the fault
 abbrev pub damaged_by : Fault → Image → Image

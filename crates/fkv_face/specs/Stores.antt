@@ -15,7 +15,7 @@ use Rattle.fkv_face.specs.declared.sizes.Image.{Image}
 use Rattle.fkv_face.specs.declared.sizes.Sizes.{Sizes}
 use Rattle.fkv_face.specs.Numbers.{fault_told, refusal_told}
 use Rattle.fkv_face.specs.Points.{ArePoints}
-use Rattle.fkv_face.specs.Sizes.{HasSizes, IsLivingOf, are_sizes, damaged_by}
+use Rattle.fkv_face.specs.Sizes.{HasSizes, IsLivingOf, are_sizes, damaged_by, told_of}
 use Rattle.fkv_spread.specs.declared.keys.Keys.{Keys}
 use Rattle.fkv_spread.specs.declared.keys.Keys.TheVariants.{Spread, AsTheyAre}
 pub use Rattle.fkv_handles.specs.Below.fkv_threads.Models.{opening}
@@ -73,6 +73,6 @@ module _ (at : Opening → World) where
   -- The store was opened from its image, and C is told of it; or the image was refused, or memory was.
   pub data IsOpening {P : Type 0} (bytes : List ℕ) (keys warm : ℕ) (result : ℤ) (out out' : P) (sizes sizes' : Sizes) (image image' : Image) (points points' : List ℕ) : Type 0 where
     Opened : (store : Store) (told : Recovered) → IsOpenedFrom at bytes (keys_told keys) (most_told warm) store told → (result ≡ pos 0) ⊎ IsOutOfMemory result
-        → HasSizes sizes' told.shape → image' ≡ record image { number = told.number.0 } → ArePoints told.points.items points points' → IsOpening bytes keys warm result out out' sizes sizes' image image' points points'
+        → HasSizes sizes' told.shape → image' ≡ told_of told image → ArePoints told.points.items points points' → IsOpening bytes keys warm result out out' sizes sizes' image image' points points'
     Refused : (fault : Fault) → IsOpeningRefused bytes fault → result ≡ fault_told fault → out' ≡ out → sizes' ≡ sizes → image' ≡ damaged_by fault image → points' ≡ points
         → IsOpening bytes keys warm result out out' sizes sizes' image image' points points'

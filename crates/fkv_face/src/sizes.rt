@@ -20,12 +20,13 @@ pub struct Sizes {
     pub disk_pages: u64,
 }
 
-/// What an image has told: the number of its last commit; or the part of it that is damaged, and its place.
+/// What an image has told: the number of its last commit, and how many entries its index has; or the part of it that is damaged, and its place.
 #[repr(C)]
 pub struct Image {
     pub number: u64,
     pub damage: u64,
     pub place: u64,
+    pub entries: u64,
 }
 
 pub(crate) fn damage_number(part: Damage) -> u64
@@ -81,7 +82,7 @@ pub(crate) fn shape_of(sizes: &Sizes) -> Result<Shape, Fault>
 /// Tells what the image has told. A store of either class may have told it.
 pub(crate) fn tell(recovered: &Recovered, sizes: &mut Sizes, image: &mut Image, points: &mut [u64])
     ensures sizes { says.HasSizes sizes.new recovered.now.shape }
-    ensures number { image.new ≡ record image.old { number = recovered.now.number.0 } }
+    ensures image { image.new ≡ says.told_of recovered.now image.old }
     ensures points { says.ArePoints recovered.now.points.items points.old points.new }
 {
     let shape = recovered.shape;
@@ -95,5 +96,6 @@ pub(crate) fn tell(recovered: &Recovered, sizes: &mut Sizes, image: &mut Image, 
         disk_pages: shape.disk_pages,
     };
     image.number = recovered.number.0;
+    image.entries = recovered.entries;
     tell_points(&recovered.points, points);
 }

@@ -1,7 +1,7 @@
 //! Lives of one store.
 use crate::draws::Draws;
 use crate::scripts::lines_of;
-use crate::shapes::shape_of;
+use crate::shapes::{first_of, shape_of};
 use crate::verdicts::{Told, Wrong, judge};
 use fkv_base::{Fault, Key, Value, Version};
 use fkv_creating::create;
@@ -24,11 +24,23 @@ pub(crate) fn hammer<R: Threads + Wait + Sync>(
 ) -> Result<(), Wrong> {
     let mut disk = MemDisk::new(alloc);
     create(&mut disk, shape_of(number)?)?;
+    begin_at(&mut disk, first_of(number))?;
     let mut found = found_on(alloc, disk)?;
     for _ in 0..lives {
         found = live(rt, alloc, draws, found)?;
     }
     Ok(())
+}
+
+/// Where the first slot of a new store tells its commit, and that of its checkpoint.
+const NUMBER_PLACES: [u64; 2] = [520, 824];
+
+/// Makes the commit of a new store one of this number, which is even: an odd one stands in the second slot.
+fn begin_at(disk: &mut MemDisk, number: u64) -> Result<(), Fault> {
+    for place in &NUMBER_PLACES {
+        disk.write(*place, &number.to_le_bytes())?;
+    }
+    disk.sync()
 }
 
 /// A store as it lies on a device.

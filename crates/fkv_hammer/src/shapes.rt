@@ -33,6 +33,15 @@ pub(crate) fn shape_of(number: u64) -> Result<Shape, Fault> {
     }
 }
 
+/// The number of the commit with which a store of this shape begins. Behind two thirds of the living ones the marks of versions begin again.
+pub(crate) fn first_of(number: u64) -> u64 {
+    match number % 3 {
+        1 if number >= SPECIFIED => 8184,
+        2 if number >= SPECIFIED => 16374,
+        _ => 0,
+    }
+}
+
 fn power(exponent: u64) -> u64 {
     match exponent {
         1 => 2,

@@ -21,6 +21,7 @@ pub record IsRecovered (opened : Opened) (told : Recovered) : Type 0 where
   pub shape : told.shape ≡ opened.shape
   pub number : told.number ≡ opened.number
   pub points : told.points.items ≡ opened.points.items
+  pub entries : told.entries ≡ length opened.entries.items
 
 -- at each place a session of that number sits at the table, which has seen nothing
 abbrev pub AreFirst : Opening → TableId → List (Option Sitting) → Type 0

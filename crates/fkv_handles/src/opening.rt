@@ -50,6 +50,7 @@ pub(crate) fn told_of(alloc: Global, opened: &Opened) -> Result<Recovered, Fault
         shape: opened.shape,
         number: opened.number,
         points,
+        entries: opened.entries.len() as u64,
     })
 }
 

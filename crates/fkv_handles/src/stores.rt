@@ -32,6 +32,8 @@ pub struct Recovered {
     pub number: Version,
     /// The point of each session.
     pub points: Vec<Serial>,
+    /// How many homes have an entry in the index.
+    pub entries: u64,
 }
 
 impl Store {

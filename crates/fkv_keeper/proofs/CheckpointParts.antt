@@ -1,7 +1,6 @@
 -- The drain slots of the parts of a commit are among the eight, whatever the replies.
 use Rattle.std.proofs.Common.{◌≡◌, ℕ, ◌+◌, List, [], sym, subst, Bool, true, false}
 use Rattle.std.specs.Prelude.{not, ⊤, nat_lt, nat_le, ◌==◌, if◌then◌else◌, length, max}
-use Rattle.fkv_base.specs.Limits.{last_version}
 use Rattle.fkv_base.specs.declared.numbers.Addr.{Addr}
 use Rattle.fkv_base.specs.declared.numbers.Serial.{Serial}
 use Rattle.fkv_base.specs.declared.numbers.Version.{Version}
@@ -23,6 +22,7 @@ use Rattle.fkv_commit.specs.Cuts.{is_cut_of, serial_said}
 use Rattle.fkv_commit.specs.Deferring.{defer_ask, defer_next}
 use Rattle.fkv_commit.specs.Entering.{EnterState, entering_next, seek_led as enter_sought, defer_led as enter_deferred}
 use Rattle.fkv_commit.specs.Seeking.{SeekState, seeking_next, seek_begun, owing_from, points_from, point_taken, with_point, slot_led, defer_led as seek_deferred}
+use Rattle.fkv_base.specs.Limits.{last_of}
 use Rattle.fkv_commit.specs.Starting.{StartState, starting_next, phase_found, is_lost_full, seek_led as start_sought, defer_led as start_deferred}
 use Rattle.fkv_keeper.proofs.CheckpointRanges.{IsDeferredIn, defer_in, defer_on_in}
 
@@ -40,7 +40,7 @@ either_start true x y one other = one
 either_start false x y one other = other
 
 found_in : (s : StartState) (said : PhaseSaid) → IsStartIn (phase_found s said)
-found_in s (Says phase.Rest number) = either_start (nat_le last_version number.0) _ _ tt (either_start (is_lost_full s.kind s.lost) _ _ tt tt)
+found_in s (Says phase.Rest number) = either_start (nat_le (last_of s.asked.class) number.0) _ _ tt (either_start (is_lost_full s.asked number.0) _ _ tt tt)
 found_in s said = tt
 
 start_at : (step : Starting) (s : StartState) → s.step ≡ step → IsStartAt step s → IsStartIn s

@@ -1,7 +1,6 @@
 -- The copy in hand is the one that the replies told, and a commit's writes begin from it.
 use Rattle.std.proofs.Common.{◌≡◌, ℕ, ◌∙◌, List, [], ◌∷◌, refl, ap, sym, subst, Bool, true, false}
-use Rattle.std.specs.Prelude.{not, ◌||◌, Option, Some, None, if◌then◌else◌, length, nat_le, ⊤}
-use Rattle.fkv_base.specs.Limits.{last_version}
+use Rattle.std.specs.Prelude.{not, ◌||◌, Option, Some, None, if◌then◌else◌, ⊤}
 use Rattle.fkv_base.specs.declared.faults.Fault.TheVariants as fault
 use Rattle.fkv_base.specs.declared.numbers.Addr.{Addr}
 use Rattle.fkv_base.specs.declared.phases.Phase.TheVariants as phase
@@ -23,6 +22,7 @@ use Rattle.fkv_commit.specs.declared.entering.EnterAnswer.TheVariants as enter
 use Rattle.fkv_commit.specs.declared.finishing.FinishAnswer.{FinishAnswer}
 use Rattle.fkv_commit.specs.declared.seeking.SeekAnswer.{SeekAnswer}
 use Rattle.fkv_commit.specs.declared.seeking.SeekAnswer.TheVariants as seek
+use Rattle.fkv_commit.specs.declared.starting.StartAsked.{StartAsked}
 use Rattle.fkv_commit.specs.declared.starting.StartAnswer.{StartAnswer}
 use Rattle.fkv_commit.specs.declared.starting.StartAnswer.TheVariants as start
 use Rattle.fkv_commit.specs.declared.waiting.WaitAnswer.{WaitAnswer}
@@ -31,12 +31,8 @@ use Rattle.fkv_commit.specs.Commits.{is_log, commit_begun}
 use Rattle.fkv_commit.specs.Entering.{enter_ask, enter_next}
 use Rattle.fkv_commit.specs.Finishing.{finish_ask, finish_next}
 use Rattle.fkv_commit.specs.Seeking.{seek_begun, seek_ask, seek_next}
-use Rattle.fkv_commit.specs.declared.deferring.DeferAnswer.{DeferAnswer}
-use Rattle.fkv_commit.specs.declared.deferring.DeferAnswer.TheVariants as deferred
-use Rattle.fkv_commit.specs.declared.starting.Starting.{Starting as StartStep}
-use Rattle.fkv_commit.specs.declared.starting.Starting.TheVariants as start_step
-use Rattle.fkv_commit.specs.Deferring.{defer_ask, defer_next}
-use Rattle.fkv_commit.specs.Starting.{StartState, start_begun, start_ask, start_next, starting_next, phase_found, is_lost_full, seek_led, defer_led}
+use Rattle.fkv_commit.proofs.Shown.{start_asked}
+use Rattle.fkv_commit.specs.Starting.{start_begun, start_ask, start_next}
 use Rattle.fkv_commit.specs.Waiting.{wait_ask, wait_next}
 use Rattle.fkv_manifest.specs.declared.answers.WriteAnswer.{WriteAnswer}
 use Rattle.fkv_manifest.specs.declared.answers.WriteAnswer.TheVariants as write
@@ -48,7 +44,7 @@ use Rattle.fkv_keeper.specs.declared.answers.KeeperTold.{KeeperTold}
 use Rattle.fkv_keeper.specs.declared.answers.KeeperTold.TheVariants.{TurnRefused, CommitRefused}
 use Rattle.fkv_keeper.specs.declared.keepers.Keeping.{Keeping}
 use Rattle.fkv_keeper.specs.declared.keepers.Keeping.TheVariants.{Ended, Starts, Maintains, LoadsPhase, Enters, Copies, Seeks, Waits, Writes, Finishes}
-use Rattle.fkv_keeper.specs.Keeping.{KeeperState, is_copy_resting, copy_asked, copy_told, copy_driven, copied, points_known, ended, turned, turn_asked, commit_asked, start_ledto, maintain_ledto, copies, part_begun, phase_ledto, enter_ledto, copy_ledto, seek_ledto, writes_begun, wait_ledto, finished, finish_ledto, keeping_next, keeping_given, write_ledto, writes_called, keeping_called}
+use Rattle.fkv_keeper.specs.Keeping.{asked_for, KeeperState, is_copy_resting, copy_asked, copy_told, copy_driven, copied, points_known, ended, turned, turn_asked, commit_asked, start_ledto, maintain_ledto, copies, part_begun, phase_ledto, enter_ledto, copy_ledto, seek_ledto, writes_begun, wait_ledto, finished, finish_ledto, keeping_next, keeping_given, write_ledto, writes_called, keeping_called}
 use Rattle.fkv_keeper.specs.KeeperRun.{KeeperEvent, BeginsTurn, BeginsCommit, Replies, Gets, Calls, is_in_hand, begins, keeper_run, IsOpened}
 use Rattle.fkv_keeper.specs.CheckpointLaws.{replies_after, copy_replies, LastBegin, begun_of, begun_by, last_begin_after, last_begin, copy_by, HasCopied, IsBeforeWrites}
 use Rattle.fkv_keeper.proofs.KeeperRuns.{happens_at, happens_so}
@@ -58,7 +54,7 @@ abbrev pub Here : Places → List ℕ → LastBegin → KeeperState → Keeping 
 Here p replies told s Copies = (s.copy ≡ Some (copy_by p replies)) × ((c : Commit) → s.commit ≡ Some c → c.is_copied ≡ false)
 Here p replies told s Seeks = (c : Commit) → s.commit ≡ Some c → c.is_copied ≡ true
 Here p replies told s Waits = (c : Commit) → s.commit ≡ Some c → c.is_copied ≡ true
-Here p replies told s Starts = told.asked ≡ Some s.start.kind
+Here p replies told s Starts = told.asked ≡ Some s.start.asked.kind
 Here p replies told s step = ⊤
 
 -- what holds at every moment
@@ -112,44 +108,16 @@ start_sound : (p : Places) (replies : List ℕ) (told : LastBegin) (t : KeeperSt
 unfolding start_ledto
 start_sound p replies told t (Done (start.Begun number first)) e sound = record {
   copied = λ c in_hand full is_copied working early.
-      let same : commit_begun number t.start.kind first ≡ c = cc in
-      absurd (not_log t.start.kind (ap (λ (x : Commit). x.kind) same ∙ full) (ap (λ (x : Commit). x.is_copied) same ∙ is_copied));
+      let same : commit_begun number t.start.asked.kind first ≡ c = cc in
+      absurd (not_log t.start.asked.kind (ap (λ (x : Commit). x.kind) same ∙ full) (ap (λ (x : Commit). x.is_copied) same ∙ is_copied));
   points = λ c in_hand taken. cc;
-  begun = λ c in_hand. let same : commit_begun number t.start.kind first ≡ c = cc in ap (λ (x : Option CommitKind). begun_of x number first) sound.here ∙ ap (λ (x : Commit). Some (record { kind = x.kind; number = x.number; first = x.first })) same;
+  begun = λ c in_hand. let same : commit_begun number t.start.asked.kind first ≡ c = cc in ap (λ (x : Option CommitKind). begun_of x number first) sound.here ∙ ap (λ (x : Commit). Some (record { kind = x.kind; number = x.number; first = x.first })) same;
   rests = λ c in_hand so. cc;
   here = tt;
 }
 start_sound p replies told t (Done (start.Refused why)) e sound = over p replies told t Starts _ tt sound
 start_sound p replies told t (Done start.Idle) e sound = over p replies told t Starts _ tt sound
 start_sound p replies told t ask e sound = at_step p replies told t Starts e sound
-
-start_kind : (s : StartState) (step : StartStep) (reply : ℕ) → (starting_next s step reply).kind ≡ s.kind
-unfolding starting_next seek_led defer_led
-start_kind s (start_step.Ended its) reply = refl
-start_kind s start_step.LoadsPhase reply = by_phase (phase_said reply)
-  where
-    either : (b : Bool) (x y : StartState) → x.kind ≡ s.kind → y.kind ≡ s.kind → (if b then x else y).kind ≡ s.kind
-    either true x y one other = one
-    either false x y one other = other
-
-    by_phase : (said : PhaseSaid) → (phase_found s said).kind ≡ s.kind
-    by_phase (Says phase.Rest number) = either (nat_le last_version number.0) _ _ refl (either (is_lost_full s.kind s.lost) _ _ refl refl)
-    by_phase said = refl
-start_kind s (start_step.Seeks number) reply = sought (record s { defer = defer_next s.defer reply }) (defer_ask (defer_next s.defer reply))
-  where
-    sought : (t : StartState) (ask : Ask DeferAnswer) → (seek_led number t ask).kind ≡ t.kind
-    sought t (Done deferred.Held) = refl
-    sought t (Done deferred.Spent) = refl
-    sought t (Done its) = refl
-    sought t ask = refl
-start_kind s (start_step.StoresPrepare number) reply = refl
-start_kind s (start_step.LoadsTail number) reply = refl
-start_kind s (start_step.Defers number first) reply = led (record s { defer = defer_next s.defer reply }) (defer_ask (defer_next s.defer reply))
-  where
-    led : (t : StartState) (ask : Ask DeferAnswer) → (defer_led number first t ask).kind ≡ t.kind
-    led t (Done (deferred.Armed epoch)) = refl
-    led t (Done its) = refl
-    led t ask = refl
 
 start_kept : (t : KeeperState) (ask : Ask StartAnswer) → (start_ledto t ask).start ≡ t.start
 unfolding start_ledto
@@ -362,7 +330,7 @@ unfolding keeping_next
 reply_sound shape p replies told s (Ended its) reply granted e sound = at_step p replies told s (Ended its) e sound
 reply_sound shape p replies told s Starts reply granted e sound =
     subst (λ x. IsSound p replies (begun_by (start_ask x) told) a a.step) (sym (start_kept t (start_ask t.start)))
-    (start_sound p replies told t (start_ask t.start) e (same_here p replies told s t Starts refl refl refl refl (sound.here ∙ ap (λ (x : CommitKind). Some x) (sym (start_kind s.start s.start.step reply))) sound))
+    (start_sound p replies told t (start_ask t.start) e (same_here p replies told s t Starts refl refl refl refl (sound.here ∙ ap (λ (x : StartAsked). Some x.kind) (sym (start_asked s.start reply))) sound))
   where
     t : KeeperState
     t = record s { start = start_next s.start reply }
@@ -401,7 +369,7 @@ asked_sound : (p : Places) (replies : List ℕ) (told : LastBegin) (s : KeeperSt
 asked_sound p replies told s kind its sound = record { copied = sound.copied; points = sound.points; begun = sound.begun; rests = sound.rests; here = tt }
 
 commit_sound : (p : Places) (replies : List ℕ) (told : LastBegin) (s : KeeperState) (kind : CommitKind) (its : KeeperTold) (broken : Bool) → IsSound p replies told s (Ended its)
-    → let a = if broken then ended s (CommitRefused fault.Broken) else record s { start = start_begun s.start kind (length s.lost); step = Starts } in IsSound p replies (record told { asked = Some kind }) a a.step
+    → let a = if broken then ended s (CommitRefused fault.Broken) else record s { start = start_begun s.start (asked_for s kind); step = Starts } in IsSound p replies (record told { asked = Some kind }) a a.step
 commit_sound p replies told s kind its true sound = over p replies (record told { asked = Some kind }) s (Ended its) _ tt (asked_sound p replies told s kind its sound)
 commit_sound p replies told s kind its false sound = keeps p replies (record told { asked = Some kind }) s _ (Ended its) Starts refl refl refl (λ works. works) (λ so. tt) (asked_sound p replies told s kind its sound) refl
 

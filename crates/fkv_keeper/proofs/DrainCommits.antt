@@ -1,7 +1,7 @@
 -- What the parts of a commit have met of the drain slots, as each seeks one.
 use Rattle.std.proofs.Common.{◌≡◌, ℕ, ◌+◌, refl, sym, subst, List, Bool, true, false}
 use Rattle.std.specs.Prelude.{not, ⊤, ◌++◌, ◌∷◌, [], ◌==◌, nat_lt, nat_le, max, if◌then◌else◌, length}
-use Rattle.fkv_base.specs.Limits.{drain_slots, last_version}
+use Rattle.fkv_base.specs.Limits.{drain_slots, last_of}
 use Rattle.fkv_base.specs.declared.faults.Fault.{Fault}
 use Rattle.fkv_base.specs.declared.faults.Fault.TheVariants as fault
 use Rattle.fkv_base.specs.declared.numbers.Addr.{Addr}
@@ -171,7 +171,7 @@ either_start false x y told one other = other
 
 found_knows : (s : StartState) (said : PhaseSaid) (told : List Exchange) → StartKnows (phase_found s said) (phase_found s said).step told
 found_knows s (Says phase.Rest number) told =
-    either_start (nat_le last_version number.0) _ _ told tt (either_start (is_lost_full s.kind s.lost) _ (record s { defer = defer_begun s.defer; step = starts.Seeks number }) told tt (defer_begins s.defer told))
+    either_start (nat_le (last_of s.asked.class) number.0) _ _ told tt (either_start (is_lost_full s.asked number.0) _ (record s { defer = defer_begun s.defer; step = starts.Seeks number }) told tt (defer_begins s.defer told))
 found_knows s said told = tt
 
 start_on : (number : Version) (s : StartState) (ask : Ask DeferAnswer) → is_done ask ≡ false → start_led number s ask ≡ s

@@ -1,6 +1,6 @@
 -- A call of the keeper that ends for want of a drain slot has sought all of them in vain.
 use Rattle.std.proofs.Common.{◌≡◌, ℕ, ◌∙◌, List, [], ◌∷◌, refl, ap, sym, subst, Bool, true, false}
-use Rattle.std.specs.Prelude.{⊤, ◌||◌, length, Option, Some, None, if◌then◌else◌}
+use Rattle.std.specs.Prelude.{⊤, ◌||◌, Option, Some, None, if◌then◌else◌}
 use Rattle.fkv_base.specs.declared.faults.Fault.{Fault}
 use Rattle.fkv_base.specs.declared.faults.Fault.TheVariants as fault
 use Rattle.fkv_base.specs.declared.phases.Phase.TheVariants as phase
@@ -39,7 +39,7 @@ use Rattle.fkv_keeper.specs.declared.answers.KeeperTold.{KeeperTold}
 use Rattle.fkv_keeper.specs.declared.answers.KeeperTold.TheVariants.{Turned, CommitRefused}
 use Rattle.fkv_keeper.specs.declared.keepers.Keeping.{Keeping}
 use Rattle.fkv_keeper.specs.declared.keepers.Keeping.TheVariants.{Ended, Starts, Maintains, LoadsPhase, Enters, Copies, Seeks, Waits, Writes, Finishes}
-use Rattle.fkv_keeper.specs.Keeping.{KeeperState, is_copy_resting, copy_asked, copy_driven, copy_told, device_passed, end_told, keeping_ask, ended, turned, turn_over, turn_asked, commit_asked, start_ledto, maintain_ledto, copies, part_begun, phase_ledto, enter_ledto, copy_ledto, seek_ledto, writes_begun, wait_ledto, finished, finish_ledto, keeping_next, keeping_given, write_ledto, writes_called, keeping_called}
+use Rattle.fkv_keeper.specs.Keeping.{asked_for, KeeperState, is_copy_resting, copy_asked, copy_driven, copy_told, device_passed, end_told, keeping_ask, ended, turned, turn_over, turn_asked, commit_asked, start_ledto, maintain_ledto, copies, part_begun, phase_ledto, enter_ledto, copy_ledto, seek_ledto, writes_begun, wait_ledto, finished, finish_ledto, keeping_next, keeping_given, write_ledto, writes_called, keeping_called}
 use Rattle.fkv_keeper.specs.KeeperRun.{KeeperEvent, BeginsTurn, BeginsCommit, Replies, Gets, Calls, is_in_hand, is_calling, keeper_happens, keeper_run, IsOpened}
 use Rattle.fkv_keeper.specs.DrainLaws.{HasSoughtAll, told_anew, told_after, call_told}
 use Rattle.fkv_keeper.proofs.DrainSought.{passed_told, still_sought, now_sought}
@@ -219,7 +219,7 @@ turn_begins : (s : KeeperState) (told : List Exchange) → Knows (turn_asked s) 
 turn_begins s told = either s.is_broken _ _ told tt (record { knows = tt; full = λ e. cc })
 
 commit_begins : (s : KeeperState) (kind : CommitKind) (told : List Exchange) → Knows (commit_asked s kind) told
-commit_begins s kind told = either s.is_broken _ (record s { start = start_begun s.start kind (length s.lost); step = Starts }) told tt tt
+commit_begins s kind told = either s.is_broken _ (record s { start = start_begun s.start (asked_for s kind); step = Starts }) told tt tt
 
 -- by the step of the keeper
 abbrev told_at : Shape → Places → KeeperState → Keeping → KeeperEvent → List Exchange → List Exchange

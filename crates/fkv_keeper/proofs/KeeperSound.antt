@@ -1,6 +1,6 @@
 -- What holds of a keeper at every moment of a run.
 use Rattle.std.proofs.Common.{◌≡◌, ℕ, ◌∙◌, List, [], ◌∷◌, refl, ap, sym, subst, Bool, true, false}
-use Rattle.std.specs.Prelude.{◌||◌, Option, Some, None, if◌then◌else◌, length, ⊤}
+use Rattle.std.specs.Prelude.{◌||◌, Option, Some, None, if◌then◌else◌, ⊤}
 use Rattle.fkv_base.specs.declared.faults.Fault.TheVariants as fault
 use Rattle.fkv_base.specs.declared.numbers.Addr.{Addr}
 use Rattle.fkv_base.specs.declared.numbers.Version.{Version}
@@ -40,7 +40,7 @@ use Rattle.fkv_keeper.specs.declared.keepers.Keeping.TheVariants.{Ended, Starts,
 use Rattle.fkv_maintain.specs.declared.maintaining.MaintainAnswer.{MaintainAnswer}
 use Rattle.fkv_maintain.specs.declared.maintaining.MaintainAnswer.TheVariants as maintain
 use Rattle.fkv_maintain.specs.Maintaining.{maintain_begun, maintain_ask, maintain_next, maintain_given, maintain_called}
-use Rattle.fkv_keeper.specs.Keeping.{KeeperState, is_copy_resting, copy_taken, copy_driven, copy_told, copied, points_known, ended, turned, start_ledto, maintain_ledto, copies, part_begun, phase_ledto, enter_ledto, copy_ledto, seek_ledto, writes_begun, wait_ledto, finished, finish_ledto, keeping_next, keeping_given, write_ledto, writes_called, keeping_called}
+use Rattle.fkv_keeper.specs.Keeping.{KeeperState, is_copy_resting, copy_taken, copy_driven, copy_told, copied, points_known, ended, turned, start_ledto, maintain_ledto, copies, part_begun, phase_ledto, enter_ledto, copy_ledto, seek_ledto, writes_begun, wait_ledto, finished, finish_ledto, keeping_next, keeping_given, write_ledto, writes_called, keeping_called, asked_for}
 use Rattle.fkv_keeper.specs.KeeperRun.{Replies, Gets, Calls, Writing, writing_after, open_after}
 use Rattle.fkv_keeper.specs.KeeperLaws.{IsRefusal, AreWritesOfCommit, IsWritten, IsMemoryRefused, number_in_hand, IsFinishOfBegun}
 
@@ -315,6 +315,6 @@ pub turn_step : (shape : Shape) (w : Writing) (s : KeeperState) (broken : Bool) 
 turn_step shape w s true e = record { broken = λ broken. tt; knows = tt; number = refl; memory = λ ends. cc; told = λ full ends. cc }
 turn_step shape w s false e = going shape w s _ Maintains tt refl e refl e
 
-pub commit_step : (shape : Shape) (w : Writing) (s : KeeperState) (kind : CommitKind) (broken : Bool) → s.is_broken ≡ broken → IsStep shape w s (if broken then ended s (CommitRefused fault.Broken) else record s { start = start_begun s.start kind (length s.lost); step = Starts })
+pub commit_step : (shape : Shape) (w : Writing) (s : KeeperState) (kind : CommitKind) (broken : Bool) → s.is_broken ≡ broken → IsStep shape w s (if broken then ended s (CommitRefused fault.Broken) else record s { start = start_begun s.start (asked_for s kind); step = Starts })
 commit_step shape w s kind true e = record { broken = λ broken. tt; knows = tt; number = refl; memory = λ ends. cc; told = λ full ends. cc }
 commit_step shape w s kind false e = going shape w s _ Starts tt refl e refl e

@@ -8,6 +8,7 @@ mod CheckpointStores
 mod CheckpointTurns
 mod CheckpointUsed
 mod CheckpointWrites
+mod Classes
 mod DrainCommits
 mod DrainMoves
 mod DrainParts

@@ -30,6 +30,7 @@ use Rattle.fkv_commit.specs.declared.finishing.FinishAnswer.{FinishAnswer}
 use Rattle.fkv_commit.specs.declared.seeking.SeekAnswer.{SeekAnswer}
 use Rattle.fkv_commit.specs.declared.seeking.SeekAnswer.TheVariants as seek
 use Rattle.fkv_commit.specs.declared.starting.StartAnswer.{StartAnswer}
+use Rattle.fkv_commit.specs.declared.starting.StartAsked.{StartAsked}
 use Rattle.fkv_commit.specs.declared.starting.StartAnswer.TheVariants as start
 use Rattle.fkv_commit.specs.declared.waiting.WaitAnswer.{WaitAnswer}
 use Rattle.fkv_commit.specs.declared.waiting.WaitAnswer.TheVariants as wait
@@ -157,9 +158,13 @@ turned s = ended s (turn_over s)
 abbrev pub turned_full : KeeperState → KeeperState
 turned_full s = ended (record s { is_drain_full = true }) (Turned false true)
 
+-- what a commit of this kind is asked for with
+abbrev pub asked_for : KeeperState → CommitKind → StartAsked
+asked_for s kind = record { class = s.start.asked.class; kind = kind; lost = length s.lost; checkpoint = s.last.checkpoint.number }
+
 -- a commit begins, of this kind; a device that has failed is never used again
 abbrev pub commit_asked : KeeperState → CommitKind → KeeperState
-commit_asked s kind = if s.is_broken then ended s (CommitRefused fault.Broken) else record s { start = start_begun s.start kind (length s.lost); step = Starts }
+commit_asked s kind = if s.is_broken then ended s (CommitRefused fault.Broken) else record s { start = start_begun s.start (asked_for s kind); step = Starts }
 
 abbrev pub turn_asked : KeeperState → KeeperState
 turn_asked s = if s.is_broken then ended s (TurnRefused fault.Broken) else record s { maintain = maintain_begun s.maintain; is_drain_full = false; step = Maintains }
@@ -167,7 +172,7 @@ turn_asked s = if s.is_broken then ended s (TurnRefused fault.Broken) else recor
 -- by what the machines inside ask next
 unfoldable pub start_ledto : KeeperState → Ask StartAnswer → KeeperState
 start_ledto s (Done (start.Begun number first)) =
-    ended (record s { commit = Some (commit_begun number s.start.kind first); copy = None; has_entered = false; has_points = false }) (Begun number)
+    ended (record s { commit = Some (commit_begun number s.start.asked.kind first); copy = None; has_entered = false; has_points = false }) (Begun number)
 start_ledto s (Done (start.Refused why)) = ended s (CommitRefused why)
 start_ledto s (Done start.Idle) = ended s (CommitRefused fault.CommitRunning)
 start_ledto s ask = s

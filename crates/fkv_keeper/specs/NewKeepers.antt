@@ -22,6 +22,7 @@ pub record IsNewKeeper (shape : Shape) (last : Finality) (lost : List LostRange)
   pub its_places : ArePlacesOfStore shape k.places
   pub newest : k.state.last ≡ last
   pub used : k.state.used ≡ last.checkpoint
+  pub class : k.state.start.asked.class ≡ shape.class
   pub in_hand : k.state.lost ≡ lost
   pub its_sessions : k.state.finish.sessions ≡ shape.sessions
   pub sought : k.state.seek.sessions ≡ shape.sessions

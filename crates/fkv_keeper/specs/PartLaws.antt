@@ -1,5 +1,5 @@
 -- What each part of a commit begins with, and what is known of the commit in hand by what its parts have come to.
-use Rattle.std.specs.Prelude.{◌≡◌, ⊤, ◌⊎◌, ℕ, Bool, false, true, List, [], ◌∷◌, length, Option, Some, None}
+use Rattle.std.specs.Prelude.{◌≡◌, ⊤, ◌⊎◌, ℕ, Bool, false, true, List, [], ◌∷◌, Option, Some, None}
 use Rattle.fkv_base.specs.declared.numbers.Addr.{Addr}
 use Rattle.fkv_base.specs.declared.numbers.Serial.{Serial}
 use Rattle.fkv_base.specs.declared.numbers.Version.{Version}
@@ -29,7 +29,7 @@ use Rattle.fkv_manifest.specs.declared.answers.WriteAnswer.TheVariants as write
 use Rattle.fkv_manifest.specs.Committing.{commit_next, commit_answer}
 use Rattle.fkv_keeper.specs.declared.keepers.Keeping.{Keeping}
 use Rattle.fkv_keeper.specs.declared.keepers.Keeping.TheVariants.{Starts, LoadsPhase, Enters, Seeks, Waits, Writes, Finishes}
-use Rattle.fkv_keeper.specs.Keeping.{KeeperState}
+use Rattle.fkv_keeper.specs.Keeping.{asked_for, KeeperState}
 use Rattle.fkv_keeper.specs.KeeperRun.{KeeperEvent, BeginsCommit, Replies, Calls, keeper_run}
 
 -- The phase word was just loaded, and it says this phase.
@@ -45,7 +45,7 @@ pub record SaysPhase (its : Phase) (s : KeeperState) (event : KeeperEvent) : Typ
 pub record IsStartBegun (s : KeeperState) (event : KeeperEvent) (a : KeeperState) : Type 0 where
   pub kind : CommitKind
   pub asked : event ≡ BeginsCommit kind
-  pub start : a.start ≡ start_begun s.start kind (length s.lost)
+  pub start : a.start ≡ start_begun s.start (asked_for s kind)
 
 -- Wait-pending is about to be deferred, in in-progress, for the commit in hand, for which it isn't deferred yet.
 pub record IsEnterBegun (s : KeeperState) (event : KeeperEvent) (a : KeeperState) : Type 0 where

@@ -1,7 +1,8 @@
 -- What the slot of a commit names as its writes begin: all of its lost ranges, and a point for each session.
 use Rattle.std.specs.Prelude.{◌≡◌, ◌≤◌, ◌<◌, length, Some}
-use Rattle.fkv_base.specs.Limits.{max_sessions, last_version}
+use Rattle.fkv_base.specs.Limits.{max_sessions, last_of}
 use Rattle.fkv_base.specs.declared.shapes.Shape.{Shape}
+use Rattle.fkv_marks.specs.Window.{InWindow}
 use Rattle.fkv_record.specs.Manifest.{SlotSaid, newest_bytes}
 use Rattle.fkv_commit.specs.declared.commits.Commit.{Commit}
 use Rattle.fkv_base.specs.declared.commits.CommitKind.TheVariants.{Log}
@@ -9,10 +10,12 @@ use Rattle.fkv_commit.specs.Starting.{max_lost}
 use Rattle.fkv_manifest.specs.Kept.{IsSlotOf}
 use Rattle.fkv_keeper.specs.Keeping.{KeeperState, lost_left}
 
--- A version follows that of the commit in hand; and where that is a log commit, its slot has room for all lost ranges in hand.
+-- A version follows that of the commit in hand. Where that is a log commit, its slot has room for all lost ranges in hand, and it lies in the window of the
+-- checkpoint in force.
 pub record HasRoom (s : KeeperState) (c : Commit) : Type 0 where
-  pub follows : c.number.0 < last_version
+  pub follows : c.number.0 < last_of s.start.asked.class
   pub lost : c.kind ≡ Log → length s.lost ≤ max_lost
+  pub in_window : c.kind ≡ Log → InWindow s.start.asked.class s.last.checkpoint.number.0 c.number.0
 
 abbrev pub CommitHasRoom : KeeperState → Type 0
 CommitHasRoom s = (c : Commit) → s.commit ≡ Some c → HasRoom s c

@@ -29,8 +29,9 @@ impl Keeper {
     }
 
     /// Begins a commit. It is refused, by the first cause that stands, as `Broken` where the device has failed in an earlier call,
-    /// `CommitRunning` where a commit runs, `VersionsSpent` at the last version, `LostFull` where a log commit would have too many
-    /// lost ranges to store, `EpochsSpent` where the epoch is at its last, and `DrainFull` where no drain slot is free.
+    /// `CommitRunning` where a commit runs, `VersionsSpent` at the store's last version, `LostFull` where a log commit would have too many
+    /// lost ranges to store or lie past the window of its checkpoint, `EpochsSpent` where the epoch is at its last, and `DrainFull` where no
+    /// drain slot is free.
     pub fn start_commit(&mut self, kind: CommitKind) -> KeeperAsk
         ensures next { self.new ≡ record self.old { state = commit_asked self.old.state kind } }
         ensures ask { IsAsked self.new.state.last (keeper_ask self.old.shape self.old.places self.new.state) result }

@@ -25,7 +25,9 @@ use crate::leading::{copy_driven, device_passed, end_told, no_writes, write_aske
 use arrayvec::ArrayVec;
 use fkv_base::{CommitKind, Fault, Shape};
 use fkv_checkpoint::{CopyRoom, IndexCopy};
-use fkv_commit::{Commit, EnterWaitPending, FinishCommit, SeekPoints, StartCommit, WaitFlush};
+use fkv_commit::{
+    Commit, EnterWaitPending, FinishCommit, SeekPoints, StartAsked, StartCommit, WaitFlush,
+};
 use fkv_disk::{Device, DeviceAsk};
 use fkv_maintain::Maintain;
 use fkv_manifest::CommitWrites;
@@ -125,7 +127,7 @@ impl Keeper {
             shape,
             places,
             maintain,
-            start: StartCommit::new(),
+            start: StartCommit::new(shape.class),
             enter: EnterWaitPending::new(),
             room: None,
             copy: None,
@@ -158,7 +160,12 @@ impl Keeper {
         if self.is_broken {
             self.step = Keeping::Ended(KeeperTold::CommitRefused(Fault::Broken));
         } else {
-            self.start.start(kind, self.lost.len());
+            self.start.start(StartAsked {
+                class: self.start.class(),
+                kind,
+                lost: self.lost.len(),
+                checkpoint: self.last.checkpoint.number,
+            });
             self.step = Keeping::Starts;
         }
         self.ask()

@@ -485,6 +485,9 @@ fn fill_the_drain(plane: &mut PlainWords, word: u64) {
     }
 }
 
+/// The last version of a specified store.
+const LAST_VERSION: u64 = 8191;
+
 /// A word that is stored, its number, and why the commit of this kind is refused then.
 const REFUSALS: [(SharedWord, u64, CommitKind, Fault); 5] = [
     (
@@ -495,7 +498,7 @@ const REFUSALS: [(SharedWord, u64, CommitKind, Fault); 5] = [
     ),
     (
         SharedWord::Phase,
-        Version::LAST,
+        LAST_VERSION,
         CommitKind::Log,
         Fault::VersionsSpent,
     ),

@@ -2,7 +2,7 @@
 ghost use Rattle.std.specs.Prelude.{◌≡◌, ◌≤◌, nat_lt, count_by, length};
 ghost use Rattle.fkv_looking.specs.Uses.{AreUses, has_taken};
 
-use fkv_base::{Serial, Version};
+use fkv_base::Serial;
 use fkv_opening::Opened;
 use fkv_record::most_triples;
 
@@ -56,7 +56,7 @@ pub(crate) fn uses_of(opened: &Opened) -> Uses
         },
         commits: Capacity {
             used: opened.number.0,
-            most: Version::LAST - 1,
+            most: opened.shape.class.last_version() - 1,
         },
         sessions: Capacity {
             used: count_taken(&opened.points),

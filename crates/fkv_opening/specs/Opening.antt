@@ -1,6 +1,7 @@
 -- The words of a store that opens. It rests in the version behind its commit's, its whole log is on the device, and its sessions are awake.
 use Rattle.std.specs.Prelude.{◌≡◌, ℕ, ◌+◌, ◌*◌, ◌/◌, ◌%◌, min, map, slice_index, nat_eq, if◌then◌else◌}
 use Rattle.fkv_base.specs.declared.phases.Phase.TheVariants.{Rest}
+use Rattle.fkv_marks.specs.Marks.{mark}
 use Rattle.fkv_words.specs.declared.cut_word.CutWord.{CutWord}
 use Rattle.fkv_opening.specs.declared.opened_store.Opened.{Opened}
 use Rattle.fkv_opening.specs.declared.opening_words.OpeningWords.{OpeningWords}
@@ -29,9 +30,9 @@ pub record AreOpeningWords (opened : Opened) (words : OpeningWords) : Type 0 whe
   pub closed : words.closed ≡ opened.warm
   pub drain : words.drain ≡ 0
 
--- the cut word of a parity: the commit's number and the session's point where that is the commit's parity, else nothing
+-- the cut word of a parity: the mark of the commit's number and the session's point where that is the commit's parity, else nothing
 pub record IsOpeningCut (opened : Opened) (session parity : ℕ) (cut : CutWord) : Type 0 where
-  pub version : cut.version.0 ≡ (if nat_eq (opened.number.0 % 2) parity then opened.number.0 else 0)
+  pub version : cut.version.0 ≡ (if nat_eq (opened.number.0 % 2) parity then mark opened.number.0 else 0)
   pub serial : cut.serial.0 ≡ (if nat_eq (opened.number.0 % 2) parity then point_of opened session else 0)
 
 -- protected in epoch 1, cut at the commit, owing nothing, durable up to its point, with an empty mailbox

@@ -3,6 +3,7 @@ ghost use Rattle.std.specs.Prelude.{◌<◌};
 
 use crate::opened_store::Opened;
 use fkv_base::{Addr, Phase, Serial, Version};
+use fkv_marks::mark;
 use fkv_words::{CutWord, WidePhase};
 
 /// The words that a store has once.
@@ -85,7 +86,7 @@ impl Opened {
         }
     }
 
-    /// The cut word of this parity.
+    /// The cut word of this parity. It has the mark of the version that it cuts.
     fn cut(&self, session: usize, parity: u64) -> CutWord
         requires { session < self.now.shape.sessions }
         ensures { IsOpeningCut self.now session parity result }
@@ -93,7 +94,7 @@ impl Opened {
         if self.number.0 % 2 == parity {
             CutWord {
                 serial: self.points[session],
-                version: self.number,
+                version: mark(self.number),
             }
         } else {
             CutWord {

@@ -40,7 +40,7 @@ use Rattle.fkv_ops.specs.declared.appending.AppendAnswer.TheVariants as append
 use Rattle.fkv_ops.specs.declared.appending.Appending.{Appending}
 use Rattle.fkv_ops.specs.declared.appending.Appending.TheVariants as appending
 use Rattle.fkv_ops.specs.declared.trying.Trying.{Trying}
-use Rattle.fkv_ops.specs.declared.trying.Trying.TheVariants.{Ended, TakesShared, Walks, LoadsSafe, SwapsValue, LoadsCurrent, ChangesValue, LoadsAnswer, TakesExclusive, LoadsOld, Appends, DropsExclusive, DropsShared}
+use Rattle.fkv_ops.specs.declared.trying.Trying.TheVariants.{Ended, TakesShared, LoadsPhase, Walks, LoadsSafe, SwapsValue, LoadsCurrent, ChangesValue, LoadsAnswer, TakesExclusive, LoadsOld, Appends, DropsExclusive, DropsShared}
 use Rattle.fkv_ops.specs.declared.walking.WalkAnswer.TheVariants as walk
 use Rattle.fkv_ops.specs.declared.walking.Walking.{Walking}
 use Rattle.fkv_ops.specs.declared.walking.Walking.TheVariants as walking
@@ -220,6 +220,7 @@ pub row_balances : (c : Trial) (told : Told) (t : TryState) (step : Trying) (rep
 unfolding trying_ask
 row_balances c told t (Ended its) reply row = apart_balances c (latch_held t) (Done its) reply (done_apart c its reply)
 row_balances c told t TakesShared reply row = share_balances c told t t.latching reply refl row.not_shared row.its_latching
+row_balances c told t LoadsPhase reply row = apart_balances c (latch_held t) (Load _) reply (load_word_apart c _ reply)
 row_balances c told t Walks reply row = apart_balances c (latch_held t) (passed (walk_ask c.places t.walk) answer.Shift) reply (walk_apart c told t.walk t.walk.step reply row.walks.its_row)
 row_balances c told t (LoadsSafe addr version) reply row = apart_balances c (latch_held t) (Load _) reply (load_word_apart c _ reply)
 row_balances c told t (SwapsValue addr) reply row = record { shares = refl; bits = refl }

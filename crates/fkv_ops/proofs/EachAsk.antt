@@ -41,7 +41,7 @@ use Rattle.fkv_ops.specs.declared.appending.AppendAnswer.TheVariants as append
 use Rattle.fkv_ops.specs.declared.appending.Appending.{Appending}
 use Rattle.fkv_ops.specs.declared.appending.Appending.TheVariants as appending
 use Rattle.fkv_ops.specs.declared.trying.Trying.{Trying}
-use Rattle.fkv_ops.specs.declared.trying.Trying.TheVariants.{Ended, TakesShared, Walks, LoadsSafe, SwapsValue, LoadsCurrent, ChangesValue, LoadsAnswer, TakesExclusive, LoadsOld, Appends, DropsExclusive, DropsShared}
+use Rattle.fkv_ops.specs.declared.trying.Trying.TheVariants.{Ended, TakesShared, LoadsPhase, Walks, LoadsSafe, SwapsValue, LoadsCurrent, ChangesValue, LoadsAnswer, TakesExclusive, LoadsOld, Appends, DropsExclusive, DropsShared}
 use Rattle.fkv_ops.specs.declared.walking.Walking.{Walking}
 use Rattle.fkv_ops.specs.declared.walking.Walking.TheVariants as walking
 use Rattle.fkv_ops.specs.declared.walking.WalkAnswer.TheVariants as walk
@@ -189,6 +189,7 @@ pub row_so : (c : Trial) (told : Told) (t : TryState) (step : Trying) (reply : â
 unfolding trying_ask trying_next
 row_so c told t (Ended its) reply row = tt
 row_so c told t TakesShared reply row = share_so c told t.latching reply (trying_next c.places c.room (quieted c t) TakesShared reply).effect row.its_latching
+row_so c told t LoadsPhase reply row = tt
 row_so c told t Walks reply row = walk_so c told t.walk t.walk.step reply (trying_next c.places c.room (quieted c t) Walks reply).effect row.walks.its_row
 row_so c told t (LoadsSafe addr version) reply row = tt
 row_so c told t (SwapsValue addr) reply row =

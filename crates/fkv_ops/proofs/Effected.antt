@@ -32,7 +32,7 @@ use Rattle.fkv_ops.specs.declared.appending.AppendAnswer.TheVariants as append
 use Rattle.fkv_ops.specs.declared.appending.Appending.{Appending}
 use Rattle.fkv_ops.specs.declared.appending.Appending.TheVariants as appending
 use Rattle.fkv_ops.specs.declared.trying.Trying.{Trying}
-use Rattle.fkv_ops.specs.declared.trying.Trying.TheVariants.{Ended, TakesShared, Walks, LoadsSafe, SwapsValue, LoadsCurrent, ChangesValue, LoadsAnswer, TakesExclusive, LoadsOld, Appends, DropsExclusive, DropsShared}
+use Rattle.fkv_ops.specs.declared.trying.Trying.TheVariants.{Ended, TakesShared, LoadsPhase, Walks, LoadsSafe, SwapsValue, LoadsCurrent, ChangesValue, LoadsAnswer, TakesExclusive, LoadsOld, Appends, DropsExclusive, DropsShared}
 use Rattle.fkv_ops.specs.Values.{value_of, word_of}
 use Rattle.fkv_ops.specs.Requests.{is_read, is_blind}
 use Rattle.fkv_ops.specs.Appending.{AppendState, appending_ask, append_ask, publish_ledto, appending_next, append_next}
@@ -193,6 +193,7 @@ effect_row c told t (ChangesValue addr old) reply its row any makes e = change_e
 effect_row c told t (Appends r) reply its row any makes e = appends_effect c told t r reply its row any e
 effect_row c told t (Ended it) reply its row any makes e = cc
 effect_row c told t TakesShared reply its row any makes e = cc
+effect_row c told t LoadsPhase reply its row any makes e = cc
 effect_row c told t Walks reply its row any makes e = cc
 effect_row c told t (LoadsSafe addr version) reply its row any makes e = cc
 effect_row c told t (LoadsCurrent addr) reply its row any makes e = cc
@@ -231,6 +232,7 @@ added c told t (ChangesValue addr old) row e = row.0.under
 added c told t (Appends its) row e = row.updates.under
 added c told t (Ended it) row e = cc
 added c told t TakesShared row e = cc
+added c told t LoadsPhase row e = cc
 added c told t Walks row e = cc
 added c told t (LoadsSafe addr version) row e = cc
 added c told t (LoadsCurrent addr) row e = cc
@@ -247,6 +249,7 @@ stayed c told t (ChangesValue addr old) row e = row.0.stays
 stayed c told t (Appends its) row e = row.updates.stays
 stayed c told t (Ended it) row e = cc
 stayed c told t TakesShared row e = cc
+stayed c told t LoadsPhase row e = cc
 stayed c told t Walks row e = cc
 stayed c told t (LoadsSafe addr version) row e = cc
 stayed c told t (LoadsCurrent addr) row e = cc

@@ -12,7 +12,7 @@ use Rattle.fkv_latch.specs.Latching.{one_share, is_exclusive, latch_ask, latch_n
 use Rattle.fkv_ops.specs.declared.answers.TryAnswer.{TryAnswer}
 use Rattle.fkv_ops.specs.declared.answers.TryAnswer.TheVariants as answer
 use Rattle.fkv_ops.specs.declared.trying.Trying.{Trying}
-use Rattle.fkv_ops.specs.declared.trying.Trying.TheVariants.{Ended, TakesShared, Walks, LoadsSafe, SwapsValue, LoadsCurrent, ChangesValue, LoadsAnswer, TakesExclusive, LoadsOld, Appends, DropsExclusive, DropsShared}
+use Rattle.fkv_ops.specs.declared.trying.Trying.TheVariants.{Ended, TakesShared, LoadsPhase, Walks, LoadsSafe, SwapsValue, LoadsCurrent, ChangesValue, LoadsAnswer, TakesExclusive, LoadsOld, Appends, DropsExclusive, DropsShared}
 use Rattle.fkv_ops.specs.Trying.{TryState, trying_ask, try_ask, try_next, trying_next, shared_ledto, words_of}
 use Rattle.fkv_ops.specs.TryRun.{Trial, Told}
 use Rattle.fkv_ops.specs.Reasons.{latch_place}
@@ -85,6 +85,7 @@ row_back : (c : Trial) (t : TryState) (step : Trying) (reply place : ℕ) → t.
 unfolding trying_ask trying_next
 row_back c t (Ended its) reply place s row there asks busy = cc
 row_back c t TakesShared reply place s row there asks busy = back_shared c anything (record t { effect = None; latching = latch_next t.latching reply }) t.latching reply place refl s row.its_latching asks busy
+row_back c t LoadsPhase reply place s row there asks busy = cc
 row_back c t Walks reply place s row there asks busy = absurd (not_latch c (passed (walk_ask c.places t.walk) answer.Shift) reply place one_share (walk_apart c anything t.walk t.walk.step reply row.walks.its_row) there asks)
 row_back c t (LoadsSafe addr version) reply place s row there asks busy = cc
 row_back c t (SwapsValue addr) reply place s row there asks busy = cc

@@ -12,7 +12,7 @@ use Rattle.fkv_latch.specs.Latching.{one_share, exclusive_bit, latch_ask, latch_
 use Rattle.fkv_ops.specs.declared.answers.TryAnswer.{TryAnswer}
 use Rattle.fkv_ops.specs.declared.answers.TryAnswer.TheVariants as answer
 use Rattle.fkv_ops.specs.declared.trying.Trying.{Trying}
-use Rattle.fkv_ops.specs.declared.trying.Trying.TheVariants.{Ended, TakesShared, Walks, LoadsSafe, SwapsValue, LoadsCurrent, ChangesValue, LoadsAnswer, TakesExclusive, LoadsOld, Appends, DropsExclusive, DropsShared}
+use Rattle.fkv_ops.specs.declared.trying.Trying.TheVariants.{Ended, TakesShared, LoadsPhase, Walks, LoadsSafe, SwapsValue, LoadsCurrent, ChangesValue, LoadsAnswer, TakesExclusive, LoadsOld, Appends, DropsExclusive, DropsShared}
 use Rattle.fkv_ops.specs.Trying.{TryState, trying_ask, try_ask, trying_next, try_next, is_wait, with_latch, ends, ended_without, shared_ledto, exclusive_dropped, shared_dropped, words_of}
 use Rattle.fkv_ops.specs.Walking.{walk_ask}
 use Rattle.fkv_ops.specs.Appending.{append_ask}
@@ -85,6 +85,7 @@ early_row : (c : Trial) (told : Told) (t : TryState) (step : Trying) (reply : â„
 unfolding trying_ask trying_next
 early_row c told t (Ended its) reply at row early = no (sym (ap is_early at) âˆ™ early)
 early_row c told t TakesShared reply at row early = share_early c told t (record (quieted c t) { latching = latch_next t.latching reply }) t.latching reply refl row.its_latching early
+early_row c told t LoadsPhase reply at row early = (refl, record { dropped = refl; cleared = refl })
 early_row c told t Walks reply at row early = (refl, gives_none c (passed (walk_ask c.places t.walk) answer.Shift) reply (walk_apart c told t.walk t.walk.step reply row.walks.its_row))
 early_row c told t (LoadsSafe addr version) reply at row early = (refl, record { dropped = refl; cleared = refl })
 early_row c told t (SwapsValue addr) reply at row early = (refl, record { dropped = refl; cleared = refl })
@@ -156,6 +157,7 @@ early_makes (ChangesValue addr old) e = refl
 early_makes (Appends its) e = refl
 early_makes (Ended its) e = cc
 early_makes TakesShared e = refl
+early_makes LoadsPhase e = refl
 early_makes Walks e = refl
 early_makes (LoadsSafe addr version) e = refl
 early_makes (LoadsCurrent addr) e = refl

@@ -7,6 +7,8 @@ use Rattle.fkv_base.specs.declared.numbers.Version.{Version}
 use Rattle.fkv_map.specs.declared.operations.Reply.{Reply}
 use Rattle.fkv_map.specs.Map.{absent_word}
 use Rattle.fkv_map.specs.Keys.{key_of, value_applied, reply_from}
+use Rattle.fkv_words.specs.declared.phase_words.PhaseSaid.{PhaseSaid}
+use Rattle.fkv_words.specs.PhaseWords.{phase_said}
 use Rattle.fkv_plane.specs.declared.asks.Ask.{Ask}
 use Rattle.fkv_plane.specs.declared.asks.Ask.TheVariants.{Load, Cas, Done}
 use Rattle.fkv_plane.specs.declared.places.Places.{Places}
@@ -44,7 +46,7 @@ use Rattle.fkv_ops.specs.declared.requests.HeldRecord.{HeldRecord}
 use Rattle.fkv_ops.specs.declared.trying.OldValue.{OldValue}
 use Rattle.fkv_ops.specs.declared.trying.OldValue.TheVariants.{InMemory, Known}
 use Rattle.fkv_ops.specs.declared.trying.Trying.{Trying}
-use Rattle.fkv_ops.specs.declared.trying.Trying.TheVariants.{Ended, TakesShared, Walks, LoadsSafe, SwapsValue, LoadsCurrent, ChangesValue, LoadsAnswer, TakesExclusive, LoadsOld, Appends, DropsExclusive, DropsShared}
+use Rattle.fkv_ops.specs.declared.trying.Trying.TheVariants.{Ended, TakesShared, LoadsPhase, Walks, LoadsSafe, SwapsValue, LoadsCurrent, ChangesValue, LoadsAnswer, TakesExclusive, LoadsOld, Appends, DropsExclusive, DropsShared}
 use Rattle.fkv_ops.specs.declared.walking.WalkAnswer.{WalkAnswer}
 use Rattle.fkv_ops.specs.declared.walking.WalkAnswer.TheVariants as walk
 use Rattle.fkv_ops.specs.declared.walking.Walking.{Walking}
@@ -54,7 +56,7 @@ use Rattle.fkv_ops.specs.Values.{value_of, word_of}
 use Rattle.fkv_ops.specs.Requests.{is_read, is_blind}
 use Rattle.fkv_ops.specs.Walking.{WalkState, walking_ask, walk_ask, walk_ended, reached, slot_found, find_ledto, first_met, record_met, load_ledto, walking_next, walk_next, walk_on}
 use Rattle.fkv_ops.specs.Appending.{append_ask, append_next}
-use Rattle.fkv_ops.specs.Trying.{TryState, new_try, trying_ask, try_ask, trying_next, try_next, with_latch, is_wait, ended_without, ends, takes_effect, full_at, walks, wants_shared, shared_ledto, must_shift, wants_exclusive, appends, copies_from, copies, awaits, held_used, met_nowhere, met_disk, changes, is_own_version, region_met, walked, has_walked, walk_ledto, safe_loaded, current_ledto, value_changed, told_value, answer_ledto, exclusive_ledto, old_ledto, append_ledto, exclusive_dropped, shared_dropped, words_of}
+use Rattle.fkv_ops.specs.Trying.{TryState, new_try, trying_ask, try_ask, trying_next, try_next, with_latch, is_wait, ended_without, ends, takes_effect, full_at, walks, wants_shared, is_next_marked, latch_shared, shared_ledto, is_still_in, phase_loaded, must_shift, wants_exclusive, appends, copies_from, copies, awaits, held_used, met_nowhere, met_disk, changes, is_own_version, region_met, walked, has_walked, walk_ledto, is_surely_own, safe_loaded, current_ledto, value_changed, told_value, answer_ledto, exclusive_ledto, old_ledto, append_ledto, exclusive_dropped, shared_dropped, words_of}
 use Rattle.fkv_ops.specs.TryRun.{Trial, trial_begun, try_run, Told, exchanges, effects_of}
 use Rattle.fkv_ops.specs.Spares.{is_count, is_linking, spare_after, spare_told, UsesSpare, EachUsesSpare, EachTellsSpare}
 use Rattle.fkv_ops.proofs.Searched.{StandsAt, SearchStep, search_asks, spare_few}
@@ -187,9 +189,9 @@ walked_keeps p t walk.Contended = ends_keeps p t (answer.Wait reason.Contended)
 safe_keeps : (p : Places) (t : TryState) (addr : Addr) (version : Version) (safe : ℕ) → Keeps t.spare (safe_loaded p t addr version safe)
 safe_keeps p t addr version safe = by_safe (nat_le safe addr.0)
   where
-    by_safe : (b : Bool) → Keeps t.spare (if b then ends p t (answer.Wait reason.Fuzzy) else copies p t InMemory (is_own_version t version))
+    by_safe : (b : Bool) → Keeps t.spare (if b then ends p t (answer.Wait reason.Fuzzy) else copies p t InMemory (is_surely_own t version))
     by_safe true = ends_keeps p t (answer.Wait reason.Fuzzy)
-    by_safe false = copies_keeps p t InMemory (is_own_version t version)
+    by_safe false = copies_keeps p t InMemory (is_surely_own t version)
 
 changed_keeps : (p : Places) (t : TryState) (old reply : ℕ) → Keeps t.spare (value_changed p t old reply)
 changed_keeps p t old reply = by_word (reply == old)
@@ -257,9 +259,24 @@ aside c spare n m ask reply t is now few keeps = subst (λ x. Spared c spare x t
 walks_spared : (c : Trial) (spare n : ℕ) (t : TryState) → spare_of c.places t.spare ≡ n → Spared c spare n (walks c.places t)
 walks_spared c spare n t now = record { now = spare_there c (spare_of c.places t.spare) (spare_few c t.spare) ∙ now; few = λ low. spare_few c t.spare; walk = λ e. cc }
 
+latch_shared_spared : (c : Trial) (spare n : ℕ) (t : TryState) → spare_of c.places t.spare ≡ n → (spare ≤ c.places.overflow → t.spare ≤ c.places.overflow) → Spared c spare n (latch_shared c.places t)
+latch_shared_spared c spare n t now few = by_mark (is_next_marked t.request.version)
+  where
+    by_mark : (b : Bool) → Spared c spare n (if b then record t { step = LoadsPhase } else walks c.places t)
+    by_mark true = record { now = now; few = few; walk = tt }
+    by_mark false = walks_spared c spare n t now
+
+phase_spared : (c : Trial) (spare n : ℕ) (t : TryState) (said : PhaseSaid) → spare_of c.places t.spare ≡ n → (spare ≤ c.places.overflow → t.spare ≤ c.places.overflow) → Spared c spare n (phase_loaded c.places t said)
+unfolding phase_loaded
+phase_spared c spare n t said now few = by_word (is_still_in said t.request.version)
+  where
+    by_word : (b : Bool) → Spared c spare n (if b then walks c.places t else ends c.places t answer.Shift)
+    by_word true = walks_spared c spare n t now
+    by_word false = kept c spare n t.spare (ends c.places t answer.Shift) (ends_keeps c.places t answer.Shift) now few
+
 shared_spared : (c : Trial) (spare n : ℕ) (t : TryState) (ask : Ask LatchAnswer) → spare_of c.places t.spare ≡ n → (spare ≤ c.places.overflow → t.spare ≤ c.places.overflow) → Keeps t.spare t → Spared c spare n (shared_ledto c.places t ask)
 unfolding shared_ledto
-shared_spared c spare n t (Done latch.Taken) now few same = walks_spared c spare n (record t { has_shared = true }) now
+shared_spared c spare n t (Done latch.Taken) now few same = latch_shared_spared c spare n (record t { has_shared = true }) now few
 shared_spared c spare n t (Done its) now few same = kept c spare n t.spare (ends c.places t answer.Shift) (ends_keeps c.places t answer.Shift) now few
 shared_spared c spare n t ask now few same = kept c spare n t.spare t same now few
 
@@ -513,6 +530,7 @@ row_spared c t TakesShared reply spare n at row now few walk =
     let s : TryState = record (quieted c t) { latching = latch_next t.latching reply } in
     subst (λ x. Spared c spare x (shared_ledto c.places s (latch_next_ask t.latching reply))) (sym (aside_after c (passed (latch_ask t.latching) answer.Shift) reply n (share_aside c anything t.latching row.its_latching)))
     (shared_spared c spare n s (latch_next_ask t.latching reply) now few (keeps_at s TakesShared at refl tt))
+row_spared c t LoadsPhase reply spare n at row now few walk = phase_spared c spare n (quieted c t) (phase_said reply) now few
 row_spared c t Walks reply spare n at row now few walk =
     let goes = walk_goes c anything t.walk t.walk.step reply refl row.walks.its_row walk in
     walk_spared c anything spare (spare_after c.places (passed (walk_ask c.places t.walk) answer.Shift) reply n) (record (quieted c t) { walk = walk_next c.places t.walk reply }) (walk_ask c.places (walk_next c.places t.walk reply)) at
@@ -565,6 +583,7 @@ row_uses : (c : Trial) (t : TryState) (step : Trying) (n : ℕ) → TryRow c any
 unfolding trying_ask
 row_uses c t (Ended its) n row now = tt
 row_uses c t TakesShared n row now = aside_uses c n (passed (latch_ask t.latching) answer.Shift) (share_aside c anything t.latching row.its_latching)
+row_uses c t LoadsPhase n row now = tt
 row_uses c t Walks n row now = walk_step_uses c t.walk t.walk.step n row.walks.its_row now
 row_uses c t (LoadsSafe addr version) n row now = tt
 row_uses c t (SwapsValue addr) n row now = tt

@@ -26,10 +26,10 @@ use Rattle.fkv_ops.specs.declared.walking.WalkAnswer.{WalkAnswer}
 use Rattle.fkv_ops.specs.declared.walking.WalkAnswer.TheVariants as walk
 use Rattle.fkv_ops.specs.Requests.{is_read, is_blind}
 use Rattle.fkv_ops.specs.Walking.{WalkState, walk_ask, walk_on}
-use Rattle.fkv_ops.specs.Trying.{TryState, ends, full_at, is_prepare, is_above, must_shift, copies, awaits, held_used, met_nowhere, met_disk, changes, region_met, met_record, walked, has_walked, walk_ledto, safe_loaded}
+use Rattle.fkv_ops.specs.Trying.{TryState, ends, full_at, is_prepare, is_marked, is_next_marked, is_above, must_shift, copies, awaits, held_used, met_nowhere, met_disk, changes, region_met, met_record, walked, has_walked, walk_ledto, safe_loaded}
 use Rattle.fkv_ops.specs.TryRun.{Trial, Told, reply_told}
-use Rattle.fkv_ops.specs.Reasons.{Loaded, HasEntry, WalksTo, HasFound, LeavesMemory, HasNone, AtItsEnd, WithoutSlot, HoldsFrom, IsOnDisk, AsRead, WithoutHeld, FromAnother, BelowHead, BehindHeld, IsIndexFull, HasNoRoom, OthersWentOn, ByRecord, IsTrue}
-use Rattle.fkv_ops.specs.Effects.{MayChange, MayStay, FirstInMemory, FirstBelowHead, FirstNowhere, OfAnother, BelowSafe, OfNone, OfAny, OfHeld, OfNoneBehind}
+use Rattle.fkv_ops.specs.Reasons.{Loaded, HasEntry, WalksTo, HasFound, LeavesMemory, HasNone, AtItsEnd, WithoutSlot, HoldsFrom, IsOnDisk, AsRead, WithoutHeld, FromAnother, BelowHead, BehindHeld, IsIndexFull, HasNoRoom, tells_own, OthersWentOn, ByRecord, IsTrue}
+use Rattle.fkv_ops.specs.Effects.{MayChange, shares_latch, SeesNoneAbove, MayStay, BySight, FirstInMemory, FirstBelowHead, FirstNowhere, OfAnother, BelowSafe, OfNone, OfAny, OfHeld, OfNoneBehind}
 use Rattle.fkv_ops.proofs.BoolTests.{lt_true, lt_false, le_true, le_false, eq_true, eq_false, some_where, both}
 use Rattle.fkv_ops.proofs.Walked.{HasFirst, FirstTrue, FirstSome, FirstAt, first_true, NowhereTrue, WalkTrue, WalkKnows, walk_answers, walk_on_loads, walk_on_found}
 use Rattle.fkv_ops.proofs.TryRows.{norm, latch_held, owed_at, Under, Stays, Updates, FoundRow, TryRow, told_at, Comes, ends_true}
@@ -131,6 +131,10 @@ changes_true c told t addr version quiet updates found may = by_blind (is_blind 
       row = (record { under = updates.under; update = updates.update; stays = updates.stays }, may, walk_on_loads c told t.walk addr version found.at found.its);
     }
 
+right_false : (a b : Bool) → b ≡ false → (a && b) ≡ false
+right_false true b e = e
+right_false false b e = refl
+
 region_true : (c : Trial) (told : Told) (t : TryState) (addr : Addr) (version : Version) → t.effect ≡ None → t.has_exclusive ≡ false → Updates c told t → FoundRow c told t.walk addr version
     → Comes c told None [] (latch_held t) (region_met c.places (norm c t) addr version (if nat_lt addr.0 c.seen.offsets.head.0 then Some region.Disk else if nat_le c.seen.offsets.read_only.0 addr.0 then Some region.Mutable else None))
 region_true c told t addr version quiet not_alone updates found = by_head (nat_lt addr.0 c.seen.offsets.head.0) refl
@@ -138,7 +142,7 @@ region_true c told t addr version quiet not_alone updates found = by_head (nat_l
     by_version : (b : Bool) → (version.0 == mark c.request.version.0) ≡ b → c.seen.offsets.read_only.0 ≤ addr.0 → Comes c told None [] (latch_held t) (if b then changes (norm c t) addr else copies c.places (norm c t) InMemory false)
     by_version true e mutable = changes_true c told t addr version quiet updates found (may_change c told t.walk addr version found (eq_true version.0 (mark c.request.version.0) e) mutable)
     by_version false e mutable = copies_true c told t InMemory false quiet not_alone updates found.its.its_record.walk.slot
-        (record { addr = addr; version = version; found = found; may = OfAnother mutable (eq_false version.0 (mark c.request.version.0) e); current = e })
+        (record { addr = addr; version = version; found = found; may = OfAnother mutable (eq_false version.0 (mark c.request.version.0) e); current = right_false (not (is_marked c.request.version)) (version.0 == mark c.request.version.0) e })
 
     by_read_only : (b : Bool) → nat_le c.seen.offsets.read_only.0 addr.0 ≡ b → Comes c told None [] (latch_held t) (region_met c.places (norm c t) addr version (if b then Some region.Mutable else None))
     by_read_only true e = by_version (version.0 == mark c.request.version.0) refl (le_true c.seen.offsets.read_only.0 addr.0 e)
@@ -182,26 +186,26 @@ first_some c told place entry None knows = absurd knows
 first_some c told place entry (Some version) knows = knows
 
 -- the first record that was met is of no version above
-some_stays : (c : Trial) (told : Told) (place entry : ℕ) (version : Version) → HasFirst c told place entry version.0 → is_above (Some version) c.request.version ≡ false → MayStay c told
+some_stays : (c : Trial) (told : Told) (place entry : ℕ) (version : Version) → HasFirst c told place entry version.0 → is_above (Some version) c.request.version ≡ false → SeesNoneAbove c told
 some_stays c told place entry version knows e =
     let low = lt_false (mark c.request.version.0) version.0 e in
     let its = knows.its_version in
     record { place = place; entry = entry; slot = knows.slot; its_first = FirstInMemory knows.header knows.its_header (omega (arith, low, its)) }
 
-found_stays : (c : Trial) (told : Told) (place entry : ℕ) (first : Option Version) → FirstSome c told place entry first → is_above first c.request.version ≡ false → MayStay c told
+found_stays : (c : Trial) (told : Told) (place entry : ℕ) (first : Option Version) → FirstSome c told place entry first → is_above first c.request.version ≡ false → SeesNoneAbove c told
 found_stays c told place entry None knows e = absurd knows
 found_stays c told place entry (Some version) knows e = some_stays c told place entry version knows e
 
 -- or none was met, as the entry leads out of memory at once
-nowhere_stays : (c : Trial) (told : Told) (place entry : ℕ) (first : Option Version) → HasEntry c told place entry → FirstAt c told place entry 0 first → is_above first c.request.version ≡ false → MayStay c told
+nowhere_stays : (c : Trial) (told : Told) (place entry : ℕ) (first : Option Version) → HasEntry c told place entry → FirstAt c told place entry 0 first → is_above first c.request.version ≡ false → SeesNoneAbove c told
 nowhere_stays c told place entry None slot at e = record { place = place; entry = entry; slot = slot; its_first = FirstNowhere (sym at) }
 nowhere_stays c told place entry (Some version) slot at e = some_stays c told place entry version at e
 
-below_stays : (c : Trial) (told : Told) (place entry addr : ℕ) (first : Option Version) → HasEntry c told place entry → addr < c.seen.offsets.head.0 → FirstAt c told place entry addr first → is_above first c.request.version ≡ false → MayStay c told
+below_stays : (c : Trial) (told : Told) (place entry addr : ℕ) (first : Option Version) → HasEntry c told place entry → addr < c.seen.offsets.head.0 → FirstAt c told place entry addr first → is_above first c.request.version ≡ false → SeesNoneAbove c told
 below_stays c told place entry addr None slot low at e = record { place = place; entry = entry; slot = slot; its_first = FirstBelowHead (subst (λ a. a < c.seen.offsets.head.0) at low) }
 below_stays c told place entry addr (Some version) slot low at e = some_stays c told place entry version at e
 
-stays_known : (c : Trial) (told : Told) (w : WalkState) (its : WalkAnswer) → has_walked its ≡ true → is_read c.request.op ≡ false → WalkTrue c told w its → is_above w.first c.request.version ≡ false → MayStay c told
+stays_known : (c : Trial) (told : Told) (w : WalkState) (its : WalkAnswer) → has_walked its ≡ true → is_read c.request.op ≡ false → WalkTrue c told w its → is_above w.first c.request.version ≡ false → SeesNoneAbove c told
 stays_known c told w (walk.Found addr version) e update knows low = found_stays c told w.place w.entry w.first knows.1.first low
 stays_known c told w walk.Nowhere e update (inl at) low = nowhere_stays c told w.place w.entry w.first at.0.slot at.1 low
 stays_known c told w walk.Nowhere e update (inr without) low = absurd (no (sym update ∙ without.0))
@@ -216,6 +220,11 @@ stays_known c told w walk.Contended e update knows low = cc
 without_shift : (a b : Bool) → (a && b) ≡ false → a ≡ true → b ≡ false
 without_shift true b e f = e
 without_shift false b e f = cc
+
+tells_by : (a b : Bool) → a ≡ true → b ≡ false → (a && not b) ≡ true
+tells_by true false e f = refl
+tells_by true true e f = cc
+tells_by false b e f = cc
 
 update_shares : (a b : Bool) → (a && not b) ≡ true → b ≡ false
 update_shares true true e = cc
@@ -250,11 +259,18 @@ walk_led_true c told t (Done its) quiet not_alone at under knows asks = by_walke
     here : WalkTrue c told t.walk its
     here = walk_answers c told t.walk its knows asks
 
+    may_stay : (b : Bool) → is_next_marked c.request.version ≡ b → has_walked its ≡ true → must_shift (norm c t) ≡ false → shares_latch c ≡ true → MayStay c told
+    may_stay true marked d e wants = under.in_phase marked wants
+    may_stay false marked d e wants = BySight (stays_known c told t.walk its d (update_shares (is_prepare c.seen.phase) (is_read c.request.op) wants) here
+        (without_shift (is_prepare c.seen.phase && not (is_read c.request.op) && not (is_next_marked c.request.version)) (is_above t.walk.first c.request.version) e
+        (tells_by (is_prepare c.seen.phase && not (is_read c.request.op)) (is_next_marked c.request.version) wants marked)))
+
     by_walked : (a b : Bool) → has_walked its ≡ a → must_shift (norm c t) ≡ b
         → Comes c told None [] (latch_held t) (if a && b then ends c.places (norm c (record t { spare = t.walk.spare })) answer.Shift else walked c.places (norm c (record t { spare = t.walk.spare })) its)
     by_walked true true d e =
-        let split = both (is_prepare c.seen.phase && not (is_read c.request.op)) (is_above t.walk.first c.request.version) e in
-        let wants = both (is_prepare c.seen.phase) (not (is_read c.request.op)) split.0 in
+        let split = both (is_prepare c.seen.phase && not (is_read c.request.op) && not (is_next_marked c.request.version)) (is_above t.walk.first c.request.version) e in
+        let tells = both (is_prepare c.seen.phase && not (is_read c.request.op)) (not (is_next_marked c.request.version)) split.0 in
+        let wants = both (is_prepare c.seen.phase) (not (is_read c.request.op)) tells.0 in
         quiet_end c told (record t { spare = t.walk.spare }) answer.Shift quiet under refl
         (record { in_prepare = wants.0; update = negated (is_read c.request.op) wants.1; others = others_by_record c told t.walk.place t.walk.entry t.walk.first (first_known c told t.walk its d here) split.1 })
       where
@@ -262,7 +278,7 @@ walk_led_true c told t (Done its) quiet not_alone at under knows asks = by_walke
         negated true e = cc
         negated false e = refl
     by_walked true false d e = walked_true c told (record t { spare = t.walk.spare }) its quiet not_alone under
-        (λ met wants. stays_known c told t.walk its d (update_shares (is_prepare c.seen.phase) (is_read c.request.op) wants) here (without_shift (is_prepare c.seen.phase && not (is_read c.request.op)) (is_above t.walk.first c.request.version) e wants)) here
+        (λ met wants. may_stay (is_next_marked c.request.version) refl d e wants) here
     by_walked false b d e = walked_true c told (record t { spare = t.walk.spare }) its quiet not_alone under (λ met. not_walked (has_walked its) d met) here
 walk_led_true c told t ask quiet not_alone at under knows asks = record {
   same = refl;
@@ -276,8 +292,8 @@ pub safe_true : (c : Trial) (told : Told) (t : TryState) (addr : Addr) (version 
     → Loaded told (shared_place one.SafeReadOnly) safe → Comes c told None [] (latch_held t) (safe_loaded c.places (norm c t) addr version safe)
 safe_true c told t addr version safe quiet not_alone updates found below was = by_safe (nat_le safe addr.0) refl
   where
-    by_safe : (b : Bool) → nat_le safe addr.0 ≡ b → Comes c told None [] (latch_held t) (if b then ends c.places (norm c t) (answer.Wait reason.Fuzzy) else copies c.places (norm c t) InMemory (version.0 == mark c.request.version.0))
+    by_safe : (b : Bool) → nat_le safe addr.0 ≡ b → Comes c told None [] (latch_held t) (if b then ends c.places (norm c t) (answer.Wait reason.Fuzzy) else copies c.places (norm c t) InMemory (tells_own c version.0))
     by_safe true e = quiet_end c told t (answer.Wait reason.Fuzzy) quiet updates.under refl
         (record { place = t.walk.place; entry = t.walk.entry; addr = addr.0; version = version.0; safe = safe; found = found.its.its_record; below_seen = below; its_safe = was; above_safe = le_true safe addr.0 e })
-    by_safe false e = copies_true c told t InMemory (version.0 == mark c.request.version.0) quiet not_alone updates found.its.its_record.walk.slot
+    by_safe false e = copies_true c told t InMemory (tells_own c version.0) quiet not_alone updates found.its.its_record.walk.slot
         (record { addr = addr; version = version; found = found; may = BelowSafe safe below was (le_false safe addr.0 e); current = refl })

@@ -6,6 +6,8 @@ use Rattle.fkv_base.specs.declared.numbers.Version.{Version}
 use Rattle.fkv_map.specs.declared.operations.Reply.{Reply}
 use Rattle.fkv_map.specs.Map.{absent_word}
 use Rattle.fkv_map.specs.Keys.{key_of, reply_from}
+use Rattle.fkv_words.specs.declared.phase_words.PhaseSaid.{PhaseSaid}
+use Rattle.fkv_words.specs.PhaseWords.{phase_said}
 use Rattle.fkv_plane.specs.declared.asks.Ask.{Ask}
 use Rattle.fkv_plane.specs.declared.asks.Ask.TheVariants.{Done}
 use Rattle.fkv_plane.specs.declared.places.Places.{Places}
@@ -29,16 +31,16 @@ use Rattle.fkv_ops.specs.declared.requests.Seen.{Seen}
 use Rattle.fkv_ops.specs.declared.trying.OldValue.{OldValue}
 use Rattle.fkv_ops.specs.declared.trying.OldValue.TheVariants.{InMemory, Known}
 use Rattle.fkv_ops.specs.declared.trying.Trying.{Trying}
-use Rattle.fkv_ops.specs.declared.trying.Trying.TheVariants.{Ended, TakesShared, Walks, LoadsSafe, SwapsValue, LoadsCurrent, ChangesValue, LoadsAnswer, TakesExclusive, LoadsOld, Appends, DropsExclusive, DropsShared}
+use Rattle.fkv_ops.specs.declared.trying.Trying.TheVariants.{Ended, TakesShared, LoadsPhase, Walks, LoadsSafe, SwapsValue, LoadsCurrent, ChangesValue, LoadsAnswer, TakesExclusive, LoadsOld, Appends, DropsExclusive, DropsShared}
 use Rattle.fkv_ops.specs.declared.walking.WalkAnswer.{WalkAnswer}
 use Rattle.fkv_ops.specs.declared.walking.WalkAnswer.TheVariants as walk
 use Rattle.fkv_ops.specs.Values.{value_of}
 use Rattle.fkv_ops.specs.Requests.{purpose_of, is_read, is_blind}
 use Rattle.fkv_ops.specs.Walking.{walk_ask, walk_next, walk_on}
 use Rattle.fkv_ops.specs.Appending.{append_ask, append_next}
-use Rattle.fkv_ops.specs.Trying.{TryState, new_try, trying_ask, try_ask, with_latch, is_wait, ended_without, ends, takes_effect, full_at, walks, wants_shared, try_begun, shared_ledto, must_shift, wants_exclusive, words_of, slot_of, appends, copies_from, copies, awaits, held_used, met_nowhere, met_disk, changes, is_own_version, region_met, met_record, walked, has_walked, walk_ledto, safe_loaded, current_ledto, value_changed, told_value, answer_ledto, exclusive_ledto, old_ledto, append_ledto, exclusive_dropped, shared_dropped, latch_moved, walk_moved, trying_next, try_next}
+use Rattle.fkv_ops.specs.Trying.{TryState, new_try, trying_ask, try_ask, with_latch, is_wait, ended_without, ends, takes_effect, full_at, walks, wants_shared, try_begun, is_next_marked, latch_shared, shared_ledto, is_still_in, phase_loaded, must_shift, wants_exclusive, words_of, slot_of, appends, copies_from, copies, awaits, held_used, met_nowhere, met_disk, changes, is_own_version, region_met, met_record, walked, has_walked, walk_ledto, is_surely_own, safe_loaded, current_ledto, value_changed, told_value, answer_ledto, exclusive_ledto, old_ledto, append_ledto, exclusive_dropped, shared_dropped, latch_moved, walk_moved, trying_next, try_next}
 use Rattle.fkv_plane.specs.AsksLeft.{AsksWhereLeft, sum_left}
-use Rattle.fkv_ops.specs.AsksLeft.{walk_asks_left, most_walk_asks, append_asks_left, most_drop_asks, most_append_asks, most_copy_asks, most_asks_behind_walk, trying_asks_left, try_asks_left}
+use Rattle.fkv_ops.specs.AsksLeft.{walk_asks_left, most_walk_asks, append_asks_left, most_drop_asks, most_append_asks, most_copy_asks, most_asks_behind_walk, most_asks_behind_share, trying_asks_left, try_asks_left}
 use Rattle.fkv_plane.proofs.Shown.{none, done_left, none_left, some_inside, passed_left, passed_alone, sum_most, inside_fewer, behind_fewer}
 use Rattle.fkv_ops.proofs.WalkAsks.{walk_left, walk_begun_left, walk_fewer, walk_on_left}
 use Rattle.fkv_ops.proofs.AppendAsks.{append_left, append_begun_left, append_fewer}
@@ -46,7 +48,8 @@ use Rattle.fkv_ops.proofs.AppendAsks.{append_left, append_begun_left, append_few
 pub trying_left : (p : Places) (t : TryState) (step : Trying) → AsksWhereLeft (trying_asks_left p t step) (trying_ask p t step)
 unfolding trying_ask trying_asks_left
 trying_left p t (Ended its) = done_left its
-trying_left p t TakesShared = passed_left (asks_left t.latching) (most_walk_asks p + most_asks_behind_walk) (latch_ask t.latching) answer.Shift (latch_ask_left t.latching)
+trying_left p t TakesShared = passed_left (asks_left t.latching) (most_asks_behind_share p) (latch_ask t.latching) answer.Shift (latch_ask_left t.latching)
+trying_left p t LoadsPhase = (λ e. omega arith, λ some. refl)
 trying_left p t Walks = passed_left (walk_asks_left p t.walk) most_asks_behind_walk (walk_ask p t.walk) answer.Shift (walk_left p t.walk)
 trying_left p t (LoadsSafe addr version) = (λ e. omega arith, λ some. refl)
 trying_left p t (SwapsValue addr) = (λ e. omega arith, λ some. refl)
@@ -70,14 +73,14 @@ walks_left p t =
     let both = sum_most (walk_asks_left p (walks p t).walk) most_asks_behind_walk in
     omega (arith, begun, both)
 
-pub try_begun_left : (p : Places) (bits : ℕ) (request : Request) (seen : Seen) (occasion : Occasion) (spare : ℕ) → try_asks_left p (try_begun p bits request seen occasion spare) ≤ 8 * (p.overflow + 1) + 2 * p.ring + 20
+pub try_begun_left : (p : Places) (bits : ℕ) (request : Request) (seen : Seen) (occasion : Occasion) (spare : ℕ) → try_asks_left p (try_begun p bits request seen occasion spare) ≤ 8 * (p.overflow + 1) + 2 * p.ring + 21
 unfolding trying_asks_left sum_left asks_left
 try_begun_left p bits request seen occasion spare = tested (wants_shared its)
   where
     its : TryState
     its = new_try bits request seen occasion spare
 
-    tested : (b : Bool) → try_asks_left p (if b then with_latch p its TakeShared TakesShared else walks p its) ≤ 8 * (p.overflow + 1) + 2 * p.ring + 20
+    tested : (b : Bool) → try_asks_left p (if b then with_latch p its TakeShared TakesShared else walks p its) ≤ 8 * (p.overflow + 1) + 2 * p.ring + 21
     tested true = omega arith
     tested false = let begun = walks_left p its in omega (arith, begun)
 
@@ -184,13 +187,29 @@ walked_left p t (walk.Value value) = let few = ends_left p t (answer.Wait reason
 walked_left p t walk.Full = let few = ends_left p t (full_at t.occasion answer.IndexFull) in omega (arith, few)
 walked_left p t walk.Contended = let few = ends_left p t (answer.Wait reason.Contended) in omega (arith, few)
 
+latch_shared_left : (p : Places) (t : TryState) → try_asks_left p (latch_shared p t) ≤ most_asks_behind_share p
+unfolding trying_asks_left
+latch_shared_left p t = tested (is_next_marked t.request.version)
+  where
+    tested : (b : Bool) → try_asks_left p (if b then record t { step = LoadsPhase } else walks p t) ≤ most_asks_behind_share p
+    tested true = omega arith
+    tested false = let few = walks_left p t in omega (arith, few)
+
+phase_loaded_left : (p : Places) (t : TryState) (said : PhaseSaid) → try_asks_left p (phase_loaded p t said) ≤ most_walk_asks p + most_asks_behind_walk
+unfolding phase_loaded
+phase_loaded_left p t said = tested (is_still_in said t.request.version)
+  where
+    tested : (b : Bool) → try_asks_left p (if b then walks p t else ends p t answer.Shift) ≤ most_walk_asks p + most_asks_behind_walk
+    tested true = walks_left p t
+    tested false = let few = ends_left p t answer.Shift in omega (arith, few)
+
 -- where the replies lead
 shared_led_fewer : (p : Places) (t : TryState) (old : ℕ) (ask : Ask LatchAnswer) → t.step ≡ TakesShared → asks_left t.latching < old
-    → try_asks_left p (shared_ledto p t ask) < sum_left old (most_walk_asks p + most_asks_behind_walk)
+    → try_asks_left p (shared_ledto p t ask) < sum_left old (most_asks_behind_share p)
 unfolding shared_ledto trying_asks_left
-shared_led_fewer p t old (Done latch.Taken) at fewer = behind_fewer _ old (most_walk_asks p + most_asks_behind_walk) (omega (arith, fewer)) (walks_left p (record t { has_shared = true }))
-shared_led_fewer p t old (Done its) at fewer = behind_fewer _ old (most_walk_asks p + most_asks_behind_walk) (omega (arith, fewer)) (let few = ends_left p t answer.Shift in omega (arith, few))
-shared_led_fewer p t old ask at fewer = rw at (inside_fewer (asks_left t.latching) old (most_walk_asks p + most_asks_behind_walk) fewer)
+shared_led_fewer p t old (Done latch.Taken) at fewer = behind_fewer _ old (most_asks_behind_share p) (omega (arith, fewer)) (latch_shared_left p (record t { has_shared = true }))
+shared_led_fewer p t old (Done its) at fewer = behind_fewer _ old (most_asks_behind_share p) (omega (arith, fewer)) (let few = ends_left p t answer.Shift in omega (arith, few))
+shared_led_fewer p t old ask at fewer = rw at (inside_fewer (asks_left t.latching) old (most_asks_behind_share p) fewer)
 
 walk_led_fewer : (p : Places) (t : TryState) (old : ℕ) (ask : Ask WalkAnswer) → t.step ≡ Walks → (is_done ask ≡ true → walk_asks_left p (walk_on t.walk) ≤ 2) → walk_asks_left p t.walk < old
     → try_asks_left p (walk_ledto p t ask) < sum_left old most_asks_behind_walk
@@ -208,9 +227,9 @@ walk_led_fewer p t old ask at value fewer = rw at (inside_fewer (walk_asks_left 
 safe_loaded_left : (p : Places) (t : TryState) (addr : Addr) (version : Version) (safe : ℕ) → try_asks_left p (safe_loaded p t addr version safe) ≤ most_copy_asks p t
 safe_loaded_left p t addr version safe = tested (nat_le safe addr.0)
   where
-    tested : (b : Bool) → try_asks_left p (if b then ends p t (answer.Wait reason.Fuzzy) else copies p t InMemory (is_own_version t version)) ≤ most_copy_asks p t
+    tested : (b : Bool) → try_asks_left p (if b then ends p t (answer.Wait reason.Fuzzy) else copies p t InMemory (is_surely_own t version)) ≤ most_copy_asks p t
     tested true = let few = ends_left p t (answer.Wait reason.Fuzzy) in omega (arith, few)
-    tested false = copies_left p t InMemory (is_own_version t version)
+    tested false = copies_left p t InMemory (is_surely_own t version)
 
 current_led_fewer : (p : Places) (t : TryState) (addr : Addr) (old : ℕ) (ask : Ask WalkAnswer) → t.step ≡ LoadsCurrent addr → walk_asks_left p t.walk < old
     → try_asks_left p (current_ledto p t addr ask) < sum_left old (1 + most_drop_asks)
@@ -280,7 +299,8 @@ trying_fewer : (p : Places) (room : ℕ) (t : TryState) (step : Trying) (reply :
 unfolding trying_next trying_asks_left
 trying_fewer p room t (Ended its) reply at some = none some
 trying_fewer p room t TakesShared reply at some =
-    shared_led_fewer p (latch_moved t reply) (asks_left t.latching) (latch_next_ask t.latching reply) at (latch_falls t reply (some_inside _ (most_walk_asks p + most_asks_behind_walk) some))
+    shared_led_fewer p (latch_moved t reply) (asks_left t.latching) (latch_next_ask t.latching reply) at (latch_falls t reply (some_inside _ (most_asks_behind_share p) some))
+trying_fewer p room t LoadsPhase reply at some = let few = phase_loaded_left p t (phase_said reply) in omega (arith, few)
 trying_fewer p room t Walks reply at some =
     walk_led_fewer p (walk_moved p t reply) (walk_asks_left p t.walk) (walk_ask p (walk_next p t.walk reply)) at (value_few p t reply) (walk_fewer p t.walk reply (some_inside _ most_asks_behind_walk some))
 trying_fewer p room t (LoadsSafe addr version) reply at some = let few = safe_loaded_left p t addr version reply in omega (arith, few)

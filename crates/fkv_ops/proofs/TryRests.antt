@@ -6,6 +6,8 @@ use Rattle.fkv_base.specs.declared.numbers.Version.{Version}
 use Rattle.fkv_map.specs.declared.operations.Reply.{Reply}
 use Rattle.fkv_map.specs.Map.{absent_word}
 use Rattle.fkv_map.specs.Keys.{key_of, reply_from}
+use Rattle.fkv_words.specs.declared.phase_words.PhaseSaid.{PhaseSaid}
+use Rattle.fkv_words.specs.PhaseWords.{phase_said}
 use Rattle.fkv_plane.specs.declared.asks.Ask.{Ask}
 use Rattle.fkv_plane.specs.declared.asks.Ask.TheVariants.{Done}
 use Rattle.fkv_plane.specs.declared.places.Places.{Places}
@@ -30,14 +32,14 @@ use Rattle.fkv_ops.specs.declared.requests.Seen.{Seen}
 use Rattle.fkv_ops.specs.declared.trying.OldValue.{OldValue}
 use Rattle.fkv_ops.specs.declared.trying.OldValue.TheVariants.{InMemory, Known}
 use Rattle.fkv_ops.specs.declared.trying.Trying.{Trying}
-use Rattle.fkv_ops.specs.declared.trying.Trying.TheVariants.{Ended, TakesShared, Walks, LoadsSafe, SwapsValue, LoadsCurrent, ChangesValue, LoadsAnswer, TakesExclusive, LoadsOld, Appends, DropsExclusive, DropsShared}
+use Rattle.fkv_ops.specs.declared.trying.Trying.TheVariants.{Ended, TakesShared, LoadsPhase, Walks, LoadsSafe, SwapsValue, LoadsCurrent, ChangesValue, LoadsAnswer, TakesExclusive, LoadsOld, Appends, DropsExclusive, DropsShared}
 use Rattle.fkv_ops.specs.declared.walking.WalkAnswer.{WalkAnswer}
 use Rattle.fkv_ops.specs.declared.walking.WalkAnswer.TheVariants as walk
 use Rattle.fkv_ops.specs.Values.{value_of}
 use Rattle.fkv_ops.specs.Requests.{purpose_of, is_read, is_blind}
 use Rattle.fkv_ops.specs.Walking.{walk_ask, walk_next, walk_on}
 use Rattle.fkv_ops.specs.Appending.{append_ask, append_next}
-use Rattle.fkv_ops.specs.Trying.{TryState, new_try, trying_ask, try_ask, with_latch, is_wait, ended_without, ends, takes_effect, full_at, walks, wants_shared, try_begun, shared_ledto, must_shift, wants_exclusive, words_of, slot_of, appends, copies_from, copies, awaits, held_used, met_nowhere, met_disk, changes, is_own_version, region_met, met_record, walked, has_walked, walk_ledto, safe_loaded, current_ledto, value_changed, told_value, answer_ledto, exclusive_ledto, old_ledto, append_ledto, exclusive_dropped, shared_dropped, latch_moved, walk_moved, trying_next, try_next}
+use Rattle.fkv_ops.specs.Trying.{TryState, new_try, trying_ask, try_ask, with_latch, is_wait, ended_without, ends, takes_effect, full_at, walks, wants_shared, try_begun, is_next_marked, latch_shared, shared_ledto, is_still_in, phase_loaded, must_shift, wants_exclusive, words_of, slot_of, appends, copies_from, copies, awaits, held_used, met_nowhere, met_disk, changes, is_own_version, region_met, met_record, walked, has_walked, walk_ledto, is_surely_own, safe_loaded, current_ledto, value_changed, told_value, answer_ledto, exclusive_ledto, old_ledto, append_ledto, exclusive_dropped, shared_dropped, latch_moved, walk_moved, trying_next, try_next}
 use Rattle.fkv_plane.specs.AsksLeft.{AsksWhereLeft}
 use Rattle.fkv_ops.proofs.WalkRests.{IsWalkUnderWay, walk_done, walk_begun_under_way, walk_rests, walk_found, walk_goes_on}
 use Rattle.fkv_ops.proofs.AppendRests.{IsAppendUnderWay, append_done, append_begun_under_way, append_rests, append_goes_on}
@@ -55,6 +57,7 @@ CanLoadOld t (Known old) = ⊤
 abbrev pub TryAsksAt : TryState → Trying → Type 0
 TryAsksAt t (Ended its) = ⊤
 TryAsksAt t TakesShared = 0 < asks_left t.latching
+TryAsksAt t LoadsPhase = ⊤
 TryAsksAt t Walks = IsWalkUnderWay t.walk
 TryAsksAt t (LoadsSafe addr version) = IsWalkUnderWay (walk_on t.walk)
 TryAsksAt t (SwapsValue addr) = ⊤
@@ -83,6 +86,7 @@ trying_done : (p : Places) (t : TryState) (step : Trying) → TryAsksAt t step �
 unfolding trying_ask
 trying_done p t (Ended its) at = refl
 trying_done p t TakesShared at = latch_asks t answer.Shift at
+trying_done p t LoadsPhase at = refl
 trying_done p t Walks at = walk_asks p t answer.Shift at
 trying_done p t (LoadsSafe addr version) at = refl
 trying_done p t (SwapsValue addr) at = refl
@@ -229,10 +233,25 @@ walked_rests p t (walk.Value its) value = ends_rest p t (answer.Wait reason.Cont
 walked_rests p t walk.Full value = ends_rest p t (full_at t.occasion answer.IndexFull)
 walked_rests p t walk.Contended value = ends_rest p t (answer.Wait reason.Contended)
 
+latch_shared_rests : (p : Places) (t : TryState) → TryRestsOrAsks (latch_shared p t)
+latch_shared_rests p t = tested (is_next_marked t.request.version)
+  where
+    tested : (b : Bool) → TryRestsOrAsks (if b then record t { step = LoadsPhase } else walks p t)
+    tested true = tt
+    tested false = walks_rest p t
+
+phase_loaded_rests : (p : Places) (t : TryState) (said : PhaseSaid) → TryRestsOrAsks (phase_loaded p t said)
+unfolding phase_loaded
+phase_loaded_rests p t said = tested (is_still_in said t.request.version)
+  where
+    tested : (b : Bool) → TryRestsOrAsks (if b then walks p t else ends p t answer.Shift)
+    tested true = walks_rest p t
+    tested false = ends_rest p t answer.Shift
+
 -- where the replies lead
 shared_led_rests : (p : Places) (t : TryState) (ask : Ask LatchAnswer) → t.step ≡ TakesShared → AsksWhereLeft (asks_left t.latching) ask → TryRestsOrAsks (shared_ledto p t ask)
 unfolding shared_ledto
-shared_led_rests p t (Done latch.Taken) at left = walks_rest p (record t { has_shared = true })
+shared_led_rests p t (Done latch.Taken) at left = latch_shared_rests p (record t { has_shared = true })
 shared_led_rests p t (Done its) at left = ends_rest p t answer.Shift
 shared_led_rests p t ask at left = rw at (left.0 refl)
 
@@ -252,9 +271,9 @@ walk_led_rests p t ask at some value = rw at (some refl)
 safe_loaded_rests : (p : Places) (t : TryState) (addr : Addr) (version : Version) (safe : ℕ) → IsWalkUnderWay (walk_on t.walk) → TryRestsOrAsks (safe_loaded p t addr version safe)
 safe_loaded_rests p t addr version safe value = tested (nat_le safe addr.0)
   where
-    tested : (b : Bool) → TryRestsOrAsks (if b then ends p t (answer.Wait reason.Fuzzy) else copies p t InMemory (is_own_version t version))
+    tested : (b : Bool) → TryRestsOrAsks (if b then ends p t (answer.Wait reason.Fuzzy) else copies p t InMemory (is_surely_own t version))
     tested true = ends_rest p t (answer.Wait reason.Fuzzy)
-    tested false = copies_rest p t InMemory (is_own_version t version) value
+    tested false = copies_rest p t InMemory (is_surely_own t version) value
 
 current_led_rests : (p : Places) (t : TryState) (addr : Addr) (ask : Ask WalkAnswer) → t.step ≡ LoadsCurrent addr → (is_done ask ≡ false → IsWalkUnderWay t.walk) → TryRestsOrAsks (current_ledto p t addr ask)
 unfolding current_ledto
@@ -317,6 +336,7 @@ trying_rests : (p : Places) (room : ℕ) (t : TryState) (step : Trying) (reply :
 unfolding trying_next
 trying_rests p room t (Ended its) reply at asks = rw at tt
 trying_rests p room t TakesShared reply at asks = shared_led_rests p (latch_moved t reply) (latch_next_ask t.latching reply) at (latch_next_left t.latching reply)
+trying_rests p room t LoadsPhase reply at asks = phase_loaded_rests p t (phase_said reply)
 trying_rests p room t Walks reply at asks =
     let its = walk_next p t.walk reply in
     walk_led_rests p (walk_moved p t reply) (walk_ask p its) at (walk_moves_on p t reply asks) (λ addr version found. walk_found p its addr version (walk_rests p t.walk reply asks.asks) found)

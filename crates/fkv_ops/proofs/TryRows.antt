@@ -20,15 +20,15 @@ use Rattle.fkv_ops.specs.declared.appending.Appending.{Appending}
 use Rattle.fkv_ops.specs.declared.trying.OldValue.{OldValue}
 use Rattle.fkv_ops.specs.declared.trying.OldValue.TheVariants.{InMemory, Known}
 use Rattle.fkv_ops.specs.declared.trying.Trying.{Trying}
-use Rattle.fkv_ops.specs.declared.trying.Trying.TheVariants.{Ended, TakesShared, Walks, LoadsSafe, SwapsValue, LoadsCurrent, ChangesValue, LoadsAnswer, TakesExclusive, LoadsOld, Appends, DropsExclusive, DropsShared}
+use Rattle.fkv_ops.specs.declared.trying.Trying.TheVariants.{Ended, TakesShared, LoadsPhase, Walks, LoadsSafe, SwapsValue, LoadsCurrent, ChangesValue, LoadsAnswer, TakesExclusive, LoadsOld, Appends, DropsExclusive, DropsShared}
 use Rattle.fkv_ops.specs.declared.walking.Walking.TheVariants.{HasFound as AtFound}
 use Rattle.fkv_ops.specs.Values.{value_of}
 use Rattle.fkv_ops.specs.Requests.{is_read, is_blind}
 use Rattle.fkv_ops.specs.Walking.{WalkState, walk_ask}
 use Rattle.fkv_ops.specs.Appending.{append_ask}
-use Rattle.fkv_ops.specs.Trying.{TryState, is_wait, with_latch, ended_without, ends, takes_effect, words_of}
+use Rattle.fkv_ops.specs.Trying.{TryState, is_wait, is_next_marked, with_latch, ended_without, ends, takes_effect, words_of}
 use Rattle.fkv_ops.specs.TryRun.{Trial, home_at, Told, reply_told}
-use Rattle.fkv_ops.specs.Reasons.{latch_place, Loaded, HasEntry, HasFound, needs_exclusive, OthersWentOn, IsTrue}
+use Rattle.fkv_ops.specs.Reasons.{latch_place, Loaded, HasEntry, HasFound, needs_exclusive, tells_own, OthersWentOn, IsTrue}
 use Rattle.fkv_ops.specs.Effects.{MayChange, MayCopy, IsMadeOf, HasSetBit, shares_latch, HasShared, MayStay}
 use Rattle.fkv_ops.proofs.Walked.{FoundKnows, WalkKnows, LoadsRecord}
 use Rattle.fkv_ops.proofs.Appended.{AppendKnows}
@@ -44,6 +44,8 @@ shares c = c.request.has_latch || shares_latch c
 pub record Under (c : Trial) (told : Told) (has_shared : Bool) : Type 0 where
   pub shared : has_shared ≡ shares c
   pub has_added : shares_latch c ≡ true → c.request.has_latch ≡ false → HasShared c told
+  -- where no record will tell that its session may stay, the phase word has, or the request came with its share
+  pub in_phase : is_next_marked c.request.version ≡ true → shares_latch c ≡ true → MayStay c told
 
 -- an update in prepare has seen that its session may stay
 abbrev pub Stays : Trial → Told → Type 0
@@ -77,7 +79,7 @@ pub record CopyRow (c : Trial) (told : Told) (w : WalkState) (is_current : Bool)
   pub version : Version
   pub found : FoundRow c told w addr version
   pub may : MayCopy c told addr.0 version.0
-  pub current : (version.0 == mark c.request.version.0) ≡ is_current
+  pub current : tells_own c version.0 ≡ is_current
 
 -- what a new record is to be made of
 abbrev pub OldRow : Trial → Told → WalkState → OldValue → Bool → Type 0
@@ -103,7 +105,7 @@ pub record OldKnows (c : Trial) (told : Told) (t : TryState) : Type 0 where
   pub version : ℕ
   pub found : HasFound c told t.walk.place t.walk.entry addr.0 version
   pub may : MayCopy c told addr.0 version
-  pub alone : Alone c told (version == mark c.request.version.0)
+  pub alone : Alone c told (tells_own c version)
   pub loads : LoadsRecord t.walk addr
 
 pub record AppendsKnow (c : Trial) (told : Told) (t : TryState) (its : Reply) : Type 0 where
@@ -140,6 +142,13 @@ pub record ShareKnows (c : Trial) (told : Told) (t : TryState) : Type 0 where
   pub has_none : c.request.has_latch ≡ false
   pub its_latching : ShareRow c told t.latching
 
+pub record PhaseKnows (c : Trial) (told : Told) (t : TryState) : Type 0 where
+  pub not_alone : t.has_exclusive ≡ false
+  pub shared : t.has_shared ≡ true
+  pub wants : shares_latch c ≡ true
+  pub added : HasShared c told
+  pub marked : is_next_marked c.request.version ≡ true
+
 pub record WalksKnow (c : Trial) (told : Told) (t : TryState) : Type 0 where
   pub not_alone : t.has_exclusive ≡ false
   pub under : Under c told t.has_shared
@@ -165,6 +174,7 @@ pub record UnshareKnows (c : Trial) (told : Told) (t : TryState) (its : TryAnswe
 abbrev pub TryRow : Trial → Told → TryState → Trying → Type 0
 TryRow c told t (Ended its) = EndKnows c told t its
 TryRow c told t TakesShared = ShareKnows c told t
+TryRow c told t LoadsPhase = PhaseKnows c told t
 TryRow c told t Walks = WalksKnow c told t
 TryRow c told t (LoadsSafe addr version) = SafeKnows c told t addr version
 TryRow c told t (SwapsValue addr) = Updates c told t × MayChange c told addr.0 × (is_blind c.request.op ≡ true)

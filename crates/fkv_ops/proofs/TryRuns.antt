@@ -14,13 +14,13 @@ use Rattle.fkv_latch.specs.Latching.{latch_ask}
 use Rattle.fkv_ops.specs.declared.answers.TryAnswer.{TryAnswer}
 use Rattle.fkv_ops.specs.declared.answers.TryAnswer.TheVariants as answer
 use Rattle.fkv_ops.specs.declared.trying.Trying.{Trying}
-use Rattle.fkv_ops.specs.declared.trying.Trying.TheVariants.{Ended, TakesShared, Walks, LoadsSafe, SwapsValue, LoadsCurrent, ChangesValue, LoadsAnswer, TakesExclusive, LoadsOld, Appends, DropsExclusive, DropsShared}
+use Rattle.fkv_ops.specs.declared.trying.Trying.TheVariants.{Ended, TakesShared, LoadsPhase, Walks, LoadsSafe, SwapsValue, LoadsCurrent, ChangesValue, LoadsAnswer, TakesExclusive, LoadsOld, Appends, DropsExclusive, DropsShared}
 use Rattle.fkv_ops.specs.Walking.{walk_ask}
 use Rattle.fkv_ops.specs.Appending.{append_ask}
 use Rattle.fkv_ops.specs.Trying.{TryState, new_try, trying_ask, try_ask, trying_next, try_next, with_latch, walks}
 use Rattle.fkv_ops.specs.TryRun.{Trial, trial_begun, try_run, Told, told_by, with_effect, effects_of}
 use Rattle.fkv_ops.specs.Reasons.{latch_place, IsTrue, EachIsTrue}
-use Rattle.fkv_ops.specs.Effects.{EffectsAreOnce, LatchesAreKept, shares_latch}
+use Rattle.fkv_ops.specs.Effects.{EffectsAreOnce, LatchesAreKept, shares_latch, WithLatch}
 use Rattle.fkv_ops.proofs.BoolTests.{both}
 use Rattle.fkv_ops.proofs.Walked.{loads_asks}
 use Rattle.fkv_ops.proofs.TryRows.{norm, Owed, ShareRow, AloneRow, TryRow, told_at, Comes}
@@ -56,6 +56,11 @@ begun_true c told spare = by_share (shares_latch c && not c.request.has_latch) r
     wanted false true e f g = cc
     wanted false false e f g = cc
 
+    came_with : (a b : Bool) → (b && not a) ≡ false → b ≡ true → a ≡ true
+    came_with true b e f = refl
+    came_with false true e f = cc
+    came_with false false e f = cc
+
     of_shares : ℕ → Owed
     of_shares n = record { shares = n; bits = 0 }
 
@@ -67,12 +72,13 @@ begun_true c told spare = by_share (shares_latch c && not c.request.has_latch) r
         let split = both (shares_latch c) (not c.request.has_latch) e in
         let not_shared : c.request.has_latch ≡ false = negated c.request.has_latch split.1 in
         record { same = refl; owes = ap of_shares (none_given (bit_of c.request.has_latch)); its_effect = refl; its_told = refl; row = record { not_alone = refl; not_shared = not_shared; wants = split.0; has_none = negated c.request.has_latch split.1; its_latching = refl } }
-    by_share false e = walks_true c told first refl refl (record { shared = kept c.request.has_latch (shares_latch c) e; has_added = λ wants none. absurd (wanted c.request.has_latch (shares_latch c) e wants none) })
+    by_share false e = walks_true c told first refl refl (record { shared = kept c.request.has_latch (shares_latch c) e; has_added = λ wants none. absurd (wanted c.request.has_latch (shares_latch c) e wants none); in_phase = λ marked wants. WithLatch marked (came_with c.request.has_latch (shares_latch c) e wants) })
 
 ask_same : (p : Places) (t : TryState) (step : Trying) → trying_ask p (record t { effect = None }) step ≡ trying_ask p t step
 unfolding trying_ask
 ask_same p t (Ended its) = refl
 ask_same p t TakesShared = refl
+ask_same p t LoadsPhase = refl
 ask_same p t Walks = refl
 ask_same p t (LoadsSafe addr version) = refl
 ask_same p t (SwapsValue addr) = refl
@@ -141,6 +147,7 @@ row_ended : (c : Trial) (told : Told) (t : TryState) (step : Trying) (its : TryA
 unfolding trying_ask
 row_ended c told t (Ended it) its row e = cc
 row_ended c told t TakesShared its row e = absurd (not_passed (latch_ask t.latching) answer.Shift its (share_asks c told t.latching row.its_latching) e)
+row_ended c told t LoadsPhase its row e = cc
 row_ended c told t Walks its row e = absurd (not_passed (walk_ask c.places t.walk) answer.Shift its row.asks e)
 row_ended c told t (LoadsSafe addr version) its row e = cc
 row_ended c told t (SwapsValue addr) its row e = cc

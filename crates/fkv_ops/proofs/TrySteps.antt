@@ -7,10 +7,12 @@ use Rattle.fkv_words.specs.Fields.{bit_of}
 use Rattle.fkv_map.specs.declared.operations.Reply.{Reply}
 use Rattle.fkv_map.specs.Map.{absent_word}
 use Rattle.fkv_map.specs.Keys.{reply_from, value_applied}
+use Rattle.fkv_words.specs.PhaseWords.{phase_said}
 use Rattle.fkv_plane.specs.declared.asks.Ask.{Ask}
 use Rattle.fkv_plane.specs.declared.asks.Ask.TheVariants.{Load, Cas, Add, Done}
 use Rattle.fkv_plane.specs.declared.places.RecordWord.TheVariants as rec
-use Rattle.fkv_plane.specs.Places.{record_place}
+use Rattle.fkv_plane.specs.declared.places.SharedWord.TheVariants as one
+use Rattle.fkv_plane.specs.Places.{shared_place, record_place}
 use Rattle.fkv_plane.specs.Passing.{passed, is_done}
 use Rattle.fkv_latch.specs.declared.latching.LatchAnswer.TheVariants as latch
 use Rattle.fkv_latch.specs.declared.latching.Latching.{Latching}
@@ -25,20 +27,20 @@ use Rattle.fkv_ops.specs.declared.appending.Appending.{Appending}
 use Rattle.fkv_ops.specs.declared.trying.OldValue.{OldValue}
 use Rattle.fkv_ops.specs.declared.trying.OldValue.TheVariants.{InMemory, Known}
 use Rattle.fkv_ops.specs.declared.trying.Trying.{Trying}
-use Rattle.fkv_ops.specs.declared.trying.Trying.TheVariants.{Ended, TakesShared, Walks, LoadsSafe, SwapsValue, LoadsCurrent, ChangesValue, LoadsAnswer, TakesExclusive, LoadsOld, Appends, DropsExclusive, DropsShared}
+use Rattle.fkv_ops.specs.declared.trying.Trying.TheVariants.{Ended, TakesShared, LoadsPhase, Walks, LoadsSafe, SwapsValue, LoadsCurrent, ChangesValue, LoadsAnswer, TakesExclusive, LoadsOld, Appends, DropsExclusive, DropsShared}
 use Rattle.fkv_ops.specs.declared.walking.WalkAnswer.TheVariants as walk
 use Rattle.fkv_ops.specs.Values.{value_of, word_of}
 use Rattle.fkv_ops.specs.Requests.{is_read}
 use Rattle.fkv_ops.specs.Walking.{WalkState, walk_ask, walk_next}
 use Rattle.fkv_ops.specs.Appending.{append_ask, append_next}
-use Rattle.fkv_ops.specs.Trying.{TryState, trying_ask, is_wait, is_prepare, is_moving_on, ends, takes_effect, walks, shared_ledto, current_ledto, value_changed, told_value, answer_ledto, exclusive_ledto, old_ledto, append_ledto, exclusive_dropped, shared_dropped, trying_next, words_of}
+use Rattle.fkv_ops.specs.Trying.{TryState, trying_ask, is_wait, is_prepare, is_moving_on, is_marked, is_next_marked, is_still_in, ends, takes_effect, walks, latch_shared, shared_ledto, phase_loaded, current_ledto, value_changed, told_value, answer_ledto, exclusive_ledto, old_ledto, append_ledto, exclusive_dropped, shared_dropped, trying_next, words_of}
 use Rattle.fkv_ops.specs.TryRun.{Trial, home_at, Told, reply_told}
-use Rattle.fkv_ops.specs.Reasons.{latch_place, Loaded, HasEntry, Held, Quicker, HasMetLatch, needs_exclusive, HasNoneOfVersion, FoundAnother, FoundNone, FoundBelow, OthersWentOn, ByLatch, HasValue, ValueLost, IsTrue}
-use Rattle.fkv_ops.specs.Effects.{MayChange, IsMadeOf, OfRecord, OfNone, OfAny, OfHeld, OfNoneBehind, IsLoaded, shares_latch}
+use Rattle.fkv_ops.specs.Reasons.{latch_place, Loaded, HasEntry, HasFound, Held, Quicker, HasMetLatch, needs_exclusive, tells_own, HasNoneOfVersion, FoundMarked, FoundAnother, FoundNone, FoundBelow, OthersWentOn, ByLatch, ByWord, HasValue, ValueLost, IsTrue}
+use Rattle.fkv_ops.specs.Effects.{MayChange, IsMadeOf, OfRecord, OfNone, OfAny, OfHeld, OfNoneBehind, IsLoaded, shares_latch, HasShared, OnWord}
 use Rattle.fkv_ops.proofs.BoolTests.{lt_true, lt_false, le_true, le_false, eq_true, eq_false, both}
 use Rattle.fkv_ops.proofs.Walked.{walk_true, walk_begun_true, walk_begun_asks, loads_place, loads_value, loads_same}
 use Rattle.fkv_ops.proofs.Appended.{AppendKnows, append_true, append_answers}
-use Rattle.fkv_ops.proofs.TryRows.{norm, shares, Owed, latch_held, owed_at, Under, Updates, ShareRow, AloneRow, OldRow, Alone, TryRow, told_at, Comes, ended_without_true, ends_true, takes_effect_true}
+use Rattle.fkv_ops.proofs.TryRows.{norm, shares, Owed, latch_held, owed_at, Under, Updates, ShareRow, AloneRow, OldRow, Alone, PhaseKnows, TryRow, told_at, Comes, ended_without_true, ends_true, takes_effect_true}
 use Rattle.fkv_ops.proofs.Copied.{appends_true, copies_from_true}
 use Rattle.fkv_ops.proofs.Tried.{quiet_end, full_true, walk_led_true, safe_true}
 
@@ -95,6 +97,26 @@ shift_true c told t quiet wants others =
     subst (λ e. Comes c told e [] (latch_held t) (ends c.places (norm c t) answer.Shift)) quiet
     (ends_true c told t answer.Shift (record { in_prepare = split.0; update = negated (is_read c.request.op) split.1; others = others }) (λ waits. cc))
 
+no : false ≡ true → ⊥
+no e = cc
+
+-- the latch is shared: the walk begins, or the phase word is loaded before
+latch_shared_true : (c : Trial) (told : Told) (t : TryState) → t.effect ≡ None → t.has_exclusive ≡ false → t.has_shared ≡ true → shares_latch c ≡ true → HasShared c told → Comes c told None [] (latch_held t) (latch_shared c.places (norm c t))
+latch_shared_true c told t quiet not_alone shared wants added = by_mark (is_next_marked c.request.version) refl
+  where
+    by_mark : (b : Bool) → is_next_marked c.request.version ≡ b → Comes c told None [] (latch_held t) (if b then record (norm c t) { step = LoadsPhase } else walks c.places (norm c t))
+    by_mark true e = record { same = refl; owes = refl; its_effect = quiet; its_told = refl; row = record { not_alone = not_alone; shared = shared; wants = wants; added = added; marked = e } }
+    by_mark false e = walks_true c told t quiet not_alone (record { shared = shared ∙ or_right c.request.has_latch (shares_latch c) wants; has_added = λ w n. added; in_phase = λ marked w. absurd (no (sym e ∙ marked)) })
+
+phase_true : (c : Trial) (told : Told) (t : TryState) (reply : ℕ) → t.effect ≡ None → PhaseKnows c told t → Loaded told (shared_place one.Phase) reply → Comes c told None [] (latch_held t) (phase_loaded c.places (norm c t) (phase_said reply))
+unfolding phase_loaded
+phase_true c told t reply quiet knows was = by_word (is_still_in (phase_said reply) c.request.version) refl
+  where
+    by_word : (b : Bool) → is_still_in (phase_said reply) c.request.version ≡ b → Comes c told None [] (latch_held t) (if b then walks c.places (norm c t) else ends c.places (norm c t) answer.Shift)
+    by_word true e = walks_true c told t quiet knows.not_alone
+        (record { shared = knows.shared ∙ or_right c.request.has_latch (shares_latch c) knows.wants; has_added = λ w n. knows.added; in_phase = λ marked w. OnWord reply marked was e })
+    by_word false e = shift_true c told t quiet knows.wants (ByWord reply knows.marked was e)
+
 shared_true : (c : Trial) (told : Told) (t : TryState) (step : Latching) (reply : ℕ) → t.latching ≡ latch_next step reply → t.effect ≡ None → t.has_exclusive ≡ false → t.has_shared ≡ false → t.step ≡ TakesShared → shares_latch c ≡ true
     → c.request.has_latch ≡ false → ShareRow c told step → told (passed (latch_ask step) answer.Shift) reply
     → Comes c told None [] (record { shares = shared_by step; bits = bit_of t.has_exclusive }) (shared_ledto c.places (norm c t) (latch_next_ask step reply))
@@ -119,22 +141,29 @@ shared_true c told t (latching.AddsShare place) reply next quiet not_alone not_s
     by_word : (b : Bool) → is_exclusive reply ≡ b
         → Comes c told None [] (record { shares = 1; bits = bit_of t.has_exclusive }) (shared_ledto c.places (norm c t) (if b then latch_ask (latching.GivesBack place) else Done latch.Taken))
     by_word true e = stays (next ∙ rw e refl) (le_true exclusive_bit reply e)
-    by_word false e = walks_true c told (record t { has_shared = true }) quiet not_alone
-        (record { shared = or_right c.request.has_latch (shares_latch c) wants; has_added = λ w n. record { word = reply; its_add = its_add; not_alone = le_false exclusive_bit reply e } })
+    by_word false e = latch_shared_true c told (record t { has_shared = true }) quiet not_alone refl wants (record { word = reply; its_add = its_add; not_alone = le_false exclusive_bit reply e })
 shared_true c told t (latching.GivesBack place) reply next quiet not_alone not_shared at wants has_none row was =
     owing c told (latch_held t) (record { shares = 0; bits = bit_of t.has_exclusive }) (ends c.places (norm c t) answer.Shift) (ap (λ b. record { shares = bit_of b; bits = bit_of t.has_exclusive }) not_shared) (shift_true c told t quiet wants row.1)
 shared_true c told t step reply next quiet not_alone not_shared at wants has_none row was = absurd row
 
+-- a mark that doesn't tell it is another one, or one that older versions have too
+not_told : (c : Trial) (told : Told) {place entry addr : ℕ} (version : ℕ) → HasFound c told place entry addr version → tells_own c version ≡ false → HasNoneOfVersion c told
+not_told c told version found = by_mark (is_marked c.request.version) refl
+  where
+    by_mark : (b : Bool) → is_marked c.request.version ≡ b → (not b && version == mark c.request.version.0) ≡ false → HasNoneOfVersion c told
+    by_mark true e own = FoundMarked found e
+    by_mark false e own = FoundAnother found (eq_false version (mark c.request.version.0) own)
+
 -- what is made of no record of the request's version
 made_of_none : (c : Trial) (told : Told) (place entry : ℕ) (old : Option ℕ) (is_current : Bool) → IsMadeOf c told place entry old is_current → is_current ≡ false → HasNoneOfVersion c told
-made_of_none c told place entry old is_current (OfRecord {version = version} found may its_old) e = FoundAnother found (eq_false version (mark c.request.version.0) e)
+made_of_none c told place entry old is_current (OfRecord {version = version} found may its_old) e = not_told c told version found e
 made_of_none c told place entry old is_current (OfNone walks) e = FoundNone walks
 made_of_none c told place entry old is_current (OfAny leaves blind) e = FoundBelow leaves
 made_of_none c told place entry old is_current (OfHeld holds same its_key) e = FoundBelow holds.leaves
 made_of_none c told place entry old is_current (OfNoneBehind holds same other none) e = FoundBelow holds.leaves
 
 none_of_version : (c : Trial) (told : Told) (w : WalkState) (old : OldValue) (is_current : Bool) → OldRow c told w old is_current → is_current ≡ false → HasNoneOfVersion c told
-none_of_version c told w InMemory is_current row e = FoundAnother row.found.its.its_record (eq_false row.version.0 (mark c.request.version.0) (row.current ∙ e))
+none_of_version c told w InMemory is_current row e = not_told c told row.version.0 row.found.its.its_record (row.current ∙ e)
 none_of_version c told w (Known word) is_current row e = made_of_none c told w.place w.entry (value_of word) is_current row e
 
 waits_for_latch : (c : Trial) (told : Told) (t : TryState) (old : OldValue) (is_current : Bool) → Updates c told t → OldRow c told t.walk old is_current → needs_exclusive c is_current ≡ true → HasMetLatch c told → IsTrue c told (answer.Wait reason.Latch)
@@ -265,6 +294,8 @@ unfolding trying_ask trying_next
 row_true c told t (Ended its) reply at row was = Quietly (record { same = refl; owes = ap (owed_at t) at; its_effect = refl; its_told = ap told_at at; row = subst (TryRow c told (quieted c t)) (sym at) (record { truth = row.truth; not_alone = row.not_alone; shared = row.shared }) })
 row_true c told t TakesShared reply at row was =
     Quietly (shared_true c told (record t { effect = None; latching = latch_next t.latching reply }) t.latching reply refl refl row.not_alone row.not_shared at row.wants row.has_none row.its_latching was)
+row_true c told t LoadsPhase reply at row was =
+    Quietly (phase_true c told (record t { effect = None }) reply refl (record { not_alone = row.not_alone; shared = row.shared; wants = row.wants; added = row.added; marked = row.marked }) was)
 row_true c told t Walks reply at row was =
     Quietly (walk_led_true c told (record t { effect = None; walk = walk_next c.places t.walk reply }) (walk_ask c.places (walk_next c.places t.walk reply)) refl row.not_alone at row.under (walk_true c told t.walk reply row.walks was) refl)
 row_true c told t (LoadsSafe addr version) reply at row was =
@@ -283,15 +314,15 @@ row_true c told t (TakesExclusive old) reply at row was =
     Quietly (alone_true c told (record t { effect = None; latching = latch_next t.latching reply }) old t.latching reply row.is_current refl refl row.not_alone at (record { under = row.updates.under; update = row.updates.update; stays = row.updates.stays }) row.slot row.its_old row.need row.its_latching was)
 row_true c told t LoadsOld reply at row was =
     Quietly (subst (λ ask. Comes c told None [] (latch_held t) (old_ledto c.places (norm c (record t { effect = None; walk = walk_next c.places t.walk reply })) ask)) (sym (loads_value c.places t.walk row.addr reply row.loads))
-    (old_true c told (record t { effect = None; walk = walk_next c.places t.walk reply }) reply (row.version == mark c.request.version.0) refl (record { under = row.updates.under; update = row.updates.update; stays = row.updates.stays })
+    (old_true c told (record t { effect = None; walk = walk_next c.places t.walk reply }) reply (tells_own c row.version) refl (record { under = row.updates.under; update = row.updates.update; stays = row.updates.stays })
     (subst (λ p. HasEntry c told p (walk_next c.places t.walk reply).entry) (sym same.0) (subst (λ e. HasEntry c told t.walk.place e) (sym same.1) row.found.walk.slot))
-    (subst (λ p. IsMadeOf c told p (walk_next c.places t.walk reply).entry (value_of reply) (row.version == mark c.request.version.0)) (sym same.0)
-    (subst (λ e. IsMadeOf c told t.walk.place e (value_of reply) (row.version == mark c.request.version.0)) (sym same.1) made)) row.alone))
+    (subst (λ p. IsMadeOf c told p (walk_next c.places t.walk reply).entry (value_of reply) (tells_own c row.version)) (sym same.0)
+    (subst (λ e. IsMadeOf c told t.walk.place e (value_of reply) (tells_own c row.version)) (sym same.1) made)) row.alone))
   where
     same : ((walk_next c.places t.walk reply).place ≡ t.walk.place) × ((walk_next c.places t.walk reply).entry ≡ t.walk.entry)
     same = loads_same c.places t.walk row.addr reply row.loads
 
-    made : IsMadeOf c told t.walk.place t.walk.entry (value_of reply) (row.version == mark c.request.version.0)
+    made : IsMadeOf c told t.walk.place t.walk.entry (value_of reply) (tells_own c row.version)
     made = OfRecord row.found row.may (IsLoaded reply (subst (λ a. told a reply) (loads_place c.places t.walk row.addr row.loads) was))
 row_true c told t (Appends its) reply at row was =
     append_led_true c told (record t { effect = None; append = append_next c.places c.room t.append reply }) its row.place row.entry row.old row.is_current t.append.step (append_ask c.places (append_next c.places c.room t.append reply)) refl at

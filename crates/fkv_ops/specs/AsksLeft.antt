@@ -63,9 +63,14 @@ most_copy_asks p t = 2 + walk_asks_left p (walk_on t.walk) + most_append_asks
 abbrev pub most_asks_behind_walk : ℕ
 most_asks_behind_walk = 1 + (2 + 2 + most_append_asks)
 
+-- behind the share one ask may load the phase word, and the walk comes then
+abbrev pub most_asks_behind_share : Places → ℕ
+most_asks_behind_share p = 1 + (most_walk_asks p + most_asks_behind_walk)
+
 unfoldable pub trying_asks_left : Places → TryState → Trying → ℕ
 trying_asks_left p t (try.Ended its) = 0
-trying_asks_left p t try.TakesShared = sum_left (latch_asks_left t.latching) (most_walk_asks p + most_asks_behind_walk)
+trying_asks_left p t try.TakesShared = sum_left (latch_asks_left t.latching) (most_asks_behind_share p)
+trying_asks_left p t try.LoadsPhase = most_asks_behind_share p
 trying_asks_left p t try.Walks = sum_left (walk_asks_left p t.walk) most_asks_behind_walk
 trying_asks_left p t (try.LoadsSafe addr version) = 1 + most_copy_asks p t
 trying_asks_left p t (try.SwapsValue addr) = 1 + most_drop_asks

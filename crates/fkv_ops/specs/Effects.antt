@@ -6,6 +6,7 @@ use Rattle.fkv_map.specs.declared.operations.Op.{Op}
 use Rattle.fkv_map.specs.declared.operations.Op.TheVariants.{Read}
 use Rattle.fkv_map.specs.declared.operations.Reply.{Reply}
 use Rattle.fkv_map.specs.Keys.{key_of, value_applied, reply_from}
+use Rattle.fkv_words.specs.PhaseWords.{phase_said}
 use Rattle.fkv_plane.specs.declared.asks.Ask.{Ask}
 use Rattle.fkv_plane.specs.declared.asks.Ask.TheVariants.{Swap, Cas, Add, Done}
 use Rattle.fkv_plane.specs.declared.places.SharedWord.TheVariants as one
@@ -19,9 +20,9 @@ use Rattle.fkv_ops.specs.declared.requests.HeldRecord.{HeldRecord}
 use Rattle.fkv_ops.specs.Values.{value_of, word_of}
 use Rattle.fkv_ops.specs.HeaderWords.{version_in}
 use Rattle.fkv_ops.specs.Requests.{is_read, is_blind}
-use Rattle.fkv_ops.specs.Trying.{is_prepare, is_wait, TryState, try_ask}
+use Rattle.fkv_ops.specs.Trying.{is_prepare, is_wait, is_next_marked, is_still_in, TryState, try_ask}
 use Rattle.fkv_ops.specs.TryRun.{Trial, home_at, try_run, trial_begun, Told, told_by, effects_of, reply_told}
-use Rattle.fkv_ops.specs.Reasons.{latch_place, Loaded, IsStored, Won, HasEntry, WalksTo, HasFound, LeavesMemory, HoldsFrom, needs_exclusive}
+use Rattle.fkv_ops.specs.Reasons.{latch_place, Loaded, IsStored, Won, HasEntry, WalksTo, HasFound, LeavesMemory, HoldsFrom, needs_exclusive, tells_own}
 
 -- a record with the mark of the request's version, at or above the read-only offset that the session has seen: such a one is changed in place
 pub record MayChange (c : Trial) (told : Told) (addr : ℕ) : Type 0 where
@@ -40,11 +41,11 @@ pub data IsOld (c : Trial) (told : Told) (addr : ℕ) : Option ℕ → Type 0 wh
   CountsNot : {old : Option ℕ} → is_blind c.request.op ≡ true → IsOld c told addr old
   IsLoaded : (word : ℕ) → Loaded told (record_place c.places addr rec.Value) word → IsOld c told addr (value_of word)
 
--- What a new record is made of, and whether the walk found a record with the mark of the request's version: a record in memory that may be copied, none
+-- What a new record is made of, and whether the walk found a record that is surely of the request's version: a record in memory that may be copied, none
 -- where the chain ends, any below the head where the old value doesn't count, and else the one that the request holds.
 pub data IsMadeOf (c : Trial) (told : Told) (place entry : ℕ) : Option ℕ → Bool → Type 0 where
   OfRecord : {addr version : ℕ} {old : Option ℕ} → HasFound c told place entry addr version → MayCopy c told addr version → IsOld c told addr old
-      → IsMadeOf c told place entry old (version == mark c.request.version.0)
+      → IsMadeOf c told place entry old (tells_own c version)
   OfNone : WalksTo c told place entry 0 → IsMadeOf c told place entry None false
   OfAny : {addr : ℕ} → LeavesMemory c told place entry addr → is_blind c.request.op ≡ true → IsMadeOf c told place entry None false
   OfHeld : {held : HeldRecord} → HoldsFrom c told place held → held.entry ≡ entry → held.key.0 ≡ (key_of c.request.op).0 → IsMadeOf c told place entry (value_of held.value) false
@@ -139,11 +140,18 @@ pub data FirstIsNotAbove (c : Trial) (told : Told) (entry : ℕ) : Type 0 where
   FirstBelowHead : entry_addr entry < c.seen.offsets.head.0 → FirstIsNotAbove c told entry
   FirstNowhere : entry_addr entry ≡ 0 → FirstIsNotAbove c told entry
 
-pub record MayStay (c : Trial) (told : Told) : Type 0 where
+pub record SeesNoneAbove (c : Trial) (told : Told) : Type 0 where
   pub place : ℕ
   pub entry : ℕ
   pub slot : HasEntry c told place entry
   pub its_first : FirstIsNotAbove c told entry
+
+-- Where the next version's mark isn't above, no record tells. Then the phase word was loaded, and said prepare of the request's version; or the
+-- request came with its share.
+pub data MayStay (c : Trial) (told : Told) : Type 0 where
+  BySight : SeesNoneAbove c told → MayStay c told
+  OnWord : (word : ℕ) → is_next_marked c.request.version ≡ true → Loaded told (shared_place one.Phase) word → is_still_in (phase_said word) c.request.version ≡ true → MayStay c told
+  WithLatch : is_next_marked c.request.version ≡ true → c.request.has_latch ≡ true → MayStay c told
 
 -- an update in prepare makes its effect only where it has seen that its session may stay at its version
 abbrev pub EachMayStay : Type 0

@@ -3,6 +3,7 @@ use Rattle.std.specs.Prelude.{◌≡◌, ◌≢◌, ℕ, ◌+◌, ◌*◌, ◌^�
 use Rattle.fkv_marks.specs.Marks.{mark}
 use Rattle.fkv_map.specs.Map.{absent_word}
 use Rattle.fkv_map.specs.Keys.{key_of, value_applied}
+use Rattle.fkv_words.specs.PhaseWords.{phase_said}
 use Rattle.fkv_plane.specs.declared.asks.Ask.TheVariants.{Load, Store, Cas, Add, Done}
 use Rattle.fkv_plane.specs.declared.places.SharedWord.TheVariants as one
 use Rattle.fkv_plane.specs.declared.places.RecordWord.TheVariants as rec
@@ -20,7 +21,7 @@ use Rattle.fkv_ops.specs.declared.requests.Occasion.TheVariants.{Call, Poll}
 use Rattle.fkv_ops.specs.Values.{value_of, word_of}
 use Rattle.fkv_ops.specs.Requests.{is_read, is_blind}
 use Rattle.fkv_ops.specs.HeaderWords.{previous_in, version_in, is_header}
-use Rattle.fkv_ops.specs.Trying.{is_prepare, is_moving_on, try_ask}
+use Rattle.fkv_ops.specs.Trying.{is_prepare, is_moving_on, is_marked, is_next_marked, is_still_in, try_ask}
 use Rattle.fkv_ops.specs.TryRun.{Trial, home_at, try_run, trial_begun, Told, told_by}
 
 -- the eighth word of the key's bucket, which has its latch
@@ -159,8 +160,14 @@ pub data HasMetLatch (c : Trial) (told : Told) : Type 0 where
 abbrev pub needs_exclusive : Trial → Bool → Bool
 needs_exclusive c is_current = is_moving_on c.seen.phase && c.request.version.0 == c.seen.version.0 && not is_current
 
--- the walk found no record with the mark of the request's version: one with another mark, or none, or it left memory
+-- by this mark a record is of the request's version wherever it lies: no older version has it
+abbrev pub tells_own : Trial → ℕ → Bool
+tells_own c version = not (is_marked c.request.version) && version == mark c.request.version.0
+
+-- the walk found no record that is surely of the request's version: one with another mark, or with one that older versions have too, or none,
+-- or it left memory
 pub data HasNoneOfVersion (c : Trial) (told : Told) : Type 0 where
+  FoundMarked : {place entry addr version : ℕ} → HasFound c told place entry addr version → is_marked c.request.version ≡ true → HasNoneOfVersion c told
   FoundAnother : {place entry addr version : ℕ} → HasFound c told place entry addr version → version ≢ mark c.request.version.0 → HasNoneOfVersion c told
   FoundNone : {place entry : ℕ} → WalksTo c told place entry 0 → HasNoneOfVersion c told
   FoundBelow : {place entry addr : ℕ} → LeavesMemory c told place entry addr → HasNoneOfVersion c told
@@ -186,11 +193,13 @@ pub record IsIndexFull (c : Trial) (told : Told) : Type 0 where
   pub its_count : Loaded told (shared_place one.Taken) taken
   pub all : c.places.overflow ≤ taken
 
--- another session has gone on to the next version: it holds the latch alone, or the first record of the chain has a later mark
+-- Another session has gone on to the next version: it holds the latch alone, or the first record of the chain has a later mark. Where the next
+-- version's mark isn't above, the phase word tells: it says prepare of the request's version no more
 pub data OthersWentOn (c : Trial) (told : Told) : Type 0 where
   ByLatch : (word : ℕ) → told (Add (latch_place c) one_share) word → exclusive_bit ≤ word → OthersWentOn c told
   ByRecord : {place entry : ℕ} (header : ℕ) → HasEntry c told place entry → Loaded told (record_place c.places (entry_addr entry) rec.Header) header
       → mark c.request.version.0 < version_in header → OthersWentOn c told
+  ByWord : (word : ℕ) → is_next_marked c.request.version ≡ true → Loaded told (shared_place one.Phase) word → is_still_in (phase_said word) c.request.version ≡ false → OthersWentOn c told
 
 pub record MustShift (c : Trial) (told : Told) : Type 0 where
   pub in_prepare : is_prepare c.seen.phase ≡ true

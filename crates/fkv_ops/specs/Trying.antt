@@ -11,6 +11,9 @@ use Rattle.fkv_map.specs.declared.operations.Reply.{Reply}
 use Rattle.fkv_map.specs.Map.{absent_word}
 use Rattle.fkv_map.specs.Keys.{key_of, value_applied, reply_from}
 use Rattle.fkv_words.specs.declared.headers.Header.{Header}
+use Rattle.fkv_words.specs.declared.phase_words.PhaseSaid.{PhaseSaid}
+use Rattle.fkv_words.specs.declared.phase_words.PhaseSaid.TheVariants.{Says}
+use Rattle.fkv_words.specs.PhaseWords.{phase_said}
 use Rattle.fkv_plane.specs.declared.asks.Ask.{Ask}
 use Rattle.fkv_plane.specs.declared.asks.Ask.TheVariants.{Load, Swap, Cas, Done}
 use Rattle.fkv_plane.specs.declared.places.Places.{Places}
@@ -44,7 +47,7 @@ use Rattle.fkv_ops.specs.declared.requests.Seen.{Seen}
 use Rattle.fkv_ops.specs.declared.trying.OldValue.{OldValue}
 use Rattle.fkv_ops.specs.declared.trying.OldValue.TheVariants.{InMemory, Known}
 use Rattle.fkv_ops.specs.declared.trying.Trying.{Trying}
-use Rattle.fkv_ops.specs.declared.trying.Trying.TheVariants.{Ended, TakesShared, Walks, LoadsSafe, SwapsValue, LoadsCurrent, ChangesValue, LoadsAnswer, TakesExclusive, LoadsOld, Appends, DropsExclusive, DropsShared}
+use Rattle.fkv_ops.specs.declared.trying.Trying.TheVariants.{Ended, TakesShared, LoadsPhase, Walks, LoadsSafe, SwapsValue, LoadsCurrent, ChangesValue, LoadsAnswer, TakesExclusive, LoadsOld, Appends, DropsExclusive, DropsShared}
 use Rattle.fkv_ops.specs.declared.walking.WalkAnswer.{WalkAnswer}
 use Rattle.fkv_ops.specs.declared.walking.WalkAnswer.TheVariants as walk
 use Rattle.fkv_ops.specs.Values.{value_of, word_of}
@@ -90,6 +93,7 @@ try_rested bits = new_try bits no_request nothing_seen Call 0
 unfoldable pub trying_ask : Places → TryState → Trying → Ask TryAnswer
 trying_ask p t (Ended its) = Done its
 trying_ask p t TakesShared = passed (latch_ask t.latching) answer.Shift
+trying_ask p t LoadsPhase = Load (shared_place one.Phase)
 trying_ask p t Walks = passed (walk_ask p t.walk) answer.Shift
 trying_ask p t (LoadsSafe addr version) = Load (shared_place one.SafeReadOnly)
 trying_ask p t (SwapsValue addr) = Swap (record_place p addr.0 rec.Value) (word_of (value_applied None t.request.op))
@@ -153,11 +157,33 @@ try_begun p bits request seen occasion spare =
     let its : TryState = new_try bits request seen occasion spare in
     if wants_shared its then with_latch p its TakeShared TakesShared else walks p its
 
+-- past the versions with marks of their own an older version has the mark too
+abbrev pub is_marked : Version → Bool
+is_marked version = nat_lt 8191 version.0
+
+-- and so it is with the next version: its mark isn't above this one's
+abbrev pub is_next_marked : Version → Bool
+is_next_marked version = nat_le 8191 version.0
+
+-- The latch is shared. Where the mark of a record doesn't tell whether others have gone on, the phase word is loaded before the walk: it tells, and
+-- from then on the share keeps them from making a record of the next version in this bucket.
+abbrev pub latch_shared : Places → TryState → TryState
+latch_shared p t = if is_next_marked t.request.version then record t { step = LoadsPhase } else walks p t
+
 -- one that holds the latch alone is of the next version already
 unfoldable pub shared_ledto : Places → TryState → Ask LatchAnswer → TryState
-shared_ledto p t (Done latch.Taken) = walks p (record t { has_shared = true })
+shared_ledto p t (Done latch.Taken) = latch_shared p (record t { has_shared = true })
 shared_ledto p t (Done its) = ends p t answer.Shift
 shared_ledto p t ask = t
+
+-- the word says prepare of this version
+abbrev pub is_still_in : PhaseSaid → Version → Bool
+is_still_in (Says phase.Prepare its) version = its.0 == version.0
+is_still_in said version = false
+
+-- any other word tells that others have gone on
+unfoldable pub phase_loaded : Places → TryState → PhaseSaid → TryState
+phase_loaded p t said = if is_still_in said t.request.version then walks p t else ends p t answer.Shift
 
 -- so is one that has published a record of the next version at the head of the chain, whose header has this mark
 abbrev pub is_above : Option Version → Version → Bool
@@ -165,7 +191,7 @@ is_above None version = false
 is_above (Some first) version = nat_lt (mark version.0) first.0
 
 abbrev pub must_shift : TryState → Bool
-must_shift t = is_prepare t.seen.phase && not (is_read t.request.op) && is_above t.walk.first t.request.version
+must_shift t = is_prepare t.seen.phase && not (is_read t.request.op) && not (is_next_marked t.request.version) && is_above t.walk.first t.request.version
 
 -- a record of the session's version is copied, or made, under the exclusive latch where others may still be at the version before,
 -- and no record of that version was found in memory
@@ -251,9 +277,13 @@ walk_ledto p t (Done its) =
     if has_walked its && must_shift after then ends p after answer.Shift else walked p after its
 walk_ledto p t ask = t
 
+-- below the read-only offset a record with the mark is of the update's version, where no older version has that mark
+abbrev pub is_surely_own : TryState → Version → Bool
+is_surely_own t version = not (is_marked t.request.version) && is_own_version t version
+
 -- a session that has looked less lately may still change what lies at or above the safe read-only offset
 abbrev pub safe_loaded : Places → TryState → Addr → Version → ℕ → TryState
-safe_loaded p t addr version safe = if nat_le safe addr.0 then ends p t (answer.Wait reason.Fuzzy) else copies p t InMemory (is_own_version t version)
+safe_loaded p t addr version safe = if nat_le safe addr.0 then ends p t (answer.Wait reason.Fuzzy) else copies p t InMemory (is_surely_own t version)
 
 unfoldable pub current_ledto : Places → TryState → Addr → Ask WalkAnswer → TryState
 current_ledto p t addr (Done (walk.Value old)) = record t { step = ChangesValue addr old }
@@ -308,6 +338,7 @@ walk_moved p t reply = record t { walk = walk_next p t.walk reply }
 unfoldable pub trying_next : Places → ℕ → TryState → Trying → ℕ → TryState
 trying_next p room t (Ended its) reply = t
 trying_next p room t TakesShared reply = shared_ledto p (latch_moved t reply) (latch_next_ask t.latching reply)
+trying_next p room t LoadsPhase reply = phase_loaded p t (phase_said reply)
 trying_next p room t Walks reply = walk_ledto p (walk_moved p t reply) (walk_ask p (walk_next p t.walk reply))
 trying_next p room t (LoadsSafe addr version) reply = safe_loaded p t addr version reply
 trying_next p room t (SwapsValue addr) reply = takes_effect p t (reply_from None t.request.op)

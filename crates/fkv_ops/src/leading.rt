@@ -1,6 +1,6 @@
 //! Where a try goes on by what the machines inside it ask.
 ghost use Rattle.std.specs.Prelude.{◌≡◌, Option};
-ghost use Rattle.fkv_ops.specs.Trying.{wants_shared, must_shift, is_prepare, is_above, shared_ledto, walk_ledto, walked, has_walked, met_nowhere, met_disk, met_record, region_met, changes, is_own_version, safe_loaded, current_ledto, value_changed, answer_ledto, told_value, exclusive_ledto, old_ledto, append_ledto, exclusive_dropped, shared_dropped, latch_moved, walk_moved};
+ghost use Rattle.fkv_ops.specs.Trying.{wants_shared, must_shift, is_prepare, is_above, shared_ledto, latch_shared, is_marked, is_next_marked, is_still_in, phase_loaded, is_surely_own, walk_ledto, walked, has_walked, met_nowhere, met_disk, met_record, region_met, changes, is_own_version, safe_loaded, current_ledto, value_changed, answer_ledto, told_value, exclusive_ledto, old_ledto, append_ledto, exclusive_dropped, shared_dropped, latch_moved, walk_moved};
 ghost use Rattle.fkv_ops.specs.Walking.{walk_ask, walk_next};
 ghost use Rattle.fkv_ops.specs.Appending.{append_ask, append_next};
 ghost use Rattle.fkv_latch.specs.Latching.{latch_next_ask};
@@ -18,6 +18,7 @@ use fkv_log::{Region, seen_region};
 use fkv_map::Reply;
 use fkv_marks::mark;
 use fkv_plane::Ask;
+use fkv_words::PhaseSaid;
 
 impl Try {
     /// In prepare an update shares the latch of its bucket.
@@ -35,10 +36,33 @@ impl Try {
         match self.latch.drive(reply) {
             Ask::Done(LatchAnswer::Taken) => {
                 self.has_shared = true;
-                self.walks();
+                self.latch_shared();
             }
             Ask::Done(_) => self.ends(TryAnswer::Shift),
             _ => {}
+        }
+    }
+
+    /// The latch is shared. Where no mark tells whether others have gone on, the phase word is loaded before the walk.
+    fn latch_shared(&mut self)
+        ensures { self.new ≡ record self.old { state = latch_shared self.old.places self.old.state } }
+    {
+        if is_next_marked(self.request.version) {
+            self.step = Trying::LoadsPhase;
+        } else {
+            self.walks();
+        }
+    }
+
+    /// By what the phase word says now.
+    #[tactic(auto, unfolding(crate::specs::Trying::phase_loaded))]
+    pub(crate) fn after_phase(&mut self, said: PhaseSaid)
+        ensures { self.new ≡ record self.old { state = phase_loaded self.old.places self.old.state said } }
+    {
+        if is_still_in(said, self.request.version) {
+            self.walks();
+        } else {
+            self.ends(TryAnswer::Shift);
         }
     }
 
@@ -63,6 +87,7 @@ impl Try {
     {
         self.seen.phase == Phase::Prepare
             && !is_read(self.request.op)
+            && !is_next_marked(self.request.version)
             && is_above(self.walk.first(), self.request.version)
     }
 
@@ -134,6 +159,13 @@ impl Try {
         version == mark(self.request.version)
     }
 
+    /// Whether a record with this mark is of the request's version, wherever it lies.
+    fn is_surely_own(&self, version: Version) -> bool
+        ensures { result ≡ is_surely_own self.now.state version }
+    {
+        !is_marked(self.request.version) && self.is_own_version(version)
+    }
+
     /// The record is changed in place.
     fn changes(&mut self, addr: Addr)
         ensures { self.new ≡ record self.old { state = changes self.old.state addr } }
@@ -153,7 +185,7 @@ impl Try {
         if addr.0 >= safe {
             self.ends(TryAnswer::Wait(Reason::Fuzzy));
         } else {
-            self.copies(OldValue::InMemory, self.is_own_version(version));
+            self.copies(OldValue::InMemory, self.is_surely_own(version));
         }
     }
 
@@ -262,6 +294,33 @@ fn has_walked(answer: WalkAnswer) -> bool
         answer,
         WalkAnswer::Found(_, _) | WalkAnswer::Nowhere | WalkAnswer::OnDisk(_)
     )
+}
+
+/// So many versions have marks of their own: 1 to this.
+const OWN_MARKS: u64 = 8191;
+
+/// Whether an older version has the mark of this one too.
+pub fn is_marked(version: Version) -> bool
+    ensures { result ≡ is_marked version }
+{
+    version.0 > OWN_MARKS
+}
+
+/// Whether an older version has the mark of the next one, so that it isn't above this one's.
+pub fn is_next_marked(version: Version) -> bool
+    ensures { result ≡ is_next_marked version }
+{
+    version.0 >= OWN_MARKS
+}
+
+/// Whether the phase word says prepare of this version.
+fn is_still_in(said: PhaseSaid, version: Version) -> bool
+    ensures { result ≡ is_still_in said version }
+{
+    match said {
+        PhaseSaid::Says(Phase::Prepare, its) => its == version,
+        _ => false,
+    }
 }
 
 /// Whether a record with this mark was met first, and is of a later version.

@@ -18,7 +18,7 @@ pub use answers::{DiskRecord, Reason, TryAnswer};
 pub use appending::{Append, AppendAnswer, FoundSlot};
 pub use header_words::{HeaderSaid, header_said};
 pub use laws::law_reasons;
-pub use leading::told_value;
+pub use leading::{is_marked, is_next_marked, told_value};
 pub use requests::{HeldRecord, Occasion, Request, Seen};
 pub use trying::Try;
 pub use values::{value_of_word, word_of_value};

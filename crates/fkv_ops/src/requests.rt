@@ -29,7 +29,7 @@ pub struct Request {
     pub has_latch: bool,
     pub held: Option<HeldRecord>,
     pub ghost some_version: { 0 < version.0 },
-    pub ghost version_fits: { version.0 < 2 ^ 13 },
+    pub ghost version_fits: { version.0 < 2 ^ 45 },
 }
 
 impl Request {

@@ -14,6 +14,7 @@ use fkv_index::{Home, home_of};
 use fkv_latch::{Latch, LatchTask};
 use fkv_map::Reply;
 use fkv_plane::{Ask, Places, RecordWord, SharedWord, passed};
+use fkv_words::phase_said;
 use std::marker::Model;
 
 /// Where the old value of a copy comes from.
@@ -30,6 +31,8 @@ pub(crate) enum OldValue {
 pub(crate) enum Trying {
     Ended(TryAnswer),
     TakesShared,
+    /// The latch is shared, and the phase word is loaded.
+    LoadsPhase,
     Walks,
     /// The record was found at this address, below the read-only offset that the session has seen.
     LoadsSafe(Addr, Version),
@@ -145,7 +148,7 @@ impl Try {
         ensures next { self.new ≡ record self.old { state = try_begun self.old.places self.old.bits request seen occasion spare } }
         ensures ask { result ≡ try_ask self.old.places self.new.state }
         ensures asks { AsksWhereLeft (try_asks_left self.old.places self.new.state) result }
-        ensures bounded { try_asks_left self.old.places self.new.state ≤ 8 * (self.old.places.overflow + 1) + 2 * self.old.places.ring + 20 }
+        ensures bounded { try_asks_left self.old.places self.new.state ≤ 8 * (self.old.places.overflow + 1) + 2 * self.old.places.ring + 21 }
     {
         self.request = request;
         self.seen = seen;
@@ -178,6 +181,7 @@ impl Try {
         match self.step {
             Trying::Ended(_) => {}
             Trying::TakesShared => self.after_shared(reply),
+            Trying::LoadsPhase => self.after_phase(phase_said(reply)),
             Trying::Walks => self.after_walk(reply),
             Trying::LoadsSafe(addr, version) => self.after_safe(addr, version, reply),
             Trying::SwapsValue(_) => self.takes_effect(self.request.op.reply_from(None)),
@@ -209,6 +213,7 @@ impl Try {
             }
             Trying::Walks | Trying::LoadsCurrent(_) | Trying::LoadsAnswer | Trying::LoadsOld =>
                 passed(self.walk.ask(), TryAnswer::Shift),
+            Trying::LoadsPhase => Ask::Load(SharedWord::Phase.place()),
             Trying::LoadsSafe(_, _) => Ask::Load(SharedWord::SafeReadOnly.place()),
             Trying::SwapsValue(addr) => {
                 let value = self.request.op.value_applied(None);

@@ -8,9 +8,9 @@ use Rattle.fkv_words.proofs.Shown.{same_made}
 use Rattle.fkv_ops.specs.declared.requests.HeldRecord.{HeldRecord}
 use Rattle.fkv_ops.specs.declared.requests.Request.{Request}
 
-abbrev pub request_of : Op → Bool → Option HeldRecord → (version : Version) → (0 < version.0) × (version.0 < 2 ^ 13) → Request
+abbrev pub request_of : Op → Bool → Option HeldRecord → (version : Version) → (0 < version.0) × (version.0 < 2 ^ 45) → Request
 request_of op has_latch held version h = record { op = op; version = version; has_latch = has_latch; held = held; some_version = h.0; version_fits = h.1 }
 
-pub request_same : (op : Op) (has_latch : Bool) (held : Option HeldRecord) (version : Version) (p q : (0 < version.0) × (version.0 < 2 ^ 13)) → request_of op has_latch held version p ≡ request_of op has_latch held version q
+pub request_same : (op : Op) (has_latch : Bool) (held : Option HeldRecord) (version : Version) (p q : (0 < version.0) × (version.0 < 2 ^ 45)) → request_of op has_latch held version p ≡ request_of op has_latch held version q
 request_same op has_latch held version p q =
-    same_made {A = Version} {P = λ v. (0 < v.0) × (v.0 < 2 ^ 13)} (request_of op has_latch held) (λ v. hlevel le_prop) version version p q refl
+    same_made {A = Version} {P = λ v. (0 < v.0) × (v.0 < 2 ^ 45)} (request_of op has_latch held) (λ v. hlevel le_prop) version version p q refl

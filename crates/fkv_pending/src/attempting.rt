@@ -94,7 +94,7 @@ impl Attempt {
         ensures next { self.new ≡ record self.old { state = attempt_begun self.old.places self.old.bits pending.now seen occasion spare is_orphaned } }
         ensures ask { result ≡ attempt_ask self.old.places self.old.session self.new.state }
         ensures asks { AsksWhereLeft (attempt_asks_left self.old.places self.new.state) result }
-        ensures bounded { attempt_asks_left self.old.places self.new.state ≤ 8 * (self.old.places.overflow + 1) + 2 * self.old.places.ring + 28 }
+        ensures bounded { attempt_asks_left self.old.places self.new.state ≤ 8 * (self.old.places.overflow + 1) + 2 * self.old.places.ring + 29 }
     {
         self.pending = *pending;
         self.seen = seen;

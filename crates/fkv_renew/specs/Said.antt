@@ -1,7 +1,6 @@
 -- What the clauses of `src` say: they take all of it under one name.
 pub use Rattle.clap.specs.Simple.{app_of}
 pub use Rattle.clap.specs.Walk.{texts}
-pub use Rattle.fkv_base.specs.Limits.{last_version}
 pub use Rattle.fkv_base.specs.declared.faults.Fault.TheVariants.{BadShape}
 pub use Rattle.fkv_lines.specs.declared.scripts.Sizes.{Sizes as TheSizes}
 pub use Rattle.fkv_renew.specs.Answers.{IsAnswer, IsAnswerTo, IsUnreadAnswer, fault_of_refusal, status_of_refusal}

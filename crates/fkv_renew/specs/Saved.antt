@@ -1,7 +1,7 @@
 -- What a renewal saves, and the lines that say so.
 use Rattle.std.specs.Prelude.{ℕ, ◌-◌, List, ◌++◌, codes, if◌then◌else◌, nat_lt}
 use Rattle.std.specs.Fmt.{decimal}
-use Rattle.fkv_base.specs.Limits.{last_version}
+use Rattle.fkv_base.specs.Limits.{last_of}
 use Rattle.fkv_base.specs.declared.shapes.Shape.{Shape}
 use Rattle.fkv_record.specs.Places.{area_place, record_place}
 use Rattle.fkv_texts.specs.Lines.{line_of}
@@ -15,7 +15,7 @@ bytes_up_to shape tail = if nat_lt 1 tail then record_place shape tail else area
 -- What a store takes whose log ends at this address and whose newest commit has this number: its addresses below, its bytes, and how many commits there are to the
 -- last one, in the version before the last.
 abbrev pub taken_of : Shape → ℕ → ℕ → Taken
-taken_of shape tail number = record { records = tail - 1; bytes = bytes_up_to shape tail; commits_left = last_version - 1 - number }
+taken_of shape tail number = record { records = tail - 1; bytes = bytes_up_to shape tail; commits_left = last_of shape.class - 1 - number }
 
 -- `records 1047 now 3`
 abbrev pub change_line : List ℕ → ℕ → ℕ → List ℕ

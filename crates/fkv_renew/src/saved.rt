@@ -31,13 +31,12 @@ impl Taken {
     pub(crate) fn of(shape: Shape, tail: Addr, number: Version) -> Taken
         requires some { 1 ≤ tail.0 }
         requires on_disk { tail.0 ≤ shape.disk_pages * shape.page }
-        requires few_commits { number.0 < said.last_version }
         ensures { result ≡ said.taken_of shape tail.0 number.0 }
     {
         Taken {
             records: tail.0 - 1,
             bytes: bytes_up_to(shape, tail),
-            commits_left: Version::LAST - 1 - number.0,
+            commits_left: (shape.class.last_version() - 1).saturating_sub(number.0),
         }
     }
 }

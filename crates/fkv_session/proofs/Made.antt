@@ -6,6 +6,8 @@ use Rattle.fkv_base.specs.declared.numbers.Version.{Version}
 use Rattle.fkv_log.specs.declared.regions.Region.{Region}
 use Rattle.fkv_map.specs.declared.operations.Reply.{Reply}
 use Rattle.fkv_map.specs.Keys.{key_of}
+use Rattle.fkv_words.specs.declared.phase_words.PhaseSaid.{PhaseSaid}
+use Rattle.fkv_words.specs.PhaseWords.{phase_said}
 use Rattle.fkv_plane.specs.declared.asks.Ask.{Ask}
 use Rattle.fkv_plane.specs.declared.asks.Ask.TheVariants.{Done}
 use Rattle.fkv_plane.specs.declared.places.Places.{Places}
@@ -28,7 +30,7 @@ use Rattle.fkv_ops.specs.declared.walking.WalkAnswer.{WalkAnswer}
 use Rattle.fkv_ops.specs.declared.walking.WalkAnswer.TheVariants as walk
 use Rattle.fkv_ops.specs.Requests.{is_read, is_blind}
 use Rattle.fkv_ops.specs.Values.{value_of}
-use Rattle.fkv_ops.specs.Trying.{TryState, ends, ended_without, is_wait, takes_effect, full_at, shared_ledto, wants_exclusive, copies_from, copies, appends, awaits, held_used, changes, is_own_version, region_met, walked, has_walked, must_shift, walk_ledto, safe_loaded, current_ledto, value_changed, told_value, answer_ledto, exclusive_ledto, old_ledto, append_ledto, exclusive_dropped, shared_dropped, trying_ask, try_ask, trying_next, try_next}
+use Rattle.fkv_ops.specs.Trying.{TryState, ends, ended_without, is_wait, takes_effect, full_at, walks, is_next_marked, shared_ledto, is_still_in, phase_loaded, is_surely_own, wants_exclusive, copies_from, copies, appends, awaits, held_used, changes, is_own_version, region_met, walked, has_walked, must_shift, walk_ledto, safe_loaded, current_ledto, value_changed, told_value, answer_ledto, exclusive_ledto, old_ledto, append_ledto, exclusive_dropped, shared_dropped, trying_ask, try_ask, trying_next, try_next}
 
 -- the reply of a try that has ended as done
 abbrev pub reply_of : TryAnswer → Option Reply
@@ -129,12 +131,16 @@ walk_made p t ask e made = quiet t None e made
 
 shared_made : (p : Places) (t : TryState) (ask : Ask LatchAnswer) → t.effect ≡ None → made_by t.step ≡ None → IsMade (shared_ledto p t ask) None
 unfolding shared_ledto
-shared_made p t (Done latch.Taken) e made = stepped t e
+shared_made p t (Done latch.Taken) e made = either_made (is_next_marked t.request.version) _ (walks p (record t { has_shared = true })) None (stepped t e) (stepped t e)
 shared_made p t (Done its) e made = ends_made p t answer.Shift None e refl
 shared_made p t ask e made = quiet t None e made
 
+phase_made : (p : Places) (t : TryState) (said : PhaseSaid) → t.effect ≡ None → IsMade (phase_loaded p t said) None
+unfolding phase_loaded
+phase_made p t said e = either_made (is_still_in said t.request.version) (walks p t) (ends p t answer.Shift) None (stepped t e) (ends_made p t answer.Shift None e refl)
+
 safe_made : (p : Places) (t : TryState) (addr : Addr) (version : Version) (safe : ℕ) → t.effect ≡ None → IsMade (safe_loaded p t addr version safe) None
-safe_made p t addr version safe e = either_made (nat_le safe addr.0) (ends p t _) (copies p t InMemory (is_own_version t version)) None (ends_made p t _ None e refl) (copies_made p t InMemory (is_own_version t version) e)
+safe_made p t addr version safe e = either_made (nat_le safe addr.0) (ends p t _) (copies p t InMemory (is_surely_own t version)) None (ends_made p t _ None e refl) (copies_made p t InMemory (is_surely_own t version) e)
 
 current_made : (p : Places) (t : TryState) (addr : Addr) (ask : Ask WalkAnswer) → t.effect ≡ None → made_by t.step ≡ None → IsMade (current_ledto p t addr ask) None
 unfolding current_ledto
@@ -189,6 +195,7 @@ step_made : (p : Places) (room : ℕ) (t : TryState) (step : Trying) (reply : �
 unfolding trying_next
 step_made p room t (try.Ended its) reply e s = quiet t (reply_of its) e (subst (λ (x : Trying). made_by x ≡ reply_of its) (sym s) refl)
 step_made p room t try.TakesShared reply e s = shared_made p _ _ e (subst (λ (x : Trying). made_by x ≡ None) (sym s) refl)
+step_made p room t try.LoadsPhase reply e s = phase_made p t (phase_said reply) e
 step_made p room t try.Walks reply e s = walk_made p _ _ e (subst (λ (x : Trying). made_by x ≡ None) (sym s) refl)
 step_made p room t (try.LoadsSafe addr version) reply e s = safe_made p t addr version reply e
 step_made p room t (try.SwapsValue addr) reply e s = takes_made p t _
@@ -217,6 +224,7 @@ ended_reply : (p : Places) (t : TryState) (step : Trying) (its : TryAnswer) → 
 unfolding trying_ask
 ended_reply p t (try.Ended found) its e = let same : found ≡ its = cc in ap reply_of same
 ended_reply p t try.TakesShared its e = passed_reply _ answer.Shift its e
+ended_reply p t try.LoadsPhase its e = cc
 ended_reply p t try.Walks its e = passed_reply _ answer.Shift its e
 ended_reply p t (try.LoadsSafe addr version) its e = cc
 ended_reply p t (try.SwapsValue addr) its e = cc

@@ -161,6 +161,7 @@ unfolding trying_ask
 try_off p n t (try.Ended its) some = tt
 try_off p n t try.TakesShared some = passed_off n _ _ (latch_off n t.latching)
 try_off p n t try.Walks some = passed_off n _ _ (walk_off p n t.walk t.walk.step)
+try_off p n t try.LoadsPhase some = tt
 try_off p n t (try.LoadsSafe addr version) some = tt
 try_off p n t (try.SwapsValue addr) some = tt
 try_off p n t (try.LoadsCurrent addr) some = passed_off n _ _ (walk_off p n t.walk t.walk.step)

@@ -6,6 +6,8 @@ use Rattle.fkv_base.specs.declared.numbers.Version.{Version}
 use Rattle.fkv_log.specs.declared.regions.Region.{Region}
 use Rattle.fkv_map.specs.declared.operations.Reply.{Reply}
 use Rattle.fkv_map.specs.Keys.{key_of}
+use Rattle.fkv_words.specs.declared.phase_words.PhaseSaid.{PhaseSaid}
+use Rattle.fkv_words.specs.PhaseWords.{phase_said}
 use Rattle.fkv_plane.specs.declared.asks.Ask.{Ask}
 use Rattle.fkv_plane.specs.declared.asks.Ask.TheVariants.{Done}
 use Rattle.fkv_plane.specs.declared.places.Places.{Places}
@@ -29,7 +31,7 @@ use Rattle.fkv_ops.specs.declared.trying.Trying.TheVariants as try
 use Rattle.fkv_ops.specs.declared.walking.WalkAnswer.{WalkAnswer}
 use Rattle.fkv_ops.specs.declared.walking.WalkAnswer.TheVariants as walk
 use Rattle.fkv_ops.specs.Requests.{is_read, is_blind}
-use Rattle.fkv_ops.specs.Trying.{TryState, try_begun, wants_shared, with_latch, walks, ends, ended_without, is_wait, takes_effect, full_at, shared_ledto, wants_exclusive, copies_from, copies, appends, awaits, held_used, changes, is_own_version, region_met, walked, has_walked, must_shift, walk_ledto, safe_loaded, current_ledto, value_changed, exclusive_ledto, old_ledto, append_ledto, exclusive_dropped, shared_dropped, trying_next, try_next, new_try}
+use Rattle.fkv_ops.specs.Trying.{TryState, try_begun, wants_shared, with_latch, walks, ends, ended_without, is_wait, takes_effect, full_at, is_next_marked, shared_ledto, is_still_in, phase_loaded, is_surely_own, wants_exclusive, copies_from, copies, appends, awaits, held_used, changes, is_own_version, region_met, walked, has_walked, must_shift, walk_ledto, safe_loaded, current_ledto, value_changed, exclusive_ledto, old_ledto, append_ledto, exclusive_dropped, shared_dropped, trying_next, try_next, new_try}
 
 -- no answer of a read
 abbrev pub IsUpdateEnd : TryAnswer → Type 0
@@ -118,12 +120,16 @@ walk_update p t ask its_try = its_try
 
 shared_update : (p : Places) (t : TryState) (ask : Ask LatchAnswer) → IsUpdateTry t → IsUpdateTry (shared_ledto p t ask)
 unfolding shared_ledto
-shared_update p t (Done latch.Taken) its_try = record { update = its_try.update; step = tt }
+shared_update p t (Done latch.Taken) its_try = either_update (is_next_marked t.request.version) _ (walks p (record t { has_shared = true })) (record { update = its_try.update; step = tt }) (record { update = its_try.update; step = tt })
 shared_update p t (Done its) its_try = ends_update p t answer.Shift its_try.update tt
 shared_update p t ask its_try = its_try
 
+phase_update : (p : Places) (t : TryState) (said : PhaseSaid) → is_read t.request.op ≡ false → IsUpdateTry (phase_loaded p t said)
+unfolding phase_loaded
+phase_update p t said e = either_update (is_still_in said t.request.version) (walks p t) (ends p t answer.Shift) (record { update = e; step = tt }) (ends_update p t answer.Shift e tt)
+
 safe_update : (p : Places) (t : TryState) (addr : Addr) (version : Version) (safe : ℕ) → is_read t.request.op ≡ false → IsUpdateTry (safe_loaded p t addr version safe)
-safe_update p t addr version safe e = either_update (nat_le safe addr.0) (ends p t _) (copies p t InMemory (is_own_version t version)) (ends_update p t _ e tt) (copies_update p t InMemory (is_own_version t version) e)
+safe_update p t addr version safe e = either_update (nat_le safe addr.0) (ends p t _) (copies p t InMemory (is_surely_own t version)) (ends_update p t _ e tt) (copies_update p t InMemory (is_surely_own t version) e)
 
 current_update : (p : Places) (t : TryState) (addr : Addr) (ask : Ask WalkAnswer) → IsUpdateTry t → IsUpdateTry (current_ledto p t addr ask)
 unfolding current_ledto
@@ -168,6 +174,7 @@ step_update : (p : Places) (room : ℕ) (t : TryState) (step : Trying) (reply : 
 unfolding trying_next
 step_update p room t (try.Ended its) reply knows its_try = its_try
 step_update p room t try.TakesShared reply knows its_try = shared_update p _ _ (record { update = its_try.update; step = its_try.step })
+step_update p room t try.LoadsPhase reply knows its_try = phase_update p t (phase_said reply) its_try.update
 step_update p room t try.Walks reply knows its_try = walk_update p _ _ (record { update = its_try.update; step = its_try.step })
 step_update p room t (try.LoadsSafe addr version) reply knows its_try = safe_update p t addr version reply its_try.update
 step_update p room t (try.SwapsValue addr) reply knows its_try = takes_update p t _ its_try.update

@@ -7,6 +7,7 @@ use Rattle.fkv_base.specs.declared.faults.Fault.{Fault}
 use Rattle.fkv_base.specs.declared.faults.Fault.TheVariants as fault
 use Rattle.fkv_base.specs.declared.numbers.Serial.{Serial}
 use Rattle.fkv_base.specs.declared.numbers.Version.{Version}
+use Rattle.fkv_base.specs.declared.numbers.Value.{Value}
 use Rattle.fkv_base.specs.declared.shapes.Shape.{Shape}
 use Rattle.fkv_map.specs.declared.history.HistoryEntry.{HistoryEntry}
 use Rattle.fkv_map.specs.declared.operations.Call.{Call}
@@ -25,6 +26,7 @@ use Rattle.fkv_plane.specs.Passing.{passed}
 use Rattle.fkv_epoch.specs.declared.leaving.Leaving.{Leaving}
 use Rattle.fkv_epoch.specs.declared.leaving.Leaving.TheVariants.{StoresZero}
 use Rattle.fkv_epoch.specs.Leaving.{leave_ask, leave_next}
+use Rattle.fkv_ops.specs.declared.answers.DiskRecord.{DiskRecord}
 use Rattle.fkv_ops.specs.declared.answers.Reason.{Reason}
 use Rattle.fkv_ops.specs.declared.answers.Reason.TheVariants as reason
 use Rattle.fkv_ops.specs.declared.answers.TryAnswer.{TryAnswer}
@@ -41,6 +43,7 @@ use Rattle.fkv_pending.specs.declared.mailing.Mailing.TheVariants.{LoadsState}
 use Rattle.fkv_pending.specs.declared.pending_requests.PendingRequest.{PendingRequest}
 use Rattle.fkv_pending.specs.declared.pending_requests.RequestName.{RequestName}
 use Rattle.fkv_pending.specs.declared.pending_requests.RequestName.TheVariants.{Update, Read}
+use Rattle.fkv_pending.specs.declared.pending_requests.Ticket.{Ticket}
 use Rattle.fkv_pending.specs.Mailing.{mail_ask, mail_next}
 use Rattle.fkv_pending.specs.Attempting.{AttemptState, attempt_begun, attempt_ask, attempt_next}
 use Rattle.fkv_session.specs.declared.answers.Finished.{Finished}
@@ -259,9 +262,23 @@ update_waiting s op =
     let taken : ℕ = s.serial + 1 in
     answers (record s { serial = taken; requests = s.requests ++ record { name = Update (record { 0 = taken }); request = request_of op s.seen.version; sought = None; has_asked = false } ∷ [] }) told.Slept
 
+-- the session has tried a read without its machine, and it waits for this record of the device from then on. Its address is in the mailbox, or isn't
+abbrev pub read_waiting : SessionState → Op → DiskRecord → Bool → SessionState
+read_waiting s op sought has_asked =
+    let taken : Ticket = record { 0 = ticket_after s.ticket } in
+    answers (record s { ticket = taken.0; requests = s.requests ++ record { name = Read taken; request = request_of op s.seen.version; sought = Some sought; has_asked = has_asked } ∷ [] }) told.Slept
+
 -- the session has polled without its machine: an update has finished so, the first request that waited
 abbrev pub update_polled : SessionState → Serial → Reply → SessionState
 update_polled s serial its = answers (record s { finished = finished.Update serial its ∷ []; requests = remove s.requests 0 }) told.Slept
+
+-- or a read has
+abbrev pub read_polled : SessionState → Ticket → Option Value → SessionState
+read_polled s ticket value = answers (record s { finished = finished.Read ticket value ∷ []; requests = remove s.requests 0 }) told.Slept
+
+-- and it has finished none, but the first request waits as this
+abbrev pub request_polled : SessionState → PendingRequest → SessionState
+request_polled s its = answers (record s { finished = []; requests = slice_set s.requests 0 its }) told.Slept
 
 -- and it has finished none
 abbrev pub nothing_polled : SessionState → SessionState

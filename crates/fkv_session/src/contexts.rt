@@ -4,19 +4,19 @@ ghost use Rattle.fkv_base.specs.Limits.{max_pending, max_sessions, last_serial};
 ghost use Rattle.fkv_session.specs.AsksLeft.{session_asks_left, call_bound};
 ghost use Rattle.fkv_session.specs.declared.answers.Told.TheVariants.{Slept};
 ghost use Rattle.fkv_session.specs.declared.sessions.Sitting.TheVariants.{Idle, Turns};
-ghost use Rattle.fkv_session.specs.Sessions.{session_begun, session_ask, sitting_next, sitting_given, asks_after, nothing_polled, refreshed, update_polled, update_waiting, IsOpened};
+ghost use Rattle.fkv_session.specs.Sessions.{session_begun, session_ask, sitting_next, sitting_given, asks_after, nothing_polled, read_polled, read_waiting, refreshed, request_polled, update_polled, update_waiting, IsOpened};
 
 use crate::answers::{Finished, Told};
 use crate::catching_up::CatchUp;
-use crate::leading::request_of;
+use crate::leading::{request_of, ticket_after};
 use crate::own_turns::OwnTurn;
 use crate::sessions::Sitting;
 use arrayvec::ArrayVec;
-use fkv_base::{Key, MAX_PENDING, Serial, Shape};
+use fkv_base::{Key, MAX_PENDING, Serial, Shape, Value};
 use fkv_epoch::Leave;
 use fkv_map::{Call, HistoryEntry, Op, Reply};
-use fkv_ops::Seen;
-use fkv_pending::{Attempt, Mail, PendingList, PendingRequest, RequestName};
+use fkv_ops::{DiskRecord, Seen};
+use fkv_pending::{Attempt, Mail, PendingList, PendingRequest, RequestName, Ticket};
 use fkv_plane::{Action, Ask, Places};
 use std::marker::Model;
 
@@ -157,6 +157,29 @@ impl Context {
         Ask::Done(Told::Slept)
     }
 
+    /// A read was tried outside and waits for this record of the device.
+    #[tactic(auto, unfolding(crate::specs::Sessions::sitting_ask))]
+    pub(crate) fn take_pending_read(
+        &mut self,
+        op: Op,
+        sought: DiskRecord,
+        has_asked: bool,
+    ) -> Ask<Told>
+        requires { length self.old.state.requests < max_pending }
+        ensures next { self.new ≡ record self.old { state = read_waiting self.old.state op sought has_asked } }
+        ensures ask { result ≡ session_ask self.old.seat self.new.state }
+    {
+        self.ticket = ticket_after(self.ticket);
+        self.requests.push(PendingRequest {
+            name: RequestName::Read(Ticket(self.ticket)),
+            request: request_of(op, self.seen.version),
+            sought: Some(sought),
+            has_asked,
+        });
+        self.step = Sitting::Idle(Told::Slept);
+        Ask::Done(Told::Slept)
+    }
+
     /// The session was polled outside: this update has finished, the first request that waited.
     #[tactic(auto, unfolding(crate::specs::Sessions::sitting_ask))]
     pub(crate) fn take_polled(&mut self, serial: Serial, reply: Reply) -> Ask<Told>
@@ -166,6 +189,31 @@ impl Context {
         self.finished.clear();
         self.finished.push(Finished::Update(serial, reply));
         self.requests.remove(0);
+        self.step = Sitting::Idle(Told::Slept);
+        Ask::Done(Told::Slept)
+    }
+
+    /// The session was polled outside: this read has finished, the first request that waited.
+    #[tactic(auto, unfolding(crate::specs::Sessions::sitting_ask))]
+    pub(crate) fn take_polled_read(&mut self, ticket: Ticket, value: Option<Value>) -> Ask<Told>
+        ensures next { self.new ≡ record self.old { state = read_polled self.old.state ticket value } }
+        ensures ask { result ≡ session_ask self.old.seat self.new.state }
+    {
+        self.finished.clear();
+        self.finished.push(Finished::Read(ticket, value));
+        self.requests.remove(0);
+        self.step = Sitting::Idle(Told::Slept);
+        Ask::Done(Told::Slept)
+    }
+
+    /// The session was polled outside: nothing has finished, and the first request waits as this.
+    #[tactic(auto, unfolding(crate::specs::Sessions::sitting_ask))]
+    pub(crate) fn take_polled_on(&mut self, its: PendingRequest) -> Ask<Told>
+        ensures next { self.new ≡ record self.old { state = request_polled self.old.state its } }
+        ensures ask { result ≡ session_ask self.old.seat self.new.state }
+    {
+        self.finished.clear();
+        self.requests.set(0, its);
         self.step = Sitting::Idle(Told::Slept);
         Ask::Done(Told::Slept)
     }

@@ -317,7 +317,7 @@ pub(crate) fn request_of(op: Op, version: Version) -> Request
 }
 
 /// After the last ticket comes the first.
-fn ticket_after(ticket: u64) -> u64
+pub(crate) fn ticket_after(ticket: u64) -> u64
     ensures { result ≡ ticket_after ticket }
 {
     if ticket == u64::MAX { 1 } else { ticket + 1 }

@@ -3,13 +3,13 @@ ghost use Rattle.std.specs.Prelude.{◌≡◌, ◌<◌, ◌≤◌, ◌+◌, ◌^
 ghost use Rattle.fkv_base.specs.Limits.{max_pending, max_sessions, last_serial};
 ghost use Rattle.fkv_session.specs.declared.answers.Told.TheVariants.{Slept};
 ghost use Rattle.fkv_session.specs.declared.sessions.Sitting.TheVariants.{Idle};
-ghost use Rattle.fkv_session.specs.Sessions.{is_busy, nothing_polled, only_of, refusal_of, refreshed, update_polled, update_waiting, HasRoom};
+ghost use Rattle.fkv_session.specs.Sessions.{is_busy, nothing_polled, only_of, read_polled, read_waiting, refusal_of, refreshed, request_polled, ticket_after, update_polled, update_waiting, HasRoom};
 
 use crate::answers::Finished;
 use crate::sessions::{Session, Sitting};
-use fkv_base::{Fault, Serial, Shape};
+use fkv_base::{Fault, Serial, Shape, Value};
 use fkv_map::{HistoryEntry, Op, Reply};
-use fkv_ops::Seen;
+use fkv_ops::{DiskRecord, Seen};
 use fkv_pending::{PendingRequest, Ticket};
 use fkv_plane::Places;
 
@@ -176,11 +176,36 @@ impl Session {
         self.serial()
     }
 
+    /// Takes the next ticket for a read that somebody else has tried in its place. It waits for this record of the device, whose address is in the session's
+    /// mailbox or isn't. No call is in hand behind it.
+    pub fn take_pending_read(&mut self, op: Op, sought: DiskRecord, has_asked: bool) -> Ticket
+        requires { length self.old.state.requests < max_pending }
+        ensures ticket { result.0 ≡ ticket_after self.old.state.ticket }
+        ensures next { self.new ≡ record self.old { state = read_waiting self.old.state op sought has_asked } }
+    {
+        self.ask = self.context.take_pending_read(op, sought, has_asked);
+        self.ticket()
+    }
+
     /// Forgets the first request that waits, behind a poll in which somebody else has finished this update in its place. No call is in hand behind it.
     pub fn take_polled(&mut self, serial: Serial, reply: Reply)
         ensures { self.new ≡ record self.old { state = update_polled self.old.state serial reply } }
     {
         self.ask = self.context.take_polled(serial, reply);
+    }
+
+    /// Forgets the first request that waits, behind a poll in which somebody else has finished this read in its place. No call is in hand behind it.
+    pub fn take_polled_read(&mut self, ticket: Ticket, value: Option<Value>)
+        ensures { self.new ≡ record self.old { state = read_polled self.old.state ticket value } }
+    {
+        self.ask = self.context.take_polled_read(ticket, value);
+    }
+
+    /// Has the first request wait as this, behind a poll in which somebody else has tried it in its place and finished nothing. No call is in hand behind it.
+    pub fn take_polled_on(&mut self, its: PendingRequest)
+        ensures { self.new ≡ record self.old { state = request_polled self.old.state its } }
+    {
+        self.ask = self.context.take_polled_on(its);
     }
 
     /// Forgets what the last poll has finished, behind one in which somebody else has finished nothing in its place. No call is in hand behind it.

@@ -1,9 +1,9 @@
 //! Commits moved by hand over plain words, of stores with up to two sessions, whose blocks begin at places 24 and 40.
 use crate::words::{make, new_words, store};
-use fkv_base::{Addr, CommitKind, Fault, LAST_EPOCH, Phase, Serial, Version};
+use fkv_base::{Addr, CommitKind, Fault, LAST_EPOCH, Phase, Serial, StoreClass, Version};
 use fkv_commit::{
     Commit, EnterAnswer, EnterWaitPending, FinishAnswer, FinishCommit, SeekAnswer, SeekPoints,
-    StartAnswer, StartCommit, WaitAnswer, WaitFlush, law_of_phases, law_of_points,
+    StartAnswer, StartAsked, StartCommit, WaitAnswer, WaitFlush, law_of_phases, law_of_points,
 };
 use fkv_plane::{Action, Ask, PlainWords};
 use std::alloc::Global;
@@ -117,7 +117,7 @@ const SPENT: &[(usize, u64)] = &[(EPOCH, LAST_EPOCH), (PHASE, 8190)];
 const REFUSED: [Refusal<'static>; 7] = [
     RUNNING,
     Refusal {
-        words: &[(EPOCH, LAST_EPOCH), (PHASE, 1 << 40)],
+        words: &[(EPOCH, LAST_EPOCH), (PHASE, 1 << 51)],
         ..RUNNING
     },
     Refusal {
@@ -164,6 +164,49 @@ const REFUSED: [Refusal<'static>; 7] = [
     },
 ];
 
+/// Of a specified store, whose log commits are all in the window.
+fn specified(kind: CommitKind, lost: usize) -> StartAsked {
+    StartAsked {
+        class: StoreClass::Specified,
+        kind,
+        lost,
+        checkpoint: Version(0),
+    }
+}
+
+/// One of what a version has above its low thirteen bits.
+const ONE_MORE: u64 = 1 << 19;
+
+/// A commit of a living store: the phase word, its kind, the number of the checkpoint in force, and why it is refused, if it is.
+struct Living {
+    phase: u64,
+    kind: CommitKind,
+    checkpoint: u64,
+    refused: Option<Fault>,
+}
+
+/// The last log commit of its window, the next one, and a full commit of that version.
+const LIVING: [Living; 3] = [
+    Living {
+        phase: 97 + ONE_MORE,
+        kind: CommitKind::Log,
+        checkpoint: 100,
+        refused: None,
+    },
+    Living {
+        phase: 98 + ONE_MORE,
+        kind: CommitKind::Log,
+        checkpoint: 100,
+        refused: Some(Fault::LostFull),
+    },
+    Living {
+        phase: 98 + ONE_MORE,
+        kind: CommitKind::Full,
+        checkpoint: 100,
+        refused: None,
+    },
+];
+
 /// Looks at the words at these places.
 fn has_words(rt: &impl Abort, plane: &PlainWords, words: &[(usize, u64)]) {
     for (place, word) in words {
@@ -172,8 +215,8 @@ fn has_words(rt: &impl Abort, plane: &PlainWords, words: &[(usize, u64)]) {
 }
 
 fn is_begun(rt: &impl Abort, plane: &mut PlainWords, start: &Start<'_>) {
-    let mut machine = StartCommit::new();
-    let mut ask = machine.start(start.kind, start.lost);
+    let mut machine = StartCommit::new(StoreClass::Specified);
+    let mut ask = machine.start(specified(start.kind, start.lost));
     for (number, wanted) in start.asks.iter().enumerate() {
         assert!(rt; ask == *wanted, "at ask {number}");
         assert!(rt; machine.ask() == *wanted);
@@ -190,9 +233,9 @@ fn begins(rt: &impl Abort, alloc: Global, start: &Start<'_>) -> Result<(), Fault
 }
 
 fn is_stopped(rt: &impl Abort, plane: &mut PlainWords, refusal: &Refusal<'_>) {
-    let mut machine = StartCommit::new();
+    let mut machine = StartCommit::new(StoreClass::Specified);
     assert!(rt; machine.ask() == Ask::Done(StartAnswer::Idle));
-    let mut ask = machine.start(refusal.kind, refusal.lost);
+    let mut ask = machine.start(specified(refusal.kind, refusal.lost));
     for _ in 0..refusal.after {
         assert!(rt; matches!(ask, Ask::Load(_)), "before {:?}", refusal.why);
         ask = machine.drive(make(plane, ask));
@@ -204,6 +247,25 @@ fn is_refused(rt: &impl Abort, alloc: Global, refusal: &Refusal<'_>) -> Result<(
     let mut plane = new_words(alloc, 64, refusal.words, &[])?;
     is_stopped(rt, &mut plane, refusal);
     has_words(rt, &plane, refusal.words);
+    Ok(())
+}
+
+/// A start that isn't refused at the phase loads the epoch next.
+fn starts_or_stops(rt: &impl Abort, alloc: Global, living: &Living) -> Result<(), Fault> {
+    let mut plane = new_words(alloc, 64, &[(EPOCH, 7), (PHASE, living.phase)], &[])?;
+    let mut machine = StartCommit::new(StoreClass::Living);
+    let ask = machine.start(StartAsked {
+        class: machine.class(),
+        kind: living.kind,
+        lost: 0,
+        checkpoint: Version(living.checkpoint),
+    });
+    let next = machine.drive(make(&mut plane, ask));
+    let wanted = match living.refused {
+        Some(why) => Ask::Done(StartAnswer::Refused(why)),
+        None => Ask::Load(EPOCH),
+    };
+    assert!(rt; next == wanted, "over phase {}", living.phase);
     Ok(())
 }
 
@@ -220,6 +282,9 @@ fn a_commit_starts_or_is_refused(rt: HostRuntime) -> Result<(), Fail> {
     }
     for refusal in &REFUSED {
         is_refused(&rt, rt.alloc(), refusal)?;
+    }
+    for living in &LIVING {
+        starts_or_stops(&rt, rt.alloc(), living)?;
     }
     has_its_copy(&rt);
     law_of_phases();

@@ -1,6 +1,6 @@
 -- How an update changes its record in place.
 use Rattle.std.proofs.Common.{◌≡◌, ℕ, ◌≤◌, refl, sym, ap, ◌∙◌, subst, arith, Bool, true, false}
-use Rattle.std.specs.Prelude.{◌==◌, ◌&&◌, nat_lt, nat_le, Option, None}
+use Rattle.std.specs.Prelude.{◌==◌, ◌&&◌, not, nat_lt, nat_le, Option, None}
 use Rattle.std.proofs.lemmas.Bool.Decides.{nat_tests}
 use Rattle.fkv_base.specs.declared.numbers.Version.{Version}
 use Rattle.fkv_map.specs.declared.operations.Op.{Op}
@@ -26,7 +26,7 @@ use Rattle.fkv_ops.specs.HeaderWords.{header_said}
 use Rattle.fkv_ops.specs.Requests.{is_read, is_blind}
 use Rattle.fkv_ops.specs.Values.{value_of, word_of}
 use Rattle.fkv_ops.specs.Appending.{append_rested}
-use Rattle.fkv_ops.specs.Trying.{TryState, trying_ask, trying_next, walk_ledto, current_ledto, ends, takes_effect, is_above}
+use Rattle.fkv_ops.specs.Trying.{TryState, trying_ask, trying_next, walk_ledto, current_ledto, ends, takes_effect, is_above, is_next_marked}
 use Rattle.fkv_ops.specs.Walking.{WalkState, first_met, walking_ask, walking_next, load_ledto, value_ledto, walking_on}
 use Rattle.fkv_session.specs.Sessions.{Seat, SessionState}
 use Rattle.fkv_straight.specs.declared.going.Going.{Going}
@@ -72,7 +72,7 @@ own_above met own e = grind (arith, nat_tests)
 pub first_stays : (c : Course) (r : Record) → r.addr ≡ entry_addr r.entry → r.mark ≡ mark (request_in c).version.0 → IsUnshifted c r
 first_stays c r first own = λ trail at.
     let none : trail.first ≡ None = at.fresh first in
-    and_not (shares c) (is_above (first_met trail.first (record { 0 = r.mark })) (request_in c).version)
+    and_not (shares c && not (is_next_marked (request_in c).version)) (is_above (first_met trail.first (record { 0 = r.mark })) (request_in c).version)
     (ap (λ (o : Option Version). is_above (first_met o (record { 0 = r.mark })) (request_in c).version) none ∙ own_above r.mark (mark (request_in c).version.0) own)
 
 -- and where the session may change it

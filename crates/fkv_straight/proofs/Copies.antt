@@ -1,6 +1,6 @@
 -- How an update comes to a new record: by a copy of the one that was met, at the chain's end, or where the chain leaves memory.
 use Rattle.std.proofs.Common.{◌≡◌, ℕ, ◌<◌, ◌≤◌, refl, sym, ◌∙◌, subst, arith, true, false}
-use Rattle.std.specs.Prelude.{◌==◌, ◌&&◌, nat_lt, nat_le, None}
+use Rattle.std.specs.Prelude.{◌==◌, ◌&&◌, not, nat_lt, nat_le, None}
 use Rattle.std.proofs.lemmas.Bool.Decides.{nat_tests}
 use Rattle.fkv_map.specs.declared.operations.Op.{Op}
 use Rattle.fkv_map.specs.Keys.{key_of}
@@ -25,7 +25,7 @@ use Rattle.fkv_ops.specs.declared.walking.Walking.TheVariants as walk
 use Rattle.fkv_ops.specs.Requests.{is_read, is_blind}
 use Rattle.fkv_ops.specs.Values.{value_of}
 use Rattle.fkv_ops.specs.Appending.{appending_ask}
-use Rattle.fkv_ops.specs.Trying.{TryState, trying_ask, trying_next, walk_ledto, old_ledto, copies, copies_from, appends, is_moving_on}
+use Rattle.fkv_ops.specs.Trying.{TryState, trying_ask, trying_next, walk_ledto, old_ledto, copies, copies_from, appends, is_moving_on, is_marked}
 use Rattle.fkv_ops.specs.Walking.{WalkState, reached, walking_ask, walking_next, load_ledto, value_ledto, walking_on}
 use Rattle.fkv_session.specs.Sessions.{Seat, SessionState}
 use Rattle.fkv_straight.specs.declared.going.Going.{Going}
@@ -80,7 +80,11 @@ copies_still : (c : Course) (trail : Trail) (r : Record) (safe : ℕ) → nat_le
 unfolding trying_next copies
 copies_still c trail r safe below still = rw (below, still) refl
 
-copies_own : (c : Course) (trail : Trail) (r : Record) (safe : ℕ) → nat_le safe r.addr ≡ false → (r.mark == mark (request_in c).version.0) ≡ true
+-- the mark tells that the record is of the update's version
+abbrev pub Own : Course → Record → Type 0
+Own c r = (not (is_marked (request_in c).version) && r.mark == mark (request_in c).version.0) ≡ true
+
+copies_own : (c : Course) (trail : Trail) (r : Record) (safe : ℕ) → nat_le safe r.addr ≡ false → Own c r
     → next_try c (finding c trail r (LoadsSafe (record { 0 = r.addr }) (record { 0 = r.mark }))) safe ≡ copies_from (finding c trail r (LoadsSafe (record { 0 = r.addr }) (record { 0 = r.mark }))) InMemory
 unfolding trying_next copies
 copies_own c trail r safe below own = rw (below, own, and_false (is_moving_on c.lasts.seen.phase && ((request_in c).version.0 == c.lasts.seen.version.0))) refl
@@ -90,7 +94,7 @@ unfolding HasSafe IsCopied
 still_copied c r safe s has below still =
     (has.0, LoadsSafe (record { 0 = r.addr }) (record { 0 = r.mark }), subst (λ (t : TryState). IsLed c t s) (copies_still c has.0 r safe below still) has.1)
 
-pub own_copied : (c : Course) (r : Record) (safe : ℕ) (s : SessionState) → HasSafe c r safe s → nat_le safe r.addr ≡ false → (r.mark == mark (request_in c).version.0) ≡ true → IsCopied c r s
+pub own_copied : (c : Course) (r : Record) (safe : ℕ) (s : SessionState) → HasSafe c r safe s → nat_le safe r.addr ≡ false → Own c r → IsCopied c r s
 unfolding HasSafe IsCopied
 own_copied c r safe s has below own =
     (has.0, LoadsSafe (record { 0 = r.addr }) (record { 0 = r.mark }), subst (λ (t : TryState). IsLed c t s) (copies_own c has.0 r safe below own) has.1)
@@ -170,5 +174,5 @@ is_low c k op g r goes low = let h : r.addr < c.lasts.seen.offsets.read_only.0 =
 pub is_other : (c : Course) (k : Seat) (op : Op) (g : Going) (r : Record) → Goes c k op g → ¬ (r.mark ≡ g.mark) → (r.mark == mark (request_in c).version.0) ≡ false
 is_other c k op g r goes other = let h : ¬ (r.mark ≡ mark (request_in c).version.0) = (λ e. other (e ∙ goes.its_mark)) in grind (arith, nat_tests, h)
 
-pub is_own : (c : Course) (k : Seat) (op : Op) (g : Going) (r : Record) → Goes c k op g → r.mark ≡ g.mark → (r.mark == mark (request_in c).version.0) ≡ true
-is_own c k op g r goes own = let h : r.mark ≡ mark (request_in c).version.0 = own ∙ sym goes.its_mark in grind (arith, nat_tests)
+pub is_own : (c : Course) (k : Seat) (op : Op) (g : Going) (r : Record) → Goes c k op g → (not (is_marked (record { 0 = g.version })) && r.mark == g.mark) ≡ true → Own c r
+is_own c k op g r goes own = rw (goes.its_mark, goes.its_version) own

@@ -75,12 +75,7 @@ update_asks k m u l serial reply alike e done =
     ap (λ (s : Serial). Done (told.Done s reply)) (serial_is serial (l.serial + 1) (e ∙ ap (λ (n : ℕ). n + 1) (serial_lasts m ∙ ap (λ (x : Lasting). x.serial) alike)))
     ∙ sym (asks_none k u (told.Done (record { 0 = l.serial + 1 }) reply) done.ended)
 
--- the same of a read that may have ended
-pub read_ended : (k : Seat) (m u : SessionState) (l : Lasting) (r : Option Told) → lasting m ≡ l → IfSome r (λ (its : Told). IsEnded l its u) → IfSome r (λ (its : Told). (Done its ≡ session_ask k u) × IsCaughtUp m u)
-read_ended k m u l (Some its) alike ended = (read_asks k u l its ended, read_caught_up m u l its alike ended)
-read_ended k m u l None alike ended = tt
-
--- and of an update that waits, if the machine had room for it
+-- the same of an update that waits, if the machine had room for it
 pub waiting_ended : (k : Seat) (m n : Sitter) (s u : SessionState) (op : Op) (r : Option Told) → is_read op ≡ false → lasting m.state ≡ lasting s
     → IfSome r (λ (its : Told). (its ≡ told.Pending (record { 0 = m.state.serial + 1 }) reason.Contended) × (length m.state.requests + 1 < max_pending) × (n ≡ record m { state = update_waiting m.state op })) → IsWaiting (course_of k s op (call.Op op)) u
     → IfSome r (λ (its : Told). (Done its ≡ session_ask k u) × IsCaughtUp n.state u)
@@ -94,7 +89,7 @@ waiting_seat m n op (Some its) h none = ap (λ (x : Sitter). x.seat) h.2
 waiting_seat m n op None h none = ap (λ (x : Sitter). x.seat) none
 
 -- so there is room for another behind it
-room_left : (requests : List PendingRequest) (its : PendingRequest) → length requests + 1 < max_pending → is_full (requests ++ its ∷ []) ≡ false
+pub room_left : (requests : List PendingRequest) (its : PendingRequest) → length requests + 1 < max_pending → is_full (requests ++ its ∷ []) ≡ false
 room_left requests its few = let e : length (requests ++ its ∷ []) ≡ length requests + 1 = length_push requests its in grind (arith, nat_tests, e)
 
 waiting_by : (m n : Sitter) (op : Op) (g : Going) → length m.state.requests + 1 < max_pending → n ≡ record m { state = update_waiting m.state op } → GoesBy m.seat m.state g → GoesBy n.seat n.state g
@@ -105,10 +100,6 @@ pub waiting_goes : (m n : Sitter) (op : Op) (g : Going) (r : Option Told)
     → GoesBy n.seat n.state g
 waiting_goes m n op g (Some its) h none by = waiting_by m n op g h.1 h.2 by
 waiting_goes m n op g None h none by = subst (λ (x : Sitter). GoesBy x.seat x.state g) (sym none) by
-
-pub none_so : {A : Type 0} (P : Type 0) (r : Option A) → P → IfNone r P
-none_so P (Some x) h = tt
-none_so P None h = h
 
 -- two machines of which the same lasts begin a call alike
 pub begun_alike : (k q : Seat) (r s : SessionState) (its : Call) → k ≡ q → StandAlike (session_begun k r its) (session_begun k s its) → StandAlike (begins k r its) (begins q s its)

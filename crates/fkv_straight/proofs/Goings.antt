@@ -1,6 +1,6 @@
 -- The numbers that a call goes by, as those of its course.
 use Rattle.std.proofs.Common.{◌≡◌, ℕ, ◌<◌, ◌≤◌, refl, sym, ap, ◌∙◌, subst, arith, Bool, true, false}
-use Rattle.std.specs.Prelude.{◌+◌, ◌*◌, ◌%◌, ◌&&◌, not, nat_le, nat_lt, Option, Some, None, IfSome, IfNone}
+use Rattle.std.specs.Prelude.{◌+◌, ◌*◌, ◌%◌, ◌&&◌, not, nat_le, nat_lt, Option, Some, None, IfSome, IfNone, Result, Ok, Err, IfOk, IfErr}
 use Rattle.std.proofs.lemmas.Bool.Decides.{nat_tests}
 use Rattle.fkv_base.specs.Limits.{last_serial, last_version}
 use Rattle.fkv_base.specs.declared.numbers.Key.{Key}
@@ -16,13 +16,13 @@ use Rattle.fkv_index.specs.Finding.{spare_of}
 use Rattle.fkv_index.specs.Slots.{home_of}
 use Rattle.fkv_ops.specs.declared.requests.Seen.{Seen}
 use Rattle.fkv_ops.specs.Requests.{is_read, is_blind}
-use Rattle.fkv_ops.specs.Trying.{is_prepare, is_moving_on}
+use Rattle.fkv_ops.specs.Trying.{is_prepare, is_moving_on, is_next_marked}
 use Rattle.fkv_session.specs.declared.answers.Told.{Told}
 use Rattle.fkv_session.specs.declared.answers.Told.TheVariants.{Slept}
 use Rattle.fkv_session.specs.declared.sessions.Sitting.TheVariants.{Idle}
 use Rattle.fkv_session.specs.Sessions.{Seat, SessionState, Sitter, is_full, version_within}
 use Rattle.fkv_straight.specs.declared.going.Going.{Going}
-use Rattle.fkv_straight.specs.Course.{Course, home_in, head_in, shares, Goes, GoesBy}
+use Rattle.fkv_straight.specs.Course.{Course, home_in, head_in, request_in, shares, Goes, GoesBy}
 use Rattle.fkv_straight.specs.Memory.{is_in_memory}
 use Rattle.fkv_straight.specs.Met.{IsInMemory, latch_in}
 use Rattle.fkv_straight.specs.Standing.{asked, leads}
@@ -99,11 +99,20 @@ shares_in c k op g goes prepares updates =
     let f : is_read c.op ≡ false = updates_in c k op g false goes updates in
     rw (e, f) refl
 
+pub is_unmarked : (c : Course) (k : Seat) (op : Op) (g : Going) → Goes c k op g → is_next_marked (record { 0 = g.version }) ≡ false → is_next_marked (request_in c).version ≡ false
+is_unmarked c k op g goes unmarked = rw goes.its_version unmarked
+
 pub goes_at : (c : Course) (k : Seat) (op : Op) (g : Going) (q : Seat) → Goes c k op g → q ≡ k → Goes c q op g
 goes_at c k op g q goes same = subst (λ (x : Seat). Goes c x op g) (sym same) goes
 
 pub some_of : {A : Type 0} (P : A → Type 0) (found : Option A) (x : A) → found ≡ Some x → IfSome found P → P x
 some_of P found x e h = subst (λ (o : Option _). IfSome o P) e h
+
+pub ok_of : {A E : Type 0} (P : A → Type 0) (found : Result A E) (x : A) → found ≡ Ok x → IfOk found P → P x
+ok_of P found x e h = subst (λ (o : Result _ _). IfOk o P) e h
+
+pub err_of : {A E : Type 0} (P : E → Type 0) (found : Result A E) (x : E) → found ≡ Err x → IfErr found P → P x
+err_of P found x e h = subst (λ (o : Result _ _). IfErr o P) e h
 
 pub none_of : {A : Type 0} (P : Type 0) (found : Option A) → found ≡ None → IfNone found P → P
 none_of P found e h = subst (λ (o : Option _). IfNone o P) e h

@@ -3,10 +3,12 @@ mod Changes
 mod Copies
 mod Endings
 mod Goings
+mod Mailboxes
 mod MayGoes
 mod Moves
 mod Polls
 mod ReadEnds
+mod Readers
 mod Refreshes
 mod Replays
 mod Seeks

@@ -36,14 +36,14 @@ use Rattle.fkv_straight.proofs.Goings.{goes_on_by, spare_same, version_same}
 as_request : (r : Request) (op : Op) (version : Version) → r.op ≡ op → r.version.0 ≡ version_within version.0 → r.has_latch ≡ false → r.held ≡ None → r ≡ request_of op version
 as_request r op version its same free none =
     (λ i. record { op = its i; version = r.version; has_latch = free i; held = none i; some_version = r.some_version; version_fits = r.version_fits })
-    ∙ same_made {A = Version} {P = λ v. (0 < v.0) × (v.0 < 2 ^ 13)} (λ v h. record { op = op; version = v; has_latch = false; held = None; some_version = h.0; version_fits = h.1 }) (λ v. hlevel le_prop) r.version (request_of op version).version
+    ∙ same_made {A = Version} {P = λ v. (0 < v.0) × (v.0 < 2 ^ 45)} (λ v h. record { op = op; version = v; has_latch = false; held = None; some_version = h.0; version_fits = h.1 }) (λ v. hlevel le_prop) r.version (request_of op version).version
     (r.some_version, r.version_fits) ((request_of op version).some_version, (request_of op version).version_fits) (λ i. record { 0 = same i })
 
 pub none_of : {A : Type 0} (x : Option A) → is_some x ≡ false → x ≡ None
 none_of None h = refl
 none_of (Some x) h = absurd (cc h)
 
-only_is : (l : List PendingRequest) (its : PendingRequest) → only_of l ≡ Some its → l ≡ its ∷ []
+pub only_is : (l : List PendingRequest) (its : PendingRequest) → only_of l ≡ Some its → l ≡ its ∷ []
 only_is [] its e = absurd (cc e)
 only_is (x ∷ []) its e = cc e
 only_is (x ∷ y ∷ l) its e = absurd (cc e)

@@ -13,10 +13,10 @@ use Rattle.fkv_ops.specs.declared.trying.Trying.{Trying}
 use Rattle.fkv_ops.specs.declared.trying.Trying.TheVariants.{Ended}
 use Rattle.fkv_ops.specs.Appending.{append_rested}
 use Rattle.fkv_ops.specs.Requests.{is_read}
-use Rattle.fkv_ops.specs.Trying.{TryState, trying_ask, try_ask, trying_next, shared_ledto, shared_dropped, ends, takes_effect}
+use Rattle.fkv_ops.specs.Trying.{TryState, trying_ask, try_ask, trying_next, is_next_marked, shared_ledto, shared_dropped, ends, takes_effect}
 use Rattle.fkv_ops.specs.Walking.{WalkState, walking_ask}
 use Rattle.fkv_session.specs.Sessions.{SessionState, is_word_ask}
-use Rattle.fkv_straight.specs.Course.{Course, IsSettled, shares}
+use Rattle.fkv_straight.specs.Course.{Course, IsSettled, request_in, shares}
 use Rattle.fkv_straight.specs.Met.{Begins, HasChanged, IsAtFirst, IsAtSlot, entering, latch_in, sharing, trying}
 use Rattle.fkv_straight.specs.Standing.{asked, begins, leads, Tries, next_try, IsDone}
 use Rattle.fkv_straight.proofs.Goings.{spare_same}
@@ -31,15 +31,15 @@ pub share_asks : (c : Course) (its : Call) (s : SessionState) → Begins c its s
 unfolding trying_ask latch_ask passed
 share_asks c its s at shared = asks_add c (sharing c) (latch_in c) (2 ^ 48) (begins c.seat s its) (begun_sharing c its s at shared) refl
 
-enters : (c : Course) (word : ℕ) → shares c ≡ true → is_exclusive word ≡ false → spare_of c.seat.places c.lasts.spare ≡ c.lasts.spare → next_try c (sharing c) word ≡ entering c
+enters : (c : Course) (word : ℕ) → shares c ≡ true → is_next_marked (request_in c).version ≡ false → is_exclusive word ≡ false → spare_of c.seat.places c.lasts.spare ≡ c.lasts.spare → next_try c (sharing c) word ≡ entering c
 unfolding trying_next shared_ledto latch_next latch_next_ask
-enters c word shared free spare = rw (free, spare, shared) refl
+enters c word shared unmarked free spare = rw (free, spare, shared, unmarked) refl
 
-pub share_comes : (c : Course) (its : Call) (word : ℕ) (s u : SessionState) → Begins c its s → shares c ≡ true → c.lasts.spare ≤ c.seat.places.overflow → u ≡ leads c.seat (begins c.seat s its) word → word < 2 ^ 63 → IsAtFirst c u
+pub share_comes : (c : Course) (its : Call) (word : ℕ) (s u : SessionState) → Begins c its s → shares c ≡ true → is_next_marked (request_in c).version ≡ false → c.lasts.spare ≤ c.seat.places.overflow → u ≡ leads c.seat (begins c.seat s its) word → word < 2 ^ 63 → IsAtFirst c u
 unfolding IsAtSlot trying_ask walking_ask find_step_ask passed
-share_comes c its word s u at shared fits e few =
+share_comes c its word s u at shared unmarked fits e few =
     steps c (sharing c) (entering c) word (begins c.seat s its) u (begun_sharing c its s at shared) e
-    (enters c word shared (grind (arith, nat_tests, few)) (spare_same c.seat.places c.lasts.spare fits)) refl refl
+    (enters c word shared unmarked (grind (arith, nat_tests, few)) (spare_same c.seat.places c.lasts.spare fits)) refl refl
 
 -- ---- it drops its share
 abbrev changed : Course → WalkState → Trying → Reply → TryState

@@ -16,6 +16,10 @@ pub or_false : (b : Bool) → (b || false) ≡ b
 or_false true = refl
 or_false false = refl
 
+pub not_false : (b : Bool) → not b ≡ false → b ≡ true
+not_false true h = refl
+not_false false h = absurd (cc h)
+
 pub and_false : (b : Bool) → (b && false) ≡ false
 and_false true = refl
 and_false false = refl

@@ -1,25 +1,28 @@
 -- What the hot part of a call has left to do.
-use Rattle.std.specs.Prelude.{◌≡◌, ◌≤◌, ⊤, ℕ, false}
+use Rattle.std.specs.Prelude.{◌≡◌, ◌≤◌, ⊤, ℕ, true, false}
 use Rattle.fkv_map.specs.declared.operations.Call.TheVariants as call
 use Rattle.fkv_map.specs.declared.operations.Op.{Op}
 use Rattle.fkv_ops.specs.Requests.{is_read}
 use Rattle.fkv_session.specs.Alike.{lasting}
 use Rattle.fkv_session.specs.Sessions.{Seat, SessionState}
 use Rattle.fkv_straight.specs.declared.hot.Due.{Due}
-use Rattle.fkv_straight.specs.declared.hot.Due.TheVariants.{Met, Lost, Unusual}
+use Rattle.fkv_straight.specs.declared.hot.Due.TheVariants.{Met, OnDisk, Lost, Unusual}
 use Rattle.fkv_straight.specs.Course.{Course, course_of, shares}
+use Rattle.fkv_straight.specs.Mailbox.{IsSought}
 use Rattle.fkv_straight.specs.Met.{HasMet}
 use Rattle.fkv_straight.specs.Standing.{IsWaiting}
 
--- An update has met this, and no step was made since; it has lost to another session; or nothing is said.
+-- An update has met this, and no step was made since; a read goes on at this record of the device; an update has lost to another session; or nothing is said.
 abbrev pub IsDue : Course → Due → SessionState → Type 0
 IsDue c (Met its) s = (is_read c.op ≡ false) × (shares c ≡ false) × HasMet c its s
+IsDue c (OnDisk sought) s = (is_read c.op ≡ true) × IsSought c sought s
 IsDue c Lost s = (is_read c.op ≡ false) × IsWaiting c s
 IsDue c Unusual s = ⊤
 
 -- behind a search there is room for the replies of all that may follow
 abbrev pub HasRoom : Due → ℕ → Type 0
 HasRoom (Met its) kept = kept ≤ 48
+HasRoom (OnDisk sought) kept = kept ≤ 48
 HasRoom Lost kept = ⊤
 HasRoom Unusual kept = ⊤
 

@@ -1,6 +1,6 @@
 -- Where a try stands on the ways of a straight call: along its bucket, along its chain, at the record that is changed, and at the record
 -- that is appended.
-use Rattle.std.specs.Prelude.{◌≡◌, ◌<◌, ◌≤◌, ◌&&◌, if◌then◌else◌, ℕ, true, false, Option, None}
+use Rattle.std.specs.Prelude.{◌≡◌, ◌<◌, ◌≤◌, ◌&&◌, not, if◌then◌else◌, ℕ, true, false, Option, None}
 use Rattle.fkv_base.specs.declared.numbers.Version.{Version}
 use Rattle.fkv_base.specs.Limits.{last_serial}
 use Rattle.fkv_map.specs.declared.operations.Call.{Call}
@@ -40,7 +40,7 @@ use Rattle.fkv_ops.specs.HeaderWords.{header_said}
 use Rattle.fkv_ops.specs.Requests.{is_read, purpose_of}
 use Rattle.fkv_ops.specs.Walking.{WalkState, first_met, reached, walk_ask, walk_rested}
 use Rattle.fkv_ops.specs.Appending.{AppendState, append_rested}
-use Rattle.fkv_ops.specs.Trying.{TryState, words_of, walk_ledto, copies_from, ends, takes_effect, is_above}
+use Rattle.fkv_ops.specs.Trying.{TryState, words_of, walk_ledto, copies_from, ends, takes_effect, is_above, is_next_marked}
 use Rattle.fkv_pending.specs.declared.pending_requests.RequestName.TheVariants.{Update}
 use Rattle.fkv_session.specs.Sessions.{Seat, SessionState, refusal_of}
 use Rattle.fkv_straight.specs.declared.searching.Met.{Met}
@@ -165,15 +165,15 @@ pub record IsMet (c : Course) (r : Record) (s : SessionState) : Type 0 where
   pub here : IsInMemory c r.addr
   pub at : r.at ≡ record_place c.seat.places r.addr Header
 
--- by whatever trail it was met, the update stays at its version: in prepare the chain's first record is of no later one
+-- by whatever trail it was met, the update stays at its version: in prepare the chain's first record is of no later one, or its mark doesn't tell
 abbrev pub IsUnshifted : Course → Record → Type 0
-IsUnshifted c r = (trail : Trail) → IsTrail trail r.entry r.addr → (shares c && is_above (first_met trail.first (record { 0 = r.mark })) (request_in c).version) ≡ false
+IsUnshifted c r = (trail : Trail) → IsTrail trail r.entry r.addr → (shares c && not (is_next_marked (request_in c).version) && is_above (first_met trail.first (record { 0 = r.mark })) (request_in c).version) ≡ false
 
 -- what a search has met: its key's record; the chain's end; or where the chain leaves memory
 abbrev pub HasMet : Course → Met → SessionState → Type 0
 HasMet c (Found r) s = IsMet c r s
 HasMet c (Nowhere slot) s = IsReached c slot.place slot.entry 0 s
-HasMet c (OnDisk slot) s = (addr : ℕ) × (0 < addr) × (addr < head_in c) × IsReached c slot.place slot.entry addr s
+HasMet c (OnDisk slot addr) s = (0 < addr) × (addr < head_in c) × IsReached c slot.place slot.entry addr s
 
 -- ---- at the record
 abbrev pub holding : Course → Trail → Record → Trying → TryState

@@ -259,13 +259,14 @@ pub(crate) fn append_first<L: Line>(line: &mut L, going: &Going, op: Op, slot: S
 /// Appends a record whose value doesn't depend on what the device has of the chain.
 #[inline(always)]
 pub(crate) fn append_past<L: Line>(line: &mut L, going: &Going, op: Op, slot: Slot) -> Outcome
-    requires at { (c : Course) × Goes c (L.seat line.old) op going.now × HasMet c (OnDisk slot) (L.stands line.old) }
+    requires at { (c : Course) × Goes c (L.seat line.old) op going.now × (addr : ℕ) × HasMet c (OnDisk slot addr) (L.stands line.old) }
     requires room { L.kept line.old ≤ 48 }
     requires updates { is_read op ≡ false }
     requires calm { going.now.is_preparing ≡ false }
     ensures seat { L.seat line.new ≡ L.seat line.old }
     ensures led { (start : L) (call : Call) → L.led start call line.old → L.led start call line.new }
-    ensures done { (c : Course) → Goes c (L.seat line.old) op going.now → HasMet c (OnDisk slot) (L.stands line.old) → ComesTo c result (L.stands line.new) }
+    ensures done { (c : Course) → Goes c (L.seat line.old) op going.now → (addr : ℕ) → HasMet c (OnDisk slot addr) (L.stands line.old)
+        → ComesTo c result (L.stands line.new) }
 {
     let blind = is_blind(op);
     if !blind {

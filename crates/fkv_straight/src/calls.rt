@@ -58,7 +58,7 @@ pub(crate) fn go_by<L: Line>(
     ensures stopped { IfNone result (machine.new ≡ machine.old) }
 {
     match op {
-        Op::Read(_) => read(line, going, op),
+        Op::Read(_) => read(line, machine, going, op),
         _ => {
             let straight = update_by_phase(line, going, op, Call::Op(op));
             match straight {

@@ -133,7 +133,7 @@ pub(crate) fn update_met<L: Line>(line: &mut L, going: &Going, op: Op, met: Met)
     match met {
         Met::Found(record) => update_record(line, going, op, record),
         Met::Nowhere(slot) => append_first(line, going, op, slot),
-        Met::OnDisk(slot) => append_past(line, going, op, slot),
+        Met::OnDisk(slot, _) => append_past(line, going, op, slot),
     }
 }
 

@@ -1,7 +1,8 @@
 //! An update by a copy of the record that was met.
-ghost use Rattle.std.specs.Prelude.{◌≡◌, ◌<◌, ◌≤◌, false};
+ghost use Rattle.std.specs.Prelude.{◌≡◌, ◌<◌, ◌≤◌, ◌==◌, ◌&&◌, not, false};
 ghost use Rattle.fkv_map.specs.declared.operations.Call.{Call};
 ghost use Rattle.fkv_ops.specs.Requests.{is_read};
+ghost use Rattle.fkv_ops.specs.Trying.{is_marked};
 ghost use Rattle.fkv_session.specs.Sessions.{};
 ghost use Rattle.fkv_straight.specs.Course.{Course, Goes};
 ghost use Rattle.fkv_straight.specs.Met.{IsMet, IsCopied};
@@ -13,9 +14,9 @@ use crate::lines::Line;
 use crate::outcomes::Outcome;
 use crate::searching::{Record, Slot};
 use crate::words::is_blind;
-use fkv_base::Addr;
+use fkv_base::{Addr, Version};
 use fkv_map::Op;
-use fkv_ops::value_of_word;
+use fkv_ops::{is_marked, value_of_word};
 use fkv_plane::{RecordWord, SharedWord};
 
 /// Appends the copy. The old value is loaded first, where it counts.
@@ -44,6 +45,14 @@ fn copy<L: Line>(line: &mut L, going: &Going, op: Op, its: Record) -> Outcome
     }
 }
 
+/// Whether the record is of the session's version, wherever it lies: no older version has that mark.
+#[inline(always)]
+fn is_surely_own(going: &Going, its: Record) -> bool
+    ensures { result ≡ not (is_marked (record { 0 = going.now.version })) && its.mark == going.now.mark }
+{
+    !is_marked(Version(going.version)) && its.mark == going.mark
+}
+
 /// Copies a record below the safe read-only offset, which nobody changes any more. One between the two offsets may be changed still by a
 /// session that has looked less lately: it is the machine's.
 #[inline(always)]
@@ -62,7 +71,8 @@ pub(crate) fn copy_below<L: Line>(line: &mut L, going: &Going, op: Op, its: Reco
     if safe <= its.addr {
         return Outcome::Unusual;
     }
-    if going.is_moving_on && its.mark != going.mark {
+    let own = is_surely_own(going, its);
+    if going.is_moving_on && !own {
         return Outcome::Unusual;
     }
     copy(line, going, op, its)

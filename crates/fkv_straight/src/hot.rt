@@ -18,10 +18,12 @@ use crate::calls::wait;
 use crate::changing::{change, update_met};
 use crate::going::Going;
 use crate::lines::Line;
+use crate::mailbox::ask_for;
 use crate::outcomes::Outcome;
 use crate::reading::tell;
 use crate::searching::{Met, search};
 use fkv_map::{Call, Op};
+use fkv_ops::DiskRecord;
 use fkv_session::{Session, Told};
 
 /// What the hot part of a call has left to do.
@@ -29,6 +31,8 @@ use fkv_session::{Session, Told};
 pub enum Due {
     /// Its update has met this, and isn't one in place.
     Met(Met),
+    /// Its read's chain leaves memory at this record.
+    OnDisk(DiskRecord),
     /// Another session was quicker, so its update has to wait.
     Lost,
     /// It has met something unusual: the machine goes on.
@@ -102,8 +106,8 @@ pub(crate) fn go_hot<L: Line>(
         Op::Read(_) => {
             let told = tell(line, going, op, its);
             match told {
-                Some(answer) => Ok(answer),
-                None => Err(Due::Unusual),
+                Ok(answer) => Ok(answer),
+                Err(sought) => Err(Due::OnDisk(sought)),
             }
         }
         _ => update_hot(line, machine, going, op, its),
@@ -141,6 +145,7 @@ pub(crate) fn go_due<L: Line>(
                 Outcome::Unusual => None,
             }
         }
+        Due::OnDisk(sought) => ask_for(line, machine, op, sought),
         Due::Lost => wait(machine, op),
         Due::Unusual => None,
     }

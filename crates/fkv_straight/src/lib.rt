@@ -11,6 +11,7 @@ mod going;
 mod handing;
 mod hot;
 mod lines;
+mod mailbox;
 mod outcomes;
 mod polling;
 mod reading;

@@ -1,62 +1,91 @@
 //! A read, straight.
-ghost use Rattle.std.specs.Prelude.{◌≡◌, ◌≤◌, IfSome, true, false};
+ghost use Rattle.std.specs.Prelude.{◌≡◌, ◌≤◌, IfSome, IfNone, IfOk, IfErr, true, false};
 ghost use Rattle.fkv_map.specs.declared.operations.Call.TheVariants as call;
 ghost use Rattle.fkv_map.specs.declared.operations.Call.{Call};
 ghost use Rattle.fkv_ops.specs.declared.requests.Occasion.TheVariants as occasion;
 ghost use Rattle.fkv_ops.specs.Requests.{is_read};
+ghost use Rattle.fkv_plane.specs.declared.asks.Ask.TheVariants.{Done};
 ghost use Rattle.fkv_session.specs.Alike.{lasting};
-ghost use Rattle.fkv_session.specs.Sessions.{is_busy};
-ghost use Rattle.fkv_straight.specs.Course.{Course, course_of, Goes};
-ghost use Rattle.fkv_straight.specs.Met.{Begins, HasMet};
-ghost use Rattle.fkv_straight.specs.Standing.{IsEnded};
+ghost use Rattle.fkv_session.specs.Sessions.{is_busy, session_ask};
+ghost use Rattle.fkv_straight.specs.Course.{Course, Goes, GoesBy};
+ghost use Rattle.fkv_straight.specs.Mailbox.{IsSought};
+ghost use Rattle.fkv_straight.specs.Met.{HasMet, MayGo};
+ghost use Rattle.fkv_straight.specs.Standing.{IsCaughtUp, IsEnded};
+ghost use Rattle.fkv_straight.specs.declared.going.Going.{Going};
 
 use crate::going::Going;
 use crate::lines::Line;
+use crate::mailbox::ask_for;
 use crate::searching::{Met, search};
-use fkv_base::Value;
+use fkv_base::{Addr, Value};
 use fkv_map::{Call, Op};
-use fkv_session::Told;
+use fkv_ops::DiskRecord;
+use fkv_session::{Session, Told};
 
-/// What a read is told whose search has met this, if that is in memory.
+/// What a read is told whose search has met this; or, if the chain leaves memory, where it goes on.
 #[inline(always)]
-pub(crate) fn tell<L: Line>(line: &mut L, going: &Going, op: Op, met: Met) -> Option<Told>
+pub(crate) fn tell<L: Line>(
+    line: &mut L,
+    going: &Going,
+    op: Op,
+    met: Met,
+) -> Result<Told, DiskRecord>
     requires at { (c : Course) × Goes c (L.seat line.old) op going.now × HasMet c met (L.stands line.old) }
     requires room { L.kept line.old ≤ 48 }
     requires reads { is_read op ≡ true }
     ensures seat { L.seat line.new ≡ L.seat line.old }
     ensures led { (start : L) (call : Call) → L.led start call line.old → L.led start call line.new }
     ensures ended { (c : Course) → Goes c (L.seat line.old) op going.now → c.occasion ≡ occasion.Call → HasMet c met (L.stands line.old)
-        → IfSome result (λ its. IsEnded c.lasts its (L.stands line.new)) }
+        → IfOk result (λ its. IsEnded c.lasts its (L.stands line.new)) }
+    ensures left { (c : Course) → HasMet c met (L.stands line.old) → IfErr result (λ sought. IsSought c sought (L.stands line.new)) }
+    ensures kept { IfErr result (λ sought. L.kept line.new ≤ 48) }
 {
     match met {
         Met::Found(record) => {
             let place = record.at + 2;
             let value = line.load(place);
             if value == Value::ABSENT {
-                Some(Told::Absent)
+                Ok(Told::Absent)
             } else {
-                Some(Told::Found(Value(value)))
+                Ok(Told::Found(Value(value)))
             }
         }
-        Met::Nowhere(_) => Some(Told::Absent),
-        Met::OnDisk(_) => None,
+        Met::Nowhere(_) => Ok(Told::Absent),
+        Met::OnDisk(slot, addr) => Err(DiskRecord {
+            entry: slot.entry,
+            addr: Addr(addr),
+        }),
     }
 }
 
-/// What a read is told whose key's record, or chain's end, is in memory.
+/// Makes the steps of a read, each the one that the machine's table asks for, up to its answer. None if it has met anything unusual: the machine has to
+/// catch up with the line then.
 #[inline(always)]
-pub(crate) fn read<L: Line>(line: &mut L, going: &Going, op: Op) -> Option<Told>
+pub(crate) fn read<L: Line>(
+    line: &mut L,
+    machine: &mut Session,
+    going: &Going,
+    op: Op,
+) -> Option<Told>
     requires idle { is_busy (L.stands line.old).step ≡ false }
-    requires goes { Goes (course_of (L.seat line.old) (L.stands line.old) op (call.Op op)) (L.seat line.old) op going.now }
-    requires begins { Begins (course_of (L.seat line.old) (L.stands line.old) op (call.Op op)) (call.Op op) (L.stands line.old) }
+    requires seat { machine.old.seat ≡ L.seat line.old }
+    requires alike { lasting machine.old.state ≡ lasting (L.stands line.old) }
+    requires may { MayGo machine.old.seat machine.old.state op going.now }
     requires reads { is_read op ≡ true }
     ensures seat { L.seat line.new ≡ L.seat line.old }
     ensures led { L.led line.old (call.Op op) line.new }
-    ensures ended { IfSome result (λ its. IsEnded (lasting (L.stands line.old)) its (L.stands line.new)) }
+    ensures machine { machine.new.seat ≡ machine.old.seat }
+    ensures goes_by { (its : Going) → GoesBy machine.old.seat machine.old.state its → GoesBy machine.new.seat machine.new.state its }
+    ensures ended { IfSome result (λ told. (Done told ≡ session_ask (L.seat line.old) (L.stands line.new)) × IsCaughtUp machine.new.state (L.stands line.new)) }
+    ensures stopped { IfNone result (machine.new ≡ machine.old) }
 {
     let met = search(line, going, op, Call::Op(op));
     let Some(its) = met else {
         return None;
     };
-    tell(line, going, op, its)
+    let told = tell(line, going, op, its);
+    match told {
+        Ok(answer) => Some(answer),
+        Err(sought) => ask_for(line, machine, op, sought),
+    }
 }

@@ -47,8 +47,8 @@ pub enum Met {
     Found(Record),
     /// The chain ends, and has no record of the key.
     Nowhere(Slot),
-    /// The chain leaves memory.
-    OnDisk(Slot),
+    /// The chain leaves memory at this address.
+    OnDisk(Slot, u64),
 }
 
 /// Searches through more overflow buckets, and walks along more records, are the machine's.
@@ -229,7 +229,7 @@ fn walk<L: Line>(line: &mut L, going: &Going, op: Op, slot: Slot) -> Option<Met>
         return Some(Met::Nowhere(slot));
     }
     if addr < going.head {
-        return Some(Met::OnDisk(slot));
+        return Some(Met::OnDisk(slot, addr));
     }
     None
 }

@@ -13,6 +13,7 @@ ghost use Rattle.fkv_session.specs.Sessions.{is_busy, session_ask, session_begun
 ghost use Rattle.fkv_straight.specs.Course.{GoesBy};
 ghost use Rattle.fkv_straight.specs.Standing.{IsCaughtUp, begins};
 ghost use Rattle.fkv_straight.specs.Hot.{HasLeft};
+ghost use Rattle.fkv_straight.specs.Mailbox.{MayLook};
 ghost use Rattle.fkv_straight.specs.declared.hot.Due.{Due};
 ghost use Rattle.fkv_straight.specs.declared.sessions.Hot.TheVariants.{Ended as HasEnded, Left, Stayed as HasStayed};
 ghost use Rattle.fkv_straight.specs.declared.sessions.Went.TheVariants.{Ended, Stopped, Stayed};
@@ -22,6 +23,7 @@ use crate::going::Going;
 use crate::handing::catch_up;
 use crate::hot::{Due, go_due, go_hot};
 use crate::lines::Line;
+use crate::mailbox::{Asker, asking_read, poll_asker};
 use crate::polling::poll_by;
 use crate::refreshing::refresh;
 use fkv_base::Serial;
@@ -214,10 +216,8 @@ impl StraightSession {
         Went::Ended(told)
     }
 
-    /// Makes the steps of a poll, each the one that the machine's table asks for, up to its answer or to where anything unusual is met. It may go straight
-    /// where one update waits, and that for nothing but the poll.
-    #[inline(never)]
-    fn poll<L: Line>(&mut self, line: &mut L) -> Went
+    /// Makes the steps of a poll in which one update waits, and that for nothing but the poll. In any other it makes none.
+    fn poll_lone<L: Line>(&mut self, line: &mut L) -> Went
         requires idle { is_busy (L.stands line.old).step ≡ false }
         requires seat { self.old.seat ≡ L.seat line.old }
         requires alike { lasting self.old.state ≡ lasting (L.stands line.old) }
@@ -247,8 +247,57 @@ impl StraightSession {
         Went::Ended(told)
     }
 
+    /// Makes the steps of a poll in which this read alone waits, and has asked for a record of the device.
+    fn poll_asker<L: Line>(&mut self, line: &mut L, its: Asker) -> Went
+        requires idle { is_busy (L.stands line.old).step ≡ false }
+        requires seat { self.old.seat ≡ L.seat line.old }
+        requires alike { lasting self.old.state ≡ lasting (L.stands line.old) }
+        requires may { MayLook self.old.state its }
+        ensures seat { L.seat line.new ≡ L.seat line.old }
+        ensures machine { self.new.seat ≡ self.old.seat }
+        ensures ended { (told : Told) → result ≡ Ended told
+            → L.led line.old call.Poll line.new × (Done told ≡ session_ask (L.seat line.old) (L.stands line.new))
+            × IsCaughtUp self.new.state (L.stands line.new) }
+        ensures stopped { result ≡ Stopped
+            → L.led line.old call.Poll line.new × (self.new ≡ self.old)
+            × StandAlike (begins self.old.seat self.old.state call.Poll) (begins (L.seat line.old) (L.stands line.old) call.Poll) }
+        ensures stayed { result ≡ Stayed → ⊥ }
+    {
+        let straight = poll_asker(line, &mut self.machine, its);
+        let Some(told) = straight else {
+            law_of_standing();
+            return Went::Stopped;
+        };
+        Went::Ended(told)
+    }
+
+    /// Makes the steps of a poll, each the one that the machine's table asks for, up to its answer or to where anything unusual is met. It may go straight
+    /// where one request alone waits: a read that has asked for a record of the device, or an update that waits for nothing but the poll.
+    #[inline(never)]
+    fn poll<L: Line>(&mut self, line: &mut L) -> Went
+        requires idle { is_busy (L.stands line.old).step ≡ false }
+        requires seat { self.old.seat ≡ L.seat line.old }
+        requires alike { lasting self.old.state ≡ lasting (L.stands line.old) }
+        ensures seat { L.seat line.new ≡ L.seat line.old }
+        ensures machine { self.new.seat ≡ self.old.seat }
+        ensures ended { (told : Told) → result ≡ Ended told
+            → L.led line.old call.Poll line.new × (Done told ≡ session_ask (L.seat line.old) (L.stands line.new))
+            × IsCaughtUp self.new.state (L.stands line.new) }
+        ensures stopped { result ≡ Stopped
+            → L.led line.old call.Poll line.new × (self.new ≡ self.old)
+            × StandAlike (begins self.old.seat self.old.state call.Poll) (begins (L.seat line.old) (L.stands line.old) call.Poll) }
+        ensures stayed { result ≡ Stayed → (line.new ≡ line.old) × (self.new ≡ self.old) }
+    {
+        let reader = asking_read(&self.machine);
+        match reader {
+            Some(its) => self.poll_asker(line, its),
+            None => self.poll_lone(line),
+        }
+    }
+
     /// Makes the steps of a call, each the one that the machine's table asks for, up to its end or to where anything unusual is met. An operation goes straight
-    /// where the session doesn't refuse it, a refresh where no request waits, and a poll where one update waits for nothing else.
+    /// where the session doesn't refuse it, a refresh where no request waits, and a poll where one alone does: a read that has asked for a record of the
+    /// device, or an update that waits for nothing else.
     #[inline(always)]
     pub fn run<L: Line>(&mut self, line: &mut L, call: Call) -> Went
         requires idle { is_busy (L.stands line.old).step ≡ false }

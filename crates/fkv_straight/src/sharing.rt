@@ -16,8 +16,10 @@ use crate::lines::Line;
 use crate::outcomes::Outcome;
 use crate::searching::{Met, Record, search_on};
 use crate::words::addr_of;
+use fkv_base::Version;
 use fkv_index::home_of;
 use fkv_map::{Call, Op, Reply};
+use fkv_ops::is_next_marked;
 
 /// One that shares a latch: they are counted from bit 48 on.
 const ONE_SHARE: u64 = 1 << 48;
@@ -38,7 +40,8 @@ fn latch_of(going: &Going, op: Op) -> usize
     going.places.bucket(home.bucket, 7)
 }
 
-/// Begins the call: it shares the latch of the key's bucket. False if another session holds that alone.
+/// Begins the call: it shares the latch of the key's bucket. False if another session holds that alone, and where the phase word is to be loaded
+/// behind it: that is the machine's.
 #[inline(always)]
 fn share<L: Line>(line: &mut L, going: &Going, op: Op, call: Call) -> bool
     requires idle { is_busy (L.stands line.old).step ≡ false }
@@ -53,6 +56,10 @@ fn share<L: Line>(line: &mut L, going: &Going, op: Op, call: Call) -> bool
 {
     let place = latch_of(going, op);
     let found = line.first_add(call, place, ONE_SHARE);
+    let marked = is_next_marked(Version(going.version));
+    if marked {
+        return false;
+    }
     found < ALONE
 }
 

@@ -11,6 +11,9 @@ use fkv_ops::HeaderSaid;
 
 const ADDR_MASK: u64 = (1 << 48) - 1;
 
+/// The last mark of a version.
+const LAST_MARK: u64 = 8191;
+
 /// The address in the word of an entry, of a header or of a link.
 #[inline]
 pub(crate) fn addr_of(word: u64) -> u64
@@ -27,17 +30,17 @@ pub(crate) fn is_entry(word: u64) -> bool
     word & ADDR_MASK != 0 && word >> 48 < 1 << 15
 }
 
-/// What a header says. A header that is valid has no bit above those of its version, so one test is enough for it.
+/// What a header says. A header that is valid has no bit above those of its mark, so one test is enough for it.
 #[inline]
 pub(crate) fn header_said(word: u64) -> HeaderSaid
     ensures { result ≡ header_said word }
 {
-    let version = word >> 48;
-    if version == 0 || version > Version::LAST {
+    let mark = word >> 48;
+    if mark == 0 || mark > LAST_MARK {
         return fkv_ops::header_said(word);
     }
     let previous = addr_of(word);
-    HeaderSaid::Says(Addr(previous), Version(version))
+    HeaderSaid::Says(Addr(previous), Version(mark))
 }
 
 /// Whether updates share the latch of their bucket.

@@ -14,21 +14,21 @@ const OPERATIONS: u64 = 12_500;
 
 const SESSIONS: u64 = 3;
 
-/// A store, by its bucket bits, page, frames, mutable pages, overflow buckets, and pages on the device; and how many homes and how many keys
-/// of each are drawn over it.
-type Scene = ([u64; 6], u64, u64);
+/// A store, by its bucket bits, page, frames, mutable pages, overflow buckets, and pages on the device; how many homes and how many keys
+/// of each are drawn over it; and the number of the commit at which it begins.
+type Scene = ([u64; 6], u64, u64, u64);
 
 /// A roomy log; one bucket, with overflow buckets and with none; long chains; a log of which two pages lie in memory; more homes than slots;
-/// and living stores, of one bucket and of long chains.
+/// and living stores, of one bucket and of long chains, whose versions pass those from which marks begin again.
 const SCENES: [Scene; 8] = [
-    ([3, 64, 8, 6, 8, 65_536], 40, 1),
-    ([0, 64, 8, 6, 8, 65_536], 45, 1),
-    ([0, 16, 4, 2, 0, 65_536], 9, 1),
-    ([1, 64, 8, 6, 2, 65_536], 2, 12),
-    ([1, 16, 2, 1, 2, 65_536], 20, 2),
-    ([2, 16, 8, 4, 4, 65_536], 60, 1),
-    ([0, 16, 4, 2, 1100, 65_600], 30, 2),
-    ([2, 32, 4, 3, 1100, 65_600], 4, 10),
+    ([3, 64, 8, 6, 8, 65_536], 40, 1, 0),
+    ([0, 64, 8, 6, 8, 65_536], 45, 1, 0),
+    ([0, 16, 4, 2, 0, 65_536], 9, 1, 0),
+    ([1, 64, 8, 6, 2, 65_536], 2, 12, 0),
+    ([1, 16, 2, 1, 2, 65_536], 20, 2, 0),
+    ([2, 16, 8, 4, 4, 65_536], 60, 1, 0),
+    ([0, 16, 4, 2, 1100, 65_600], 30, 2, 8184),
+    ([2, 32, 4, 3, 1100, 65_600], 4, 10, 16374),
 ];
 
 /// The shape of these sizes: of a specified store where one may have them, and else of a living one.
@@ -48,7 +48,7 @@ fn play_scene<R: Abort>(
     seed: u64,
     ways: &mut Ways,
 ) -> Result<(), Wrong> {
-    let (sizes, homes, keys) = scene;
+    let (sizes, homes, keys, number) = scene;
     let shape = shape_of(sizes)?;
     let buckets = Places::of(&shape).buckets as u64;
     let keys = Keys {
@@ -57,14 +57,14 @@ fn play_scene<R: Abort>(
         keys,
     };
     let mut draws = Draws::new(seed, keys, SESSIONS);
-    play(rt, alloc, shape, &mut draws, OPERATIONS, ways)
+    play(rt, alloc, shape, number, &mut draws, OPERATIONS, ways)
 }
 
 /// So many homes have one bucket.
 const TAGS: u64 = 1 << 15;
 
 /// What operations meet that go straight to their end.
-const STRAIGHT: [Meeting; 24] = [
+const STRAIGHT: [Meeting; 25] = [
     Meeting::Read,
     Meeting::Upsert,
     Meeting::Delete,
@@ -89,7 +89,11 @@ const STRAIGHT: [Meeting; 24] = [
     Meeting::OnDevice,
     Meeting::LostTail,
     Meeting::LostValue,
+    Meeting::Occupied,
 ];
+
+/// What few of them meet.
+const STRAIGHT_AT_TIMES: [Meeting; 1] = [Meeting::Asks];
 
 /// What the others meet of which the machine goes on. In prepare these are new records, and updates that lost to another session.
 const HANDED_OVER: [Meeting; 5] = [
@@ -109,13 +113,22 @@ const REFRESHED: [Meeting; 5] = [
     Meeting::WaitFlush,
 ];
 
-/// In what phases polls go straight to their end. None does in prepare, where an update shares a latch, and wait-pending is short.
+/// In what phases polls go straight to their end. In prepare few do, since an update shares a latch there, and wait-pending is short.
 const POLLED: [Meeting; 3] = [Meeting::Rest, Meeting::InProgress, Meeting::WaitFlush];
 
-/// Each of these was met more than a hundred times.
-fn has_met(meetings: &Meetings, wanted: &[Meeting]) -> bool {
+/// What few of them meet, as they look into the mailbox.
+const POLLED_AT_TIMES: [Meeting; 3] = [Meeting::NotReady, Meeting::Takes, Meeting::AsksOn];
+
+/// What is met often is met more than so many times.
+const OFTEN: u64 = 100;
+
+/// What is met at times is met more than so many times.
+const AT_TIMES: u64 = 10;
+
+/// Each of these was met more often than so many times.
+fn has_met(meetings: &Meetings, wanted: &[Meeting], times: u64) -> bool {
     for meeting in wanted {
-        if meetings.of(*meeting) <= 100 {
+        if meetings.of(*meeting) <= times {
             return false;
         }
     }
@@ -131,10 +144,12 @@ fn both_bodies_agree(rt: HostRuntime) -> Result<(), Fail> {
         }
     }
     assert!(rt; ways.all() == 100_000);
-    assert!(rt; has_met(&ways.straight, &STRAIGHT));
-    assert!(rt; has_met(&ways.handed_over, &HANDED_OVER));
-    assert!(rt; has_met(&ways.refreshed, &REFRESHED));
-    assert!(rt; has_met(&ways.polled, &POLLED));
-    assert!(rt; ways.polled_on.all > 100);
+    assert!(rt; has_met(&ways.straight, &STRAIGHT, OFTEN));
+    assert!(rt; has_met(&ways.straight, &STRAIGHT_AT_TIMES, AT_TIMES));
+    assert!(rt; has_met(&ways.handed_over, &HANDED_OVER, OFTEN));
+    assert!(rt; has_met(&ways.refreshed, &REFRESHED, OFTEN));
+    assert!(rt; has_met(&ways.polled, &POLLED, OFTEN));
+    assert!(rt; has_met(&ways.polled, &POLLED_AT_TIMES, AT_TIMES));
+    assert!(rt; ways.polled_on.all > OFTEN);
     Ok(())
 }

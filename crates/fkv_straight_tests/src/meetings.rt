@@ -2,7 +2,7 @@
 use fkv_base::{Addr, Phase};
 use fkv_map::{Merge, Op};
 use fkv_ops::{Reason, Seen};
-use fkv_plane::{Ask, Places, RecordWord, SharedWord};
+use fkv_plane::{Ask, Places, RecordWord, SessionWord, SharedWord};
 use fkv_session::Told;
 
 /// What an operation may be, or meet.
@@ -41,9 +41,19 @@ pub(crate) enum Meeting {
     LostTail,
     /// Another session was quicker at a record's value.
     LostValue,
+    /// A read asks for a record of the device by its mailbox.
+    Asks,
+    /// A read needs a record of the device, and the mailbox isn't empty.
+    Occupied,
+    /// A poll finds no record in the mailbox.
+    NotReady,
+    /// A poll takes a record from the mailbox.
+    Takes,
+    /// A poll asks for the record before the one that it has taken.
+    AsksOn,
 }
 
-const MEETINGS: usize = 25;
+const MEETINGS: usize = 30;
 
 /// How many operations have met what.
 #[derive(Clone, Copy)]
@@ -88,6 +98,9 @@ impl Meetings {
         if matches!(told, Told::Pending(_, Reason::Contended)) {
             self.count(trace.lost());
         }
+        if matches!(told, Told::PendingRead(_)) {
+            self.count(trace.asked());
+        }
         self.add_trace(trace);
     }
 
@@ -95,6 +108,14 @@ impl Meetings {
     pub(crate) fn add_phase(&mut self, phase: Phase) {
         self.all = self.all.wrapping_add(1);
         self.count(phase_of(phase));
+    }
+
+    /// A poll in this phase.
+    pub(crate) fn add_poll(&mut self, phase: Phase, trace: &Trace) {
+        self.add_phase(phase);
+        if trace.looks_into_mail {
+            self.count(trace.taken());
+        }
     }
 
     fn add_trace(&mut self, trace: &Trace) {
@@ -148,20 +169,24 @@ fn phase_of(phase: Phase) -> Meeting {
     }
 }
 
-/// Where the parts of a store's words begin: the buckets, the overflow buckets, and the records in memory.
+/// Where the parts of a store's words begin: a session's mailbox, the buckets, the overflow buckets, and the records in memory.
 #[derive(Clone, Copy)]
 pub(crate) struct Parts {
+    mailbox: usize,
     buckets: usize,
     overflow: usize,
     frames: usize,
 }
 
 impl Parts {
-    pub(crate) fn of(places: &Places) -> Parts {
+    /// The mailbox is that of the session of this number.
+    pub(crate) fn of(places: &Places, session: usize) -> Parts {
+        let first = SessionWord::MailState.place(0);
         let frames = places.record(Addr(0), RecordWord::Header);
         let overflow = frames.saturating_sub(places.overflow.saturating_mul(8));
         let buckets = overflow.saturating_sub(places.buckets.saturating_mul(8));
         Parts {
+            mailbox: first.saturating_add(session.saturating_mul(SESSION_WORDS)),
             buckets,
             overflow,
             frames,
@@ -181,6 +206,10 @@ pub(crate) struct Trace {
     is_on_device: bool,
     /// Whether its last Cas was one of the tail.
     is_at_tail: bool,
+    /// Whether it has loaded the state of the mailbox, taken a record from there, and stored an address there.
+    looks_into_mail: bool,
+    takes_mail: bool,
+    puts_mail: bool,
 }
 
 impl Trace {
@@ -194,6 +223,9 @@ impl Trace {
             is_read_only: false,
             is_on_device: false,
             is_at_tail: false,
+            looks_into_mail: false,
+            takes_mail: false,
+            puts_mail: false,
         }
     }
 
@@ -206,10 +238,32 @@ impl Trace {
         }
     }
 
+    /// What a read has met that waits for the device.
+    fn asked(&self) -> Meeting {
+        if self.puts_mail {
+            Meeting::Asks
+        } else {
+            Meeting::Occupied
+        }
+    }
+
+    /// What a poll has met that has looked into the mailbox.
+    fn taken(&self) -> Meeting {
+        if self.puts_mail {
+            Meeting::AsksOn
+        } else if self.takes_mail {
+            Meeting::Takes
+        } else {
+            Meeting::NotReady
+        }
+    }
+
     /// Notes what is asked.
     pub(crate) fn note(&mut self, ask: &Ask<Told>) {
         match ask {
             Ask::Load(place) => self.note_load(*place),
+            Ask::Store(place, _) => self.puts_mail = self.puts_mail
+                || *place == self.parts.mailbox.wrapping_add(ADDRESS),
             Ask::Cas(place, old, _) => self.note_cas(*place, *old & ADDR_MASK),
             _ => {}
         }
@@ -225,6 +279,8 @@ impl Trace {
 
     fn note_load(&mut self, place: usize) {
         let parts = self.parts;
+        self.looks_into_mail = self.looks_into_mail || place == parts.mailbox;
+        self.takes_mail = self.takes_mail || place == parts.mailbox.wrapping_add(VALUE);
         if place >= parts.frames {
             if place.wrapping_sub(parts.frames) % 3 == 0 {
                 self.records = self.records.wrapping_add(1);
@@ -239,3 +295,10 @@ impl Trace {
 }
 
 const ADDR_MASK: u64 = (1 << 48) - 1;
+
+/// So many words a session has, and so far behind the state of its mailbox are the address and the value there.
+const SESSION_WORDS: usize = 16;
+
+const ADDRESS: usize = 1;
+
+const VALUE: usize = 4;

@@ -34,7 +34,7 @@ impl Rival {
         let key_place = self.places.record(Addr(tail), RecordWord::Key);
         put(words, key_place, 0);
         let header_place = self.places.record(Addr(tail), RecordWord::Header);
-        put(words, header_place, INVALID | self.version.0 << 48);
+        put(words, header_place, INVALID | mark_of(self.version) << 48);
     }
 
     /// Steps before this Cas.
@@ -48,6 +48,11 @@ impl Rival {
             put(words, place, self.value.0);
         }
     }
+}
+
+/// What a header keeps of a version.
+fn mark_of(version: Version) -> u64 {
+    (version.0.wrapping_sub(1) % 8191).wrapping_add(1)
 }
 
 /// Marks the header of a record that no entry names.

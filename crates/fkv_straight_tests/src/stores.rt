@@ -2,9 +2,10 @@
 use crate::actors::step;
 use fkv_base::{CommitKind, Fault, Shape};
 use fkv_core::World;
-use fkv_creating::create_opened;
-use fkv_disk::MemDisk;
+use fkv_creating::create;
+use fkv_disk::{Device, MemDisk};
 use fkv_keeper::{Keeper, KeeperTold};
+use fkv_opening::recover;
 use fkv_plane::{Ask, PlainWords};
 use fkv_session::Session;
 use std::alloc::Global;
@@ -17,11 +18,22 @@ pub(crate) struct Store {
     device: MemDisk,
 }
 
+/// Where the first slot of a new store tells its commit, and that of its checkpoint.
+const NUMBER_PLACES: [u64; 2] = [520, 824];
+
 impl Store {
-    /// A new store of this shape, and its sessions.
-    pub(crate) fn open(alloc: Global, shape: Shape) -> Result<(Store, Vec<Session>), Fault> {
+    /// A new store of this shape, and its sessions. Its commit gets this number, which is even: an odd one stands in the second slot.
+    pub(crate) fn open(
+        alloc: Global,
+        shape: Shape,
+        number: u64,
+    ) -> Result<(Store, Vec<Session>), Fault> {
         let mut disk = MemDisk::new(alloc);
-        let opened = create_opened(alloc, &mut disk, shape)?;
+        create(&mut disk, shape)?;
+        for place in &NUMBER_PLACES {
+            disk.write(*place, &number.to_le_bytes())?;
+        }
+        let opened = recover(alloc, &mut disk)?;
         let (words, sessions, keeper, device) = World::open(alloc, opened, disk)?.into_parts();
         let store = Store {
             words,

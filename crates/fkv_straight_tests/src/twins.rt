@@ -52,7 +52,7 @@ impl Ways {
                     self.refreshed.add_phase(phase);
                 }
             }
-            Call::Poll => self.add_poll(way, seen.phase),
+            Call::Poll => self.add_poll(way, seen.phase, trace),
             _ => {}
         }
     }
@@ -65,10 +65,10 @@ impl Ways {
         }
     }
 
-    fn add_poll(&mut self, way: Way, phase: Phase) {
+    fn add_poll(&mut self, way: Way, phase: Phase, trace: &Trace) {
         match way {
-            Way::Straight => self.polled.add_phase(phase),
-            Way::HandedOver => self.polled_on.add_phase(phase),
+            Way::Straight => self.polled.add_poll(phase, trace),
+            Way::HandedOver => self.polled_on.add_poll(phase, trace),
             Way::Machine => {}
         }
     }
@@ -91,9 +91,9 @@ pub(crate) struct Twins {
 }
 
 impl Twins {
-    pub(crate) fn open(alloc: Global, shape: Shape) -> Result<Twins, Wrong> {
-        let (straight, opened) = Store::open(alloc, shape)?;
-        let (machine, machines) = Store::open(alloc, shape)?;
+    pub(crate) fn open(alloc: Global, shape: Shape, number: u64) -> Result<Twins, Wrong> {
+        let (straight, opened) = Store::open(alloc, shape, number)?;
+        let (machine, machines) = Store::open(alloc, shape, number)?;
         let places = Places::of(&shape);
         Ok(Twins {
             straight,
@@ -120,7 +120,7 @@ impl Twins {
             return Err(Wrong::NoSession);
         };
         let seen = machine.seen();
-        let mut trace = Trace::new(Parts::of(&self.places), seen.offsets.head);
+        let mut trace = Trace::new(Parts::of(&self.places, number), seen.offsets.head);
         let rival = rival_of(self.places, seen, value);
         let words = &mut self.straight.words;
         let Begun { way, steps, ask } = begin(rt, words, rival, session, call);
@@ -212,16 +212,17 @@ fn keep(store: &mut Store, event: Event) {
     }
 }
 
-/// Plays events over two new stores of this shape, until so many operations went.
+/// Plays events over two new stores of this shape, which begin at a commit of this number, until so many operations went.
 pub(crate) fn play<R: Abort>(
     rt: &R,
     alloc: Global,
     shape: Shape,
+    number: u64,
     draws: &mut Draws,
     operations: u64,
     ways: &mut Ways,
 ) -> Result<(), Wrong> {
-    let mut twins = Twins::open(alloc, shape)?;
+    let mut twins = Twins::open(alloc, shape, number)?;
     let until = ways.all().wrapping_add(operations);
     for _ in 0..u64::MAX {
         if ways.all() >= until {

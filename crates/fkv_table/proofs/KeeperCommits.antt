@@ -1,5 +1,5 @@
 -- A commit's beginning asks for no device, and makes no call of it.
-use Rattle.std.proofs.Common.{◌≡◌, refl, sym, ap, subst, ◌∙◌, ℕ, Bool, true, false, List, ◌++◌, length}
+use Rattle.std.proofs.Common.{◌≡◌, refl, sym, ap, subst, ◌∙◌, ℕ, Bool, true, false, List, ◌++◌}
 use Rattle.std.specs.Prelude.{Option, Some, None, if◌then◌else◌}
 use Rattle.atomic_table.specs.Table.{Me}
 use Rattle.fkv_base.specs.declared.commits.CommitKind.{CommitKind}
@@ -19,7 +19,7 @@ use Rattle.fkv_keeper.specs.declared.answers.KeeperTold.TheVariants.{Device, Tur
 use Rattle.fkv_keeper.specs.declared.keepers.Keeping.{Keeping}
 use Rattle.fkv_keeper.specs.declared.keepers.Keeping.TheVariants.{Ended, Starts, Maintains, LoadsPhase, Enters, Copies, Seeks, Waits, Writes, Finishes}
 use Rattle.fkv_keeper.specs.Answers.{is_busy}
-use Rattle.fkv_keeper.specs.Keeping.{KeeperModel, KeeperState, commit_asked, ended, keeper_ask, keeping_ask, keeping_given, keeping_next, start_ledto}
+use Rattle.fkv_keeper.specs.Keeping.{KeeperModel, KeeperState, commit_asked, ended, keeper_ask, keeping_ask, keeping_given, keeping_next, start_ledto, asked_for}
 use Rattle.law_world.specs.Below.fkv_world.Moves.{keeper_gets}
 use Rattle.law_world.specs.Below.fkv_world.Runs.{World, happens, read_by_keeper}
 use Rattle.law_world.specs.Below.fkv_world.World.{life_goes}
@@ -102,7 +102,7 @@ commit_over k (TurnRefused why) b e = ap is_busy e
 commit_over k (Begun number) b e = ap is_busy e
 commit_over k (CommitRefused why) b e = ap is_busy e
 
-begun_by : (s : KeeperState) (kind : CommitKind) (broken : Bool) → IsBeginning (if broken then ended s (CommitRefused Broken) else record s { start = start_begun s.start kind (length s.lost); step = Starts }).step
+begun_by : (s : KeeperState) (kind : CommitKind) (broken : Bool) → IsBeginning (if broken then ended s (CommitRefused Broken) else record s { start = start_begun s.start (asked_for s kind); step = Starts }).step
 begun_by s kind true = tt
 begun_by s kind false = tt
 

@@ -1,2 +1,4 @@
 pub mod Compared
+mod Pushed
 pub mod Served
+pub mod Unapplied

@@ -1,15 +1,17 @@
 -- The line of keys in a report: which keys of a script are compared, and with what.
-use Rattle.std.specs.Prelude.{◌≡◌, ℕ, zero, suc, Bool, true, false, ◌&&◌, ◌||◌, if◌then◌else◌, List, [], ◌∷◌, ◌++◌, length, map, nat_eq, nat_lt, nat_le, Option, Some, None, slice_get}
+use Rattle.std.specs.Prelude.{◌≡◌, ◌⊎◌, ℕ, zero, suc, Bool, true, false, ◌&&◌, ◌||◌, if◌then◌else◌, List, [], ◌∷◌, ◌++◌, length, map, nat_eq, nat_lt, nat_le, Option, Some, None, slice_get}
 use Rattle.std.specs.FinMap.{empty, get}
-use Rattle.std.specs.List.{fold, flat_map, list_all, sum_by}
+use Rattle.std.specs.List.{Contains, fold, flat_map, list_all, sum_by}
 use Rattle.std.specs.Set.{distinct_count}
+use Rattle.fkv_base.specs.declared.faults.Fault.{Fault}
+use Rattle.fkv_base.specs.declared.faults.Fault.TheVariants.{Memory, ValueReserved}
 use Rattle.fkv_base.specs.declared.numbers.Key.{Key}
 use Rattle.fkv_base.specs.declared.numbers.Serial.{Serial}
 use Rattle.fkv_base.specs.declared.numbers.Value.{Value}
 use Rattle.fkv_lines.specs.declared.scripts.Line.{Line}
 use Rattle.fkv_lines.specs.declared.scripts.Line.TheVariants as line
 use Rattle.fkv_map.specs.Keys.{key_of}
-use Rattle.fkv_map.specs.Map.{Map, absent_word, applied}
+use Rattle.fkv_map.specs.Map.{IsReserved, Map, absent_word, applied}
 use Rattle.fkv_map.specs.declared.operations.Call.TheVariants as call
 use Rattle.fkv_map.specs.declared.operations.Op.{Op}
 use Rattle.fkv_map.specs.declared.operations.Op.TheVariants.{Upsert, Add, Read}
@@ -94,16 +96,38 @@ abbrev pub ops_of_first : List Serial → List Log → ℕ → List Op
 ops_of_first points logs zero = []
 ops_of_first points logs (suc n) = ops_of_first points logs n ++ ops_of (slice_get points n) (slice_get logs n)
 
+-- those of all sessions
+abbrev pub told_ops : List Serial → List Log → List Op
+told_ops points logs = ops_of_first points logs (length logs)
+
 -- the map that they make
 abbrev pub told_map : List Serial → List Log → Map
-told_map points logs = fold applied empty (ops_of_first points logs (length logs))
+told_map points logs = fold applied empty (told_ops points logs)
 
 -- the map of pairs
 abbrev pub upsert_of : Key × Value → Op
 upsert_of pair = Upsert pair.0 pair.1
 
+abbrev pub upserts_of : List (Key × Value) → List Op
+upserts_of pairs = map upsert_of pairs
+
 abbrev pub map_of : List (Key × Value) → Map
-map_of pairs = fold applied empty (map upsert_of pairs)
+map_of pairs = fold applied empty (upserts_of pairs)
+
+-- ---- what can't be compared
+-- one of these operations brings the word that stands for no value
+abbrev pub HasReserved : List Op → Type 0
+HasReserved ops = (op : Op) × Contains ops op × IsReserved op
+
+-- why these operations aren't applied: one brings that word, or memory was refused
+abbrev pub IsUnapplied : List Op → Fault → Type 0
+IsUnapplied ops ValueReserved = HasReserved ops
+IsUnapplied ops Memory = Unit {0}
+IsUnapplied ops other = ⊥
+
+-- why there is no comparison: what sessions were told up to their points isn't applied, or the pairs aren't
+abbrev pub IsUncompared : List Serial → List Log → List (Key × Value) → Fault → Type 0
+IsUncompared points logs pairs why = IsUnapplied (told_ops points logs) why ⊎ IsUnapplied (upserts_of pairs) why
 
 -- ---- the line
 -- the keys of updates that are compared

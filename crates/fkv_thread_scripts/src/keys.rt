@@ -1,10 +1,10 @@
 //! The line of keys in a report.
-ghost use Rattle.std.specs.Prelude.{◌≡◌, ◌⊎◌, nat_eq, IfErr, IfOk, OnOk};
+ghost use Rattle.std.specs.Prelude.{◌≡◌, nat_eq, Err, IfOk, OnErr, OnOk};
 ghost use Rattle.std.specs.BTreeMap.{IsOrdered};
 ghost use Rattle.std.specs.FinMap.{get};
 ghost use Rattle.std.specs.Option.{option_eq};
 ghost use Rattle.std.specs.Ordering.{nat_cmp};
-ghost use Rattle.fkv_base.specs.declared.faults.Fault.TheVariants.{Memory, ValueReserved};
+ghost use Rattle.fkv_base.specs.declared.faults.Fault.TheVariants.{Memory};
 ghost use Rattle.fkv_map.specs.Keys.{as_number};
 ghost use Rattle.fkv_thread_scripts.specs.Claims.{IsLineOfClaims};
 ghost use Rattle.fkv_thread_scripts.specs.Keys.{IsKeysLine};
@@ -26,7 +26,7 @@ pub(crate) fn keys_line(
     stored: PlainMap,
 ) -> Result<Keys, Fault>
     ensures ok { IfOk result (IsKeysLine lines.now told stored) }
-    ensures cause { IfErr result (λ fault. (fault ≡ ValueReserved) ⊎ (fault ≡ Memory)) }
+    ensures err { OnErr result (result ≡ Err Memory) }
 {
     let claims = claims_of(alloc, lines)?;
     compare(&claims, told, stored)
@@ -35,7 +35,7 @@ pub(crate) fn keys_line(
 fn compare(claims: &BTreeMap<u64, Claim>, told: PlainMap, stored: PlainMap) -> Result<Keys, Fault>
     ensures line { IfOk result (IsLineOfClaims claims.now.entries told stored) }
     ensures ordered { IsOrdered nat_cmp claims.now }
-    ensures cause { IfErr result (λ fault. (fault ≡ ValueReserved) ⊎ (fault ≡ Memory)) }
+    ensures err { OnErr result (result ≡ Err Memory) }
 {
     let (mut told, mut stored) = (told, stored);
     let most = claims.len();
@@ -56,7 +56,7 @@ fn are_same(told: &mut PlainMap, stored: &mut PlainMap, key: Key) -> Result<bool
     ensures told { OnOk result (told.new ≡ told.old) }
     ensures stored { OnOk result (stored.new ≡ stored.old) }
     ensures same { IfOk result (λ same. same ≡ option_eq nat_eq (get stored.old key.0) (get told.old key.0)) }
-    ensures cause { IfErr result (λ fault. (fault ≡ ValueReserved) ⊎ (fault ≡ Memory)) }
+    ensures err { OnErr result (result ≡ Err Memory) }
 {
     let its = value_in(stored, key)?;
     let other = value_in(told, key)?;

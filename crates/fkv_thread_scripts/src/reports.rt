@@ -1,8 +1,7 @@
 //! What is told of a script that ran on threads, behind the crash that ends it.
-ghost use Rattle.std.specs.Prelude.{◌≡◌, ◌⊎◌, ◌↔◌, true, IfErr, IfOk, OnOk};
+ghost use Rattle.std.specs.Prelude.{◌≡◌, ◌↔◌, true, IfErr, IfOk, OnOk};
 ghost use Rattle.std.specs.Io.KnownBytes.{Appends};
-ghost use Rattle.fkv_base.specs.declared.faults.Fault.TheVariants.{Memory, ValueReserved};
-ghost use Rattle.fkv_thread_scripts.specs.Keys.{IsKeysLine, map_of, told_map};
+ghost use Rattle.fkv_thread_scripts.specs.Keys.{IsKeysLine, IsUncompared, map_of, told_map};
 ghost use Rattle.fkv_thread_scripts.specs.Reports.{IsLastFinished, agrees, keys_text, points_text, threads_report_text};
 
 use crate::keys::keys_line;
@@ -53,7 +52,8 @@ impl Report {
 
 /// The report of a script's lines over a store that was recovered, with these pairs in ascending order of their keys, by what sessions and keeper were told.
 /// A key is compared if one session alone updates it, or if they all add to it and the sum stays below 2^64 - 1. Then the store has for it what the
-/// updates make that sessions were told, up to their points. `Memory` where memory was refused, and `ValueReserved` where a log or a pair has 2^64 - 1.
+/// updates make that sessions were told, up to their points. `Memory` where memory was refused, and `ValueReserved` where such an update, or a pair,
+/// brings 2^64 - 1.
 pub fn report_of(
     alloc: Global,
     lines: &[Line],
@@ -65,14 +65,15 @@ pub fn report_of(
     ensures number { IfOk result (λ report. report.number ≡ opened.now.number) }
     ensures points { IfOk result (λ report. (report.points_agree ≡ true) ↔ IsLastFinished finished.now opened.now.number opened.now.points.items) }
     ensures keys { IfOk result (λ report. IsKeysLine lines.now (told_map opened.now.points.items logs.now) (map_of pairs.now) report.keys) }
-    ensures cause { IfErr result (λ fault. (fault ≡ ValueReserved) ⊎ (fault ≡ Memory)) }
+    ensures cause { IfErr result (IsUncompared opened.now.points.items logs.now pairs.now) }
 {
     let told = told_map(alloc, &opened.points, logs)?;
     let stored = map_of(alloc, pairs)?;
+    let keys = keys_line(alloc, lines, told, stored)?;
     Ok(Report {
         number: opened.number,
         points_agree: is_last(finished, opened),
-        keys: keys_line(alloc, lines, told, stored)?,
+        keys,
     })
 }
 

@@ -4,9 +4,11 @@ use Rattle.fkv_base.specs.Limits.{IsShape, IsSmall}
 use Rattle.fkv_base.specs.declared.classes.StoreClass.TheVariants.{Specified}
 use Rattle.fkv_base.specs.declared.faults.Fault.{Fault}
 use Rattle.fkv_base.specs.declared.faults.Fault.TheVariants as fault
+use Rattle.fkv_base.specs.declared.numbers.Key.{Key}
+use Rattle.fkv_base.specs.declared.numbers.Value.{Value}
 use Rattle.fkv_base.specs.declared.numbers.Version.{Version}
 use Rattle.fkv_base.specs.declared.shapes.Shape.{Shape}
-use Rattle.fkv_creating.specs.Created.{IsNewStore}
+use Rattle.fkv_creating.specs.Created.{IsNewStore, created_bytes}
 use Rattle.fkv_disk.specs.Quiet.{IsHindrance}
 use Rattle.fkv_disk.specs.declared.devices.Device.{Ghosts}
 use Rattle.fkv_keeper.specs.declared.answers.Finished.{Finished}
@@ -14,11 +16,12 @@ use Rattle.fkv_lines.specs.declared.scripts.Line.{Line}
 use Rattle.fkv_lines.specs.declared.scripts.Sizes.{Sizes}
 use Rattle.fkv_opening.specs.Faults.{IsFaultOf, IsRefused}
 use Rattle.fkv_opening.specs.declared.opened_store.Opened.{Opened}
+use Rattle.fkv_thread_scripts.specs.Keys.{IsUncompared}
 use Rattle.fkv_thread_scripts.specs.declared.logs.Log.{Log}
 use Rattle.fkv_thread_scripts.specs.declared.reports.Report.{Report}
-use Rattle.fkv_threading.specs.Refused.{AreSizes, IsEndOfRun, IsOfMedium, IsUnplayed, IsUnreported, IsWithoutReport, WhyClosed}
+use Rattle.fkv_threading.specs.Refused.{AreSizes, IsEndOfRun, IsOfMedium, IsUnplayed, IsUnrecovered, IsUnreported, IsWithoutReport, WhyClosed}
 use Rattle.fkv_threading.specs.Told.{IsPlayed}
-use Rattle.fkv_threading.specs.Written.{HasSizes, IsPlayedNew, IsReportOfRun}
+use Rattle.fkv_threading.specs.Written.{HasSizes, HoldsPairs, IsPlayedNew, IsReportOfRun}
 use Rattle.fkv_threading.specs.declared.programs.NoReport.{NoReport}
 use Rattle.fkv_threading.specs.declared.programs.NoReport.TheVariants.{Closed, Refused}
 
@@ -33,81 +36,91 @@ of_medium before now fault.Device its = tt
 of_medium before now other its = absurd (its)
 
 -- recovery is refused for a fault of the image
-pub unrecovered : {D : Type 0} (device : Ghosts D) (medium : D) (before now : ℕ) (why : Fault) → IsRefused before now (device.honest medium) (IsFaultOf (device.seen medium)) why → IsUnreported device medium why
-unrecovered device medium before now fault.Memory its = inl tt
-unrecovered device medium before now fault.Device its = inl tt
-unrecovered device medium before now fault.NotAStore its = inr (inr its)
-unrecovered device medium before now (fault.Damaged part place) its = inr (inr its)
-unrecovered device medium before now other its = absurd (its)
+pub unrecovered : {D : Type 0} (device : Ghosts D) (logs : List Log) (medium : D) (before now : ℕ) (why : Fault) → IsRefused before now (device.honest medium) (IsFaultOf (device.seen medium)) why → IsUnreported device logs medium why
+unrecovered device logs medium before now fault.Memory its = tt
+unrecovered device logs medium before now fault.Device its = tt
+unrecovered device logs medium before now fault.NotAStore its = its
+unrecovered device logs medium before now (fault.Damaged part place) its = its
+unrecovered device logs medium before now other its = absurd (its)
 
 -- its pairs can't be read
-pub unread : {D : Type 0} (device : Ghosts D) (medium : D) (before now : ℕ) (why : Fault) → IsHindrance before now why → IsUnreported device medium why
-unread device medium before now why its = inl (of_medium before now why its)
+pub unread : {D : Type 0} (device : Ghosts D) (logs : List Log) (medium : D) (before now : ℕ) (why : Fault) → IsHindrance before now why → IsUnreported device logs medium why
+unread device logs medium before now fault.Memory its = tt
+unread device logs medium before now fault.Device its = tt
+unread device logs medium before now other its = absurd (its)
 
--- a report is refused
-pub uncompared : {D : Type 0} {T : Type 0} (device : Ghosts D) (medium : D) (r : Result T Fault) → IfErr r (λ why. (why ≡ fault.ValueReserved) ⊎ (why ≡ fault.Memory)) → IfErr r (IsUnreported device medium)
-uncompared device medium (Ok x) its = tt
-uncompared device medium (Err why) (inl is) = inr (inl is)
-uncompared device medium (Err why) (inr is) = subst (IsUnreported device medium) (sym is) (inl tt)
+-- a report is refused: the reserved value is compared, or memory was refused
+pub uncompared : {D : Type 0} {T : Type 0} (device : Ghosts D) (logs : List Log) (medium : D) (r : Result T Fault) (recovered : Opened) (pairs pairs' : List (Key × Value)) → (device.honest medium → HoldsPairs (device.seen medium) recovered pairs) → pairs' ≡ pairs
+    → IfErr r (IsUncompared recovered.points.items logs pairs') → IfErr r (IsUnreported device logs medium)
+uncompared device logs medium (Ok x) recovered pairs pairs' held same its = tt
+uncompared device logs medium (Err fault.ValueReserved) recovered pairs pairs' held same its =
+    record { recovered = recovered; pairs = pairs; held = held; reserved = subst (λ (ps : List (Key × Value)). IsUncompared recovered.points.items logs ps fault.ValueReserved) same its }
+uncompared device logs medium (Err fault.Memory) recovered pairs pairs' held same its = tt
+uncompared device logs medium (Err other) recovered pairs pairs' held same (inl its) = absurd (its)
+uncompared device logs medium (Err other) recovered pairs pairs' held same (inr its) = absurd (its)
 
 -- ---- lines that are played over a new store
-module _ {D : Type 0} (device : Ghosts D) (shape : Shape) (lines : List Line) where
+module _ {D : Type 0} (device : Ghosts D) (given : D) (shape : Shape) (lines : List Line) where
   -- the store isn't made
-  pub unmade : (before now : ℕ) (why : Fault) → IsHindrance before now why → IsUnplayed device shape lines why
+  pub unmade : (before now : ℕ) (why : Fault) → IsHindrance before now why → IsUnplayed device given shape lines why
   unmade before now why its = inl (of_medium before now why its)
 
   -- memory was refused as they were played
-  pub unstarted : {T : Type 0} (r : Result T Fault) (why : Fault) → r ≡ Err why → r ≡ Err fault.Memory → IsUnplayed device shape lines why
-  unstarted r why is its = subst (IsUnplayed device shape lines) (sym (is_error r why fault.Memory is its)) (inl tt)
+  pub unstarted : {T : Type 0} (r : Result T Fault) (why : Fault) → r ≡ Err why → r ≡ Err fault.Memory → IsUnplayed device given shape lines why
+  unstarted r why is its = subst (IsUnplayed device given shape lines) (sym (is_error r why fault.Memory is its)) (inl tt)
 
   -- a turn has told the fault, or a session was stopped
   pub unplayed : {X : Type 0} (opened : Opened) (first : D) (whole : Bool) (logs : List Log) (medium : D) (finished : Option Finished) (begun : Option Version) (its : Option Fault) (r : Result X Fault) → IsNewStore shape opened
-      → IsPlayed device opened lines first whole logs medium finished begun its → IfErr r (λ why. (why ≡ fault.Memory) ⊎ (its ≡ Some why)) → IfErr r (IsUnplayed device shape lines)
-  unplayed opened first whole logs medium finished begun its (Ok x) new played why = tt
-  unplayed opened first whole logs medium finished begun its (Err e) new played (inl is) = subst (IsUnplayed device shape lines) (sym is) (inl tt)
-  unplayed opened first whole logs medium finished begun its (Err e) new played (inr is) =
-      inr (record { opened = opened; first = first; new = new; whole = whole; logs = logs; medium = medium; finished = finished; begun = begun; played = subst (λ f. IsPlayed device opened lines first whole logs medium finished begun f) is played })
+      → (device.honest given → device.seen first ≡ created_bytes (device.seen given) shape) → IsPlayed device opened lines first whole logs medium finished begun its → IfErr r (λ why. (why ≡ fault.Memory) ⊎ (its ≡ Some why)) → IfErr r (IsUnplayed device given shape lines)
+  unplayed opened first whole logs medium finished begun its (Ok x) new laid played why = tt
+  unplayed opened first whole logs medium finished begun its (Err e) new laid played (inl is) = subst (IsUnplayed device given shape lines) (sym is) (inl tt)
+  unplayed opened first whole logs medium finished begun its (Err e) new laid played (inr is) =
+      inr (record { opened = opened; first = first; new = new; laid = laid; whole = whole; logs = logs; medium = medium; finished = finished; begun = begun; played = subst (λ f. IsPlayed device opened lines first whole logs medium finished begun f) is played })
 
   -- all calls were made, and no turn has told a fault
   pub whole_played : {X : Type 0} (opened : Opened) (first : D) (played : X) (whole : Bool) (logs : X → List Log) (medium : X → D) (finished : X → Option Finished) (begun : Option Version) (its : Option Fault) (r : Result X Fault) → IsNewStore shape opened
-      → IsPlayed device opened lines first whole (logs played) (medium played) (finished played) begun its → IfOk r (λ x. (x ≡ played) × (whole ≡ true) × (its ≡ None)) → IfOk r (λ x. IsPlayedNew device shape lines (logs x) (medium x) (finished x))
-  whole_played opened first played whole logs medium finished begun its (Ok x) new told (same, all, none) =
-      subst (λ y. IsPlayedNew device shape lines (logs y) (medium y) (finished y)) (sym same) (record {
+      → (device.honest given → device.seen first ≡ created_bytes (device.seen given) shape) → IsPlayed device opened lines first whole (logs played) (medium played) (finished played) begun its → IfOk r (λ x. (x ≡ played) × (whole ≡ true) × (its ≡ None)) → IfOk r (λ x. IsPlayedNew device given shape lines (logs x) (medium x) (finished x))
+  whole_played opened first played whole logs medium finished begun its (Ok x) new laid told (same, all, none) =
+      subst (λ y. IsPlayedNew device given shape lines (logs y) (medium y) (finished y)) (sym same) (record {
         opened = opened;
         first = first;
         new = new;
+        laid = laid;
         begun = begun;
         played = subst (λ (z : Bool × Option Fault). IsPlayed device opened lines first z.0 (logs played) (medium played) (finished played) begun z.1) (λ i. (all i, none i)) told;
       })
-  whole_played opened first played whole logs medium finished begun its (Err e) new told why = tt
+  whole_played opened first played whole logs medium finished begun its (Err e) new laid told why = tt
 
 -- ---- a run, up to its report
-module _ {D E : Type 0} (device : Ghosts D) (other : Ghosts E) (LeftBy : D → E → Type 0) (lines : List Line) (sizes : Sizes) where
-  pub by_sizes : (why : Fault) → (why ≡ fault.BadShape) × (AreSizes sizes → ⊥) → IsWithoutReport device other LeftBy lines sizes why
+module _ {D E : Type 0} (device : Ghosts D) (other : Ghosts E) (IsGiven : D → Type 0) (LeftBy : D → E → Type 0) (lines : List Line) (sizes : Sizes) where
+  pub by_sizes : (why : Fault) → (why ≡ fault.BadShape) × (AreSizes sizes → ⊥) → IsWithoutReport device other IsGiven LeftBy lines sizes why
   by_sizes why its = inr (inl its)
 
-  pub by_play : (shape : Shape) (why : Fault) → HasSizes sizes shape → IsUnplayed device shape lines why → IsWithoutReport device other LeftBy lines sizes why
-  by_play shape why sized (inl its) = inl its
-  by_play shape why sized (inr told) = inr (inr (shape, sized, inl told))
+  pub by_play : (given : D) (shape : Shape) (why : Fault) → IsGiven given → HasSizes sizes shape → IsUnplayed device given shape lines why → IsWithoutReport device other IsGiven LeftBy lines sizes why
+  by_play given shape why is_given sized (inl its) = inl its
+  by_play given shape why is_given sized (inr told) = inr (inr (record { shape = shape; sized = sized; given = given; is_given = is_given; cause = inl told }))
 
-  pub by_memory : (why : Fault) → why ≡ fault.Memory → IsWithoutReport device other LeftBy lines sizes why
-  by_memory why is = subst (IsWithoutReport device other LeftBy lines sizes) (sym is) (inl tt)
+  pub by_memory : (why : Fault) → why ≡ fault.Memory → IsWithoutReport device other IsGiven LeftBy lines sizes why
+  by_memory why is = subst (IsWithoutReport device other IsGiven LeftBy lines sizes) (sym is) (inl tt)
 
-  pub by_report : (shape : Shape) (logs : List Log) (medium : D) (finished : Option Finished) (after : E) (r : Result Report Fault) → HasSizes sizes shape → IsPlayedNew device shape lines logs medium finished → LeftBy medium after
-      → IfErr r (IsUnreported other after) → IfErr r (IsWithoutReport device other LeftBy lines sizes)
-  by_report shape logs medium finished after (Ok report) sized played left why = tt
-  by_report shape logs medium finished after (Err e) sized played left why = inr (inr (shape, sized, inr (record { logs = logs; medium = medium; finished = finished; played = played; after = after; left = left; unreported = why })))
+  pub by_report : (given : D) (shape : Shape) (logs logs' : List Log) (medium : D) (finished : Option Finished) (after : E) (r : Result Report Fault) → logs' ≡ logs → IsGiven given → HasSizes sizes shape → IsPlayedNew device given shape lines logs medium finished
+      → LeftBy medium after → IfErr r (IsUnreported other logs' after) → IfErr r (IsWithoutReport device other IsGiven LeftBy lines sizes)
+  by_report given shape logs logs' medium finished after (Ok report) same is_given sized played left why = tt
+  by_report given shape logs logs' medium finished after (Err e) same is_given sized played left why =
+      let told : IsUnreported other logs after e = subst (λ (ls : List Log). IsUnreported other ls after e) same why in
+      let its : IsUnrecovered device other given LeftBy shape lines e = record { logs = logs; medium = medium; finished = finished; played = played; after = after; left = left; unreported = told } in
+      inr (inr (record { shape = shape; sized = sized; given = given; is_given = is_given; cause = inr its }))
 
   -- a report, or why there is none
-  pub ended : (r : Result Report Fault) → IfOk r (IsReportOfRun device other LeftBy lines sizes) → IfErr r (IsWithoutReport device other LeftBy lines sizes) → IsEndOfRun device other LeftBy lines sizes r
+  pub ended : (r : Result Report Fault) → IfOk r (IsReportOfRun device other IsGiven LeftBy lines sizes) → IfErr r (IsWithoutReport device other IsGiven LeftBy lines sizes) → IsEndOfRun device other IsGiven LeftBy lines sizes r
   ended r report refusal = record { report = report; refusal = refusal }
 
   -- so it is over a file
-  pub ended_apart : (r : Result Report NoReport) (r' : Result Report Fault) → IfOk r (IsReportOfRun device other LeftBy lines sizes) → IfErr r (WhyClosed (IsWithoutReport device other LeftBy lines sizes)) → IfOk r' (λ report. r ≡ Ok report) → IfErr r' (λ why. IsOfMedium why ⊎ (r ≡ Err (Refused why)))
-      → IsEndOfRun device other LeftBy lines sizes r'
-  ended_apart r (Ok report) says why same told = record { report = subst (λ q. IfOk q (IsReportOfRun device other LeftBy lines sizes)) same says; refusal = tt }
+  pub ended_apart : (r : Result Report NoReport) (r' : Result Report Fault) → IfOk r (IsReportOfRun device other IsGiven LeftBy lines sizes) → IfErr r (WhyClosed (IsWithoutReport device other IsGiven LeftBy lines sizes)) → IfOk r' (λ report. r ≡ Ok report) → IfErr r' (λ why. IsOfMedium why ⊎ (r ≡ Err (Refused why)))
+      → IsEndOfRun device other IsGiven LeftBy lines sizes r'
+  ended_apart r (Ok report) says why same told = record { report = subst (λ q. IfOk q (IsReportOfRun device other IsGiven LeftBy lines sizes)) same says; refusal = tt }
   ended_apart r (Err e) says why same (inl its) = record { report = tt; refusal = inl its }
-  ended_apart r (Err e) says why same (inr is) = record { report = tt; refusal = subst (λ q. IfErr q (WhyClosed (IsWithoutReport device other LeftBy lines sizes))) is why }
+  ended_apart r (Err e) says why same (inr is) = record { report = tt; refusal = subst (λ q. IfErr q (WhyClosed (IsWithoutReport device other IsGiven LeftBy lines sizes))) is why }
 
 -- no store has the sizes
 pub no_specified : (sizes : Sizes) (r : Result Shape Fault) → sizes.class ≡ Specified → IsOk r ↔ (IsShape sizes.bucket_bits sizes.page sizes.frames sizes.mutable sizes.sessions sizes.overflow sizes.disk_pages × IsSmall sizes.bucket_bits sizes.page sizes.frames sizes.overflow sizes.disk_pages)

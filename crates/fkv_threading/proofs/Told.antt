@@ -1,8 +1,9 @@
 -- What one call more, or one turn, adds to what was told.
-use Rattle.std.proofs.Common.{◌≡◌, inl, inr, ℕ, ◌+◌, ◌≤◌, refl, sym, ap, subst, ◌∙◌, Bool, true, false, not, List, [], ◌∷◌, ◌++◌, append_assoc, length, length-append, map, take, drop, arith}
-use Rattle.std.specs.Prelude.{Option, Some, Result, Ok, Err, IfOk, ◌||◌, ◌&&◌, if◌then◌else◌, slice_get}
+use Rattle.std.proofs.Common.{◌≡◌, inl, inr, ℕ, ◌+◌, ◌≤◌, refl, sym, ap, subst, ◌∙◌, true≢false, Bool, true, false, not, List, [], ◌∷◌, ◌++◌, append_assoc, length, length-append, map, take, drop, arith}
+use Rattle.std.specs.Prelude.{Option, Some, None, Result, Ok, Err, IfOk, ◌||◌, ◌&&◌, if◌then◌else◌, is_some, slice_get}
 use Rattle.std.proofs.lemmas.Bool.{and_parts}
 use Rattle.std.proofs.lemmas.List.{drop_all, length-map, take-append-drop, take_more}
+use Rattle.std.proofs.lemmas.List.Elements.{All-cons, All-nil}
 use Rattle.std.proofs.lemmas.Iterator.Adapters.{YieldsList-from_vec}
 use Rattle.std.proofs.lemmas.Iterator.Consumers.{YieldsList-turn}
 use Rattle.std.proofs.lemmas.Option.{get_or_from_slice_get, slice_get_read, slice_get_within}
@@ -11,6 +12,7 @@ use Rattle.std.specs.Vec.Iter.{into_iter_items, into_iter_len, into_iter_steps}
 use Rattle.std.specs.declared.vec.IntoIter.{IntoIter}
 use Rattle.fkv_base.specs.declared.commits.CommitKind.{CommitKind}
 use Rattle.fkv_base.specs.declared.faults.Fault.{Fault}
+use Rattle.fkv_base.specs.declared.faults.Fault.TheVariants.{Memory}
 use Rattle.fkv_base.specs.declared.numbers.Serial.{Serial}
 use Rattle.fkv_base.specs.declared.numbers.Version.{Version}
 use Rattle.fkv_disk.specs.declared.devices.Device.{Ghosts}
@@ -34,8 +36,8 @@ use Rattle.fkv_threads.specs.Begun.{AreFirst, IsOverStore}
 use Rattle.fkv_threads.specs.Models.{IsWatching, Opening, Sitting, Watch, opening}
 use Rattle.fkv_threads.specs.Watches.{HasAsked as IsAsked, IsTurnOf}
 use Rattle.fkv_threads.specs.Runs.{run_of}
-use Rattle.fkv_threading.specs.Told.{AreLogs, HasAsked, HasMade, IsKept, IsLogOf, IsNoted, IsPlayed, IsTold, Part, WasKept, WasTold, WerePlayed, begun_by, fault_by, finish_by, is_full, is_own, part_at, part_of, point_at}
-use Rattle.fkv_threading.specs.Told.{Asked, Turned}
+use Rattle.fkv_threading.specs.Told.{AreLogs, HasAsked, HasMade, IsKept, IsLogOf, IsNoted, IsPlayed, IsTold, Part, WasKept, WasTold, WerePlayed, begun_by, fault_by, finish_by, is_full, is_own, newer, part_at, part_of, point_at}
+use Rattle.fkv_threading.specs.Told.{Asked, IsLastTold, KeeperCall, KeeperRun, TellsBegun, TellsFault, TellsFinish, TellsNone, Turned}
 use Rattle.fkv_threads.specs.Below.fkv_world.Runs.{World}
 use Rattle.fkv_threads.specs.Below.law_threads.Calls.{CallRun, HasRun}
 use Rattle.fkv_threads.specs.Below.law_threads.Turns.{HasTurned}
@@ -81,6 +83,42 @@ pub promised_at : {K : Type 0} (key : K) (places number : ℕ) (points : List Se
 promised_at key places number points point lines is point_is =
     let same_point : point ≡ point_at points places = point_is ∙ ap (λ (n : ℕ). point_at points n) is in
     λ i. part_of key (is i) (same_point i) lines
+
+-- ---- what the keeper's calls have told last
+abbrev call_run : KeeperCall → List Happening → List Happening → KeeperRun
+call_run call seen behind = record { call = call; before = seen; behind = behind }
+
+module _ {X : Type 0} (Tells : KeeperCall → X → Type 0) where
+  -- before the first call it is nothing
+  pub last_of_none : IsLastTold Tells [] None
+  last_of_none = All-nil (TellsNone Tells)
+
+  -- behind a call that tells one it is that
+  last_now : (run : KeeperRun) (runs : List KeeperRun) (its : X) → Tells run.call its → IsLastTold Tells (run ∷ runs) (Some its)
+  last_now run runs its tells = ([], run, runs, refl, tells, All-nil (TellsNone Tells))
+
+  -- behind one that tells none it is what it was
+  last_before : (run : KeeperRun) (runs : List KeeperRun) (before : Option X) → TellsNone Tells run → IsLastTold Tells runs before → IsLastTold Tells (run ∷ runs) before
+  last_before run runs (Some its) none (later, that, earlier, split, tells, quiet) = (run ∷ later, that, earlier, ap (λ (rs : List KeeperRun). run ∷ rs) split, tells, All-cons (TellsNone Tells) run later none quiet)
+  last_before run runs None none quiet = All-cons (TellsNone Tells) run runs none quiet
+
+finish_if : (told before : Option Finished) (turn : Turn) (seen behind : List Happening) (runs : List KeeperRun) → turn.finished ≡ told → IsLastTold TellsFinish runs before
+    → IsLastTold TellsFinish (call_run (Turned (Ok turn)) seen behind ∷ runs) (newer told before)
+finish_if (Some its) before turn seen behind runs is was = last_now TellsFinish (call_run (Turned (Ok turn)) seen behind) runs its is
+finish_if None before turn seen behind runs is was = last_before TellsFinish (call_run (Turned (Ok turn)) seen behind) runs before (λ its tells. true≢false (ap is_some (sym tells ∙ is))) was
+
+finish_on : (answer : Result Turn Fault) (before : Option Finished) (seen behind : List Happening) (runs : List KeeperRun) → IsLastTold TellsFinish runs before → IsLastTold TellsFinish (call_run (Turned answer) seen behind ∷ runs) (finish_by before answer)
+finish_on (Ok turn) before seen behind runs was = finish_if turn.finished before turn seen behind runs refl was
+finish_on (Err why) before seen behind runs was = last_before TellsFinish (call_run (Turned (Err why)) seen behind) runs before (λ its tells. tells) was
+
+fault_on : (answer : Result Turn Fault) (before : Option Fault) (seen behind : List Happening) (runs : List KeeperRun) → IsLastTold TellsFault runs before → IsLastTold TellsFault (call_run (Turned answer) seen behind ∷ runs) (fault_by before answer)
+fault_on (Ok turn) before seen behind runs was = last_before TellsFault (call_run (Turned (Ok turn)) seen behind) runs before (λ its tells. tells) was
+fault_on (Err Memory) before seen behind runs was = last_before TellsFault (call_run (Turned (Err Memory)) seen behind) runs before (λ its tells. tells) was
+fault_on (Err why) before seen behind runs was = last_now TellsFault (call_run (Turned (Err why)) seen behind) runs why refl
+
+begun_on : (kind : CommitKind) (answer : Result Version Fault) (before : Option Version) (seen behind : List Happening) (runs : List KeeperRun) → IsLastTold TellsBegun runs before → IsLastTold TellsBegun (call_run (Asked kind answer) seen behind ∷ runs) (begun_by before answer)
+begun_on kind (Ok number) before seen behind runs was = last_now TellsBegun (call_run (Asked kind (Ok number)) seen behind) runs number refl
+begun_on kind (Err why) before seen behind runs was = last_before TellsBegun (call_run (Asked kind (Err why)) seen behind) runs before (λ its tells. tells) was
 
 module _ {K : Type 0} (at : K → World) where
   -- before its first call a session was told nothing
@@ -155,24 +193,28 @@ module _ {K : Type 0} (at : K → World) where
   -- a commit that is asked for is one call more
   pub asked_more : (key : K) (kind : CommitKind) (finished : Option Finished) (begun begun' : Option Version) (fault : Option Fault) (answer : Result Version Fault) (seen behind : List Happening) → HasAsked at key behind answer → HasKept (Commits kind) seen behind
       → begun' ≡ begun_by begun answer → WasKept at key finished begun fault seen → WasKept at key finished begun' fault behind
-  asked_more key kind finished begun begun' fault answer seen behind asked kept next was = record {
-    runs = record { call = Asked kind answer; before = seen; behind = behind } ∷ was.runs;
-    kept = ((kept, asked), refl, was.kept);
-    last = was.last;
-    last_begun = next ∙ ap (λ (b : Option Version). begun_by b answer) was.last_begun;
-    refused = was.refused;
-  }
+  asked_more key kind finished begun begun' fault answer seen behind asked kept next was =
+      let run : KeeperRun = call_run (Asked kind answer) seen behind in
+      record {
+        runs = run ∷ was.runs;
+        kept = ((kept, asked), refl, was.kept);
+        last = last_before TellsFinish run was.runs finished (λ its tells. tells) was.last;
+        last_begun = subst (IsLastTold TellsBegun (run ∷ was.runs)) (sym next) (begun_on kind answer begun seen behind was.runs was.last_begun);
+        refused = last_before TellsFault run was.runs fault (λ its tells. tells) was.refused;
+      }
 
   -- and so is a turn
   pub turned_more : (key : K) (finished finished' : Option Finished) (begun : Option Version) (fault fault' : Option Fault) (answer : Result Turn Fault) (seen behind : List Happening) → HasTurned at key behind answer → HasKept Turns seen behind
       → finished' ≡ finish_by finished answer → fault' ≡ fault_by fault answer → WasKept at key finished begun fault seen → WasKept at key finished' begun fault' behind
-  turned_more key finished finished' begun fault fault' answer seen behind turned kept next refuses was = record {
-    runs = record { call = Turned answer; before = seen; behind = behind } ∷ was.runs;
-    kept = ((kept, turned), refl, was.kept);
-    last = next ∙ ap (λ (f : Option Finished). finish_by f answer) was.last;
-    last_begun = was.last_begun;
-    refused = refuses ∙ ap (λ (f : Option Fault). fault_by f answer) was.refused;
-  }
+  turned_more key finished finished' begun fault fault' answer seen behind turned kept next refuses was =
+      let run : KeeperRun = call_run (Turned answer) seen behind in
+      record {
+        runs = run ∷ was.runs;
+        kept = ((kept, turned), refl, was.kept);
+        last = subst (IsLastTold TellsFinish (run ∷ was.runs)) (sym next) (finish_on answer finished seen behind was.runs was.last);
+        last_begun = last_before TellsBegun run was.runs begun (λ its tells. tells) was.last_begun;
+        refused = subst (IsLastTold TellsFault (run ∷ was.runs)) (sym refuses) (fault_on answer fault seen behind was.runs was.refused);
+      }
 
   -- one log more, that of the session at the next number
   pub logs_more : (key : K) (points : List Serial) (lines : List Line) (whole whole' its_whole : Bool) (logs all : List Log) (log : Log) (part : Part K) → all ≡ logs ++ log ∷ [] → whole' ≡ (whole && its_whole) → AreLogs at key points lines whole logs → part ≡ part_at key points lines (length logs)

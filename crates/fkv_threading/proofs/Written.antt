@@ -9,7 +9,7 @@ use Rattle.fkv_base.specs.declared.shapes.Shape.{Shape}
 use Rattle.fkv_disk.specs.Bytes.{AreBytes}
 use Rattle.fkv_disk.specs.Done.{MayLeaveBytes}
 use Rattle.fkv_disk.specs.declared.devices.Device.{Ghosts}
-use Rattle.fkv_files.specs.Mirrors.{is_lost, mirror_after, mirror_calls, mirror_device, mirror_opening}
+use Rattle.fkv_files.specs.Mirrors.{is_lost, mirror_after, mirror_bytes, mirror_calls, mirror_device, mirror_opening}
 use Rattle.fkv_files.specs.declared.mirrors.Mirror.{Mirror}
 use Rattle.fkv_keeper.specs.declared.answers.Finished.{Finished}
 use Rattle.fkv_lines.specs.declared.scripts.Line.{Line}
@@ -26,7 +26,7 @@ use Rattle.fkv_thread_scripts.specs.Reports.{IsLastFinished}
 use Rattle.fkv_thread_scripts.specs.declared.logs.Log.{Log}
 use Rattle.fkv_thread_scripts.specs.declared.reports.Report.{Report}
 use Rattle.fkv_threading.specs.Program.{IsTextOnThreads, WithSomeStatus}
-use Rattle.fkv_threading.specs.Written.{HasSizes, HoldsPairs, IsPlayedNew, IsReportOfRun, IsReportOn, IsRunOnThreads, reported_status, reported_text}
+use Rattle.fkv_threading.specs.Written.{HasSizes, HoldsPairs, IsMirrorOf, IsPlayedNew, IsReportOfRun, IsReportOn, IsRunOnThreads, reported_status, reported_text}
 
 -- the shape that a call gives has the class and the sizes that were asked for
 pub sized : {E : Type 0} (sizes : Sizes) (r : Result Shape E) (class : StoreClass) → sizes.class ≡ class → IfOk r (λ shape. shape.class ≡ class)
@@ -50,17 +50,33 @@ pub report_on : {D E : Type 0} (device : Ghosts D) (lines : List Line) (logs : L
 report_on device lines logs finished medium (Ok report) recovered pairs holds number points keys = record { recovered = recovered; pairs = pairs; held = holds; number = number; points = points; keys = keys }
 report_on device lines logs finished medium (Err e) recovered pairs holds number points keys = tt
 
-pub report_of_run : {D E F : Type 0} (device : Ghosts D) (other : Ghosts E) (LeftBy : D → E → Type 0) (lines : List Line) (sizes : Sizes) (r : Result Report F) (shape : Shape) (logs logs' : List Log) (medium : D)
-    (finished : Option Finished) (after : E) → logs' ≡ logs → HasSizes sizes shape → IsPlayedNew device shape lines logs medium finished → LeftBy medium after → IfOk r (IsReportOn other lines logs' finished after)
-    → IfOk r (IsReportOfRun device other LeftBy lines sizes)
-report_of_run device other LeftBy lines sizes (Ok report) shape logs logs' medium finished after same sized played left says =
-    record { shape = shape; sized = sized; logs = logs; medium = medium; finished = finished; played = played; after = after; left = left; says = subst (λ (ls : List Log). IsReportOn other lines ls finished after report) same says }
-report_of_run device other LeftBy lines sizes (Err e) shape logs logs' medium finished after same sized played left says = tt
+pub report_of_run : {D E F : Type 0} (device : Ghosts D) (other : Ghosts E) (IsGiven : D → Type 0) (LeftBy : D → E → Type 0) (lines : List Line) (sizes : Sizes) (r : Result Report F) (given : D) (shape : Shape) (logs logs' : List Log) (medium : D)
+    (finished : Option Finished) (after : E) → logs' ≡ logs → IsGiven given → HasSizes sizes shape → IsPlayedNew device given shape lines logs medium finished → LeftBy medium after → IfOk r (IsReportOn other lines logs' finished after)
+    → IfOk r (IsReportOfRun device other IsGiven LeftBy lines sizes)
+report_of_run device other IsGiven LeftBy lines sizes (Ok report) given shape logs logs' medium finished after same is_given sized played left says = record {
+  shape = shape;
+  sized = sized;
+  given = given;
+  is_given = is_given;
+  logs = logs;
+  medium = medium;
+  finished = finished;
+  played = played;
+  after = after;
+  left = left;
+  says = subst (λ (ls : List Log). IsReportOn other lines ls finished after report) same says;
+}
+report_of_run device other IsGiven LeftBy lines sizes (Err e) given shape logs logs' medium finished after same is_given sized played left says = tt
+
+-- what a mirror is given of
+pub mirror_of : {D : Type 0} (device : Ghosts D) (is_made : D → Type 0) (file : D) (given : Mirror D device) → is_made file → (device.honest file → mirror_bytes given ≡ device.seen file) → mirror_opening given ≡ mirror_bytes given → mirror_calls given ≡ [] → is_lost given ≡ false
+    → IsMirrorOf device is_made given
+mirror_of device is_made file given made reads opening calls passes = record { file = file; made = made; reads = reads; opening = opening; calls = calls; passes = passes }
 
 -- what the device behind a mirror may leave, the mirror may
-pub opened_again : {D : Type 0} (device : Ghosts D) (closed : Mirror D device) (image : List ℕ) → is_lost closed ≡ false → device.honest (mirror_device closed) → AreBytes image → device.may_leave (mirror_device closed) image
-    → MayLeaveBytes (mirror_opening closed) (mirror_calls closed) image
-opened_again device closed image passed claim bytes left = record { allowed = (mirror_after closed passed claim).leaves image left; are_bytes = bytes }
+pub opened_again : {D : Type 0} (device : Ghosts D) → ((d : D) (image : List ℕ) → device.honest d → device.may_leave d image → AreBytes image) → (closed : Mirror D device) (image : List ℕ) → is_lost closed ≡ false
+    → device.honest (mirror_device closed) → device.may_leave (mirror_device closed) image → MayLeaveBytes (mirror_opening closed) (mirror_calls closed) image
+opened_again device fits closed image passed claim left = record { allowed = (mirror_after closed passed claim).leaves image left; are_bytes = fits (mirror_device closed) image claim left }
 
 -- what is said of a report is said of it where it is passed on
 pub passed_on : {X E F : Type 0} (Says : X → Type 0) (r : Result X E) (r' : Result X F) → IfOk r' (λ x. r ≡ Ok x) → IfOk r Says → IfOk r' Says

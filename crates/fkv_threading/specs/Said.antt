@@ -1,6 +1,5 @@
 -- What the clauses of `src` say: they take all of it under one name.
 pub use Rattle.fkv_base.specs.declared.faults.Fault.TheVariants.{BadShape, Device, Memory}
-pub use Rattle.fkv_disk.specs.Ahead.{ahead_device}
 pub use Rattle.fkv_disk.specs.Device.{LeavesOnly}
 pub use Rattle.fkv_opening.specs.Opened.{IsStoreOf}
 pub use Rattle.fkv_threads.specs.Below.fkv_table.Starts.{EachAt}
@@ -11,7 +10,7 @@ pub use Rattle.fkv_thread_scripts.specs.Reports.{agrees, ended, threads_report_t
 pub use Rattle.fkv_threading.specs.Program.{IsEndIn, IsRunOfBytes, IsRunOfInput, IsTextOnThreads, TellsLine, WithSomeStatus, line_fault_text, script_limit}
 pub use Rattle.fkv_threading.specs.Refused.{AreSizes, IsEndInFile, IsEndInMemory, IsOfMedium, IsUnplayed, IsUnreported, IsWithoutReport, WhyClosed}
 pub use Rattle.fkv_threading.specs.Told.{AreLogs, AreSeated, HasMade, IsKept, IsPlayed, IsTold, Part, WasKept, WasTold, WerePlayed, begun_by, fault_by, finish_by, is_full, is_own, part_at, part_of, point_at}
-pub use Rattle.fkv_threading.specs.Written.{HasSizes, HoldsLeft, IsOpenedAgain, IsPlayedNew, IsReportOfRun, IsReportOn, IsRunOnThreads, refused_status, reported_status, reported_text}
+pub use Rattle.fkv_threading.specs.Written.{HasSizes, HoldsLeft, IsMirrorOf, IsOpenedAgain, IsPlayedNew, IsReportOfRun, IsReportOn, IsRunOnThreads, ReadsAsNothing, refused_status, reported_status, reported_text}
 pub use Rattle.fkv_threading.specs.declared.programs.NoReport.TheVariants.{Refused}
 pub use Rattle.fkv_threads.specs.Begun.{AreFirst}
 pub use Rattle.fkv_threads.specs.Models.{Opening, opening}

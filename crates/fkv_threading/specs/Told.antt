@@ -1,5 +1,6 @@
 -- What threads were told at a table: each session by its calls, and the keeper by its turns.
 use Rattle.std.specs.Prelude.{◌≡◌, ◌⊎◌, ℕ, Bool, true, false, ◌||◌, List, [], ◌∷◌, ◌++◌, length, Option, Some, None, Result, Ok, Err, slice_index_or}
+use Rattle.std.specs.List.{All}
 use Rattle.atomic_table.specs.Seated.{TableId}
 use Rattle.atomic_table.specs.Table.{Me}
 use Rattle.fkv_base.specs.declared.commits.CommitKind.{CommitKind}
@@ -120,7 +121,7 @@ pub record KeeperRun : Type 0 where
   pub before : List Happening
   pub behind : List Happening
 
--- the commit that a turn tells as finished, or the one before
+-- behind a turn with this answer: the commit that it tells as finished, or the one before
 abbrev pub newer : Option Finished → Option Finished → Option Finished
 newer (Some its) before = Some its
 newer None before = before
@@ -129,41 +130,42 @@ abbrev pub finish_by : Option Finished → Result Turn Fault → Option Finished
 finish_by before (Ok turn) = newer turn.finished before
 finish_by before (Err fault) = before
 
--- the number that is told as begun
+-- the number that is told as begun, or the one before
 abbrev pub begun_by : Option Version → Result Version Fault → Option Version
 begun_by before (Ok number) = Some number
 begun_by before (Err fault) = before
 
--- the fault for which a turn ends the run; a refusal of memory doesn't end it
+-- the fault for which a turn ends the run, or the one before; a refusal of memory doesn't end it
 abbrev pub fault_by : Option Fault → Result Turn Fault → Option Fault
 fault_by before (Ok turn) = before
 fault_by before (Err Memory) = before
 fault_by before (Err fault) = Some fault
 
-abbrev pub finish_in : Option Finished → KeeperCall → Option Finished
-finish_in before (Turned answer) = finish_by before answer
-finish_in before (Asked kind answer) = before
+-- a turn tells this commit as finished
+abbrev pub TellsFinish : KeeperCall → Finished → Type 0
+TellsFinish (Turned (Ok turn)) its = turn.finished ≡ Some its
+TellsFinish call its = ⊥
 
-abbrev pub begun_in : Option Version → KeeperCall → Option Version
-begun_in before (Turned answer) = before
-begun_in before (Asked kind answer) = begun_by before answer
+-- a commit that was asked for is told as begun, with this number
+abbrev pub TellsBegun : KeeperCall → Version → Type 0
+TellsBegun (Asked kind (Ok number)) its = number ≡ its
+TellsBegun call its = ⊥
 
-abbrev pub fault_in : Option Fault → KeeperCall → Option Fault
-fault_in before (Turned answer) = fault_by before answer
-fault_in before (Asked kind answer) = before
+-- a turn is refused for this fault, which ends the run: any but one of memory
+abbrev pub TellsFault : KeeperCall → Fault → Type 0
+TellsFault (Turned (Err Memory)) its = ⊥
+TellsFault (Turned (Err fault)) its = fault ≡ its
+TellsFault call its = ⊥
 
--- Of these calls, the newest first: the last commit that a turn tells as finished, the last number that is told as begun, and the last fault that ends the run.
-abbrev pub last_finish : List KeeperRun → Option Finished
-last_finish [] = None
-last_finish (its ∷ before) = finish_in (last_finish before) its.call
+module _ {X : Type 0} (Tells : KeeperCall → X → Type 0) where
+  -- this call tells none
+  abbrev pub TellsNone : KeeperRun → Type 0
+  TellsNone run = (its : X) → Tells run.call its → ⊥
 
-abbrev pub last_begun : List KeeperRun → Option Version
-last_begun [] = None
-last_begun (its ∷ before) = begun_in (last_begun before) its.call
-
-abbrev pub last_fault : List KeeperRun → Option Fault
-last_fault [] = None
-last_fault (its ∷ before) = fault_in (last_fault before) its.call
+  -- Of these calls, the newest first, one tells this, and no call behind it tells any. Or none of them does.
+  abbrev pub IsLastTold : List KeeperRun → Option X → Type 0
+  IsLastTold runs (Some its) = (behind : List KeeperRun) × (run : KeeperRun) × (before : List KeeperRun) × (runs ≡ behind ++ run ∷ before) × Tells run.call its × All TellsNone behind
+  IsLastTold runs None = All TellsNone runs
 
 module _ {K : Type 0} (at : K → World) where
   -- The calls that a session has made at a table, the newest first, where its pass has seen these events. Each call's list goes on from that of the one before,
@@ -220,9 +222,9 @@ module _ {K : Type 0} (at : K → World) where
   pub record WasKept (key : K) (finished : Option Finished) (begun : Option Version) (fault : Option Fault) (seen : List Happening) : Type 0 where
     pub runs : List KeeperRun
     pub kept : AreKept key runs seen
-    pub last : finished ≡ last_finish runs
-    pub last_begun : begun ≡ last_begun runs
-    pub refused : fault ≡ last_fault runs
+    pub last : IsLastTold TellsFinish runs finished
+    pub last_begun : IsLastTold TellsBegun runs begun
+    pub refused : IsLastTold TellsFault runs fault
 
   -- each log is what its session was told
   abbrev pub AreLogs : K → List Serial → List Line → Bool → List Log → Type 0

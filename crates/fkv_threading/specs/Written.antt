@@ -6,12 +6,11 @@ use Rattle.fkv_base.specs.declared.numbers.Key.{Key}
 use Rattle.fkv_base.specs.declared.numbers.Value.{Value}
 use Rattle.fkv_base.specs.declared.numbers.Version.{Version}
 use Rattle.fkv_base.specs.declared.shapes.Shape.{Shape}
-use Rattle.fkv_creating.specs.Created.{IsNewStore}
+use Rattle.fkv_creating.specs.Created.{IsNewStore, created_bytes}
 use Rattle.fkv_disk.specs.Ahead.{ahead_device}
-use Rattle.fkv_disk.specs.Bytes.{AreBytes}
 use Rattle.fkv_disk.specs.declared.ahead.ReadAhead.{ReadAhead}
 use Rattle.fkv_disk.specs.declared.devices.Device.{Ghosts}
-use Rattle.fkv_files.specs.Mirrors.{is_lost, mirror_device}
+use Rattle.fkv_files.specs.Mirrors.{is_lost, mirror_bytes, mirror_calls, mirror_device, mirror_opening}
 use Rattle.fkv_files.specs.declared.mirrors.Mirror.{Mirror}
 use Rattle.fkv_keeper.specs.declared.answers.Finished.{Finished}
 use Rattle.fkv_lines.specs.declared.scripts.Line.{Line}
@@ -40,11 +39,12 @@ pub record HasSizes (sizes : Sizes) (shape : Shape) : Type 0 where
   pub overflow : shape.overflow ≡ sizes.overflow
   pub disk_pages : shape.disk_pages ≡ sizes.disk_pages
 
--- Threads have played lines over a new store of a shape. Each session has made all calls of its lines, and no turn was refused but for memory.
-pub record IsPlayedNew {D : Type 0} (device : Ghosts D) (shape : Shape) (lines : List Line) (logs : List Log) (medium : D) (finished : Option Finished) : Type 0 where
+-- Threads have played lines over a new store of a shape, which was laid into a given device. Each session has made all calls of its lines, and no turn was refused but for memory.
+pub record IsPlayedNew {D : Type 0} (device : Ghosts D) (given : D) (shape : Shape) (lines : List Line) (logs : List Log) (medium : D) (finished : Option Finished) : Type 0 where
   pub opened : Opened
   pub first : D
   pub new : IsNewStore shape opened
+  pub laid : device.honest given → device.seen first ≡ created_bytes (device.seen given) shape
   pub begun : Option Version
   pub played : IsPlayed device opened lines first true logs medium finished begun None
 
@@ -64,29 +64,43 @@ pub record IsReportOn {D : Type 0} (device : Ghosts D) (lines : List Line) (logs
   pub points : (report.points_agree ≡ true) ↔ IsLastFinished finished recovered.number recovered.points.items
   pub keys : IsKeysLine lines (told_map recovered.points.items logs) (map_of pairs) report.keys
 
--- A report is of lines that threads have played over a new store of these sizes. What it compares are their logs, and the last commit that they were told as
--- finished. Behind them it is of a store that is recovered from a device of which this is so, beside their own.
-pub record IsReportOfRun {D E : Type 0} (device : Ghosts D) (other : Ghosts E) (LeftBy : D → E → Type 0) (lines : List Line) (sizes : Sizes) (report : Report) : Type 0 where
+-- A report is of lines that threads have played over a new store of these sizes, in a device that was given so. What it compares are their logs, and the last
+-- commit that they were told as finished. Behind them it is of a store that is recovered from a device of which this is so, beside their own.
+pub record IsReportOfRun {D E : Type 0} (device : Ghosts D) (other : Ghosts E) (IsGiven : D → Type 0) (LeftBy : D → E → Type 0) (lines : List Line) (sizes : Sizes) (report : Report) : Type 0 where
   pub shape : Shape
   pub sized : HasSizes sizes shape
+  pub given : D
+  pub is_given : IsGiven given
   pub logs : List Log
   pub medium : D
   pub finished : Option Finished
-  pub played : IsPlayedNew device shape lines logs medium finished
+  pub played : IsPlayedNew device given shape lines logs medium finished
   pub after : E
   pub left : LeftBy medium after
   pub says : IsReportOn other lines logs finished after report
+
+-- a device in memory is given empty
+abbrev pub ReadsAsNothing : {D : Type 0} → Ghosts D → D → Type 0
+ReadsAsNothing device given = device.seen given ≡ []
+
+-- A mirror is given of a file that was made for a new store: it reads as the file does, if that is honest, and no write or sync has come to it.
+pub record IsMirrorOf {D : Type 0} (device : Ghosts D) (is_made : D → Type 0) (given : Mirror D device) : Type 0 where
+  pub file : D
+  pub made : is_made file
+  pub reads : device.honest file → mirror_bytes given ≡ device.seen file
+  pub opening : mirror_opening given ≡ mirror_bytes given
+  pub calls : mirror_calls given ≡ []
+  pub passes : is_lost given ≡ false
 
 -- a device holds what a crash may leave of another one
 abbrev pub HoldsLeft : {D E : Type 0} → Ghosts D → Ghosts E → D → E → Type 0
 HoldsLeft device other medium after = device.may_leave medium (other.seen after)
 
--- The file behind a mirror is closed, and a file is opened again. Say that the closed device is honest and has refused no call, and that the other one reads as a crash may leave it, which
--- is bytes. Then that one reads as a crash may leave the mirror.
+-- The file behind a mirror is closed, and a file is opened again. Say that the closed device is honest and has refused no call, and that the other one reads as a crash may leave it.
+-- Then that one reads as a crash may leave the mirror.
 pub record IsOpenedAgain {D : Type 0} (device : Ghosts D) (mirrored : Ghosts (Mirror D device)) (ahead : Ghosts (ReadAhead D device)) (is_opened : D → Type 0) (closed : Mirror D device) (again : ReadAhead D device) : Type 0 where
   pub opened : is_opened (ahead_device again)
-  pub left : is_lost closed ≡ false → device.honest (mirror_device closed) → AreBytes (device.seen (ahead_device again)) → device.may_leave (mirror_device closed) (device.seen (ahead_device again))
-      → HoldsLeft mirrored ahead closed again
+  pub left : is_lost closed ≡ false → device.honest (mirror_device closed) → device.may_leave (mirror_device closed) (device.seen (ahead_device again)) → HoldsLeft mirrored ahead closed again
 
 -- ---- what is written
 -- a report's lines, or the refusal that stands in their place

@@ -61,11 +61,11 @@ pub fn run_threads_in_file<G: Gate + Sync, W: Write, R: Threads + Wait + Sync, S
 where
     S::Disk: Send,
     ensures whole { said.IfOk result (λ end. said.IsRunOnThreads (said.IsEndInFile S.Disk.Device ⟦<Mirror<S::Disk> as Device>⟧
-        ⟦<ReadAhead<S::Disk> as Device>⟧ (S.is_opened places.now) path.now script.now.lines.items) script.now.opening
+        ⟦<ReadAhead<S::Disk> as Device>⟧ (S.is_opened places.now) (S.is_made places.now) path.now script.now.lines.items) script.now.opening
         (said.Appends (W.contents output.old) (W.contents output.new)) end.0) }
     ensures part { said.OnErr result (said.BreaksOff (said.WithSomeStatus (said.IsTextOnThreads
-        (said.IsEndInFile S.Disk.Device ⟦<Mirror<S::Disk> as Device>⟧ ⟦<ReadAhead<S::Disk> as Device>⟧ (S.is_opened places.now) path.now
-        script.now.lines.items) script.now.opening)) (W.contents output.old) (W.contents output.new)) }
+        (said.IsEndInFile S.Disk.Device ⟦<Mirror<S::Disk> as Device>⟧ ⟦<ReadAhead<S::Disk> as Device>⟧ (S.is_opened places.now)
+        (S.is_made places.now) path.now script.now.lines.items) script.now.opening)) (W.contents output.old) (W.contents output.new)) }
 {
     let sizes = match script.opening {
         Some(Opening::Shape(sizes)) => sizes,
@@ -154,12 +154,13 @@ fn report_in_memory<G: Gate + Sync, R: Threads + Wait + Sync>(
     gate: &G,
 ) -> Result<Report, Fault>
     ensures ok { said.IfOk result (said.IsReportOfRun ⟦<Fuse<MemDisk> as Device>⟧ ⟦<MemDisk as Device>⟧
-        (said.HoldsLeft ⟦<Fuse<MemDisk> as Device>⟧ ⟦<MemDisk as Device>⟧) lines.now sizes) }
+        (said.ReadsAsNothing ⟦<Fuse<MemDisk> as Device>⟧) (said.HoldsLeft ⟦<Fuse<MemDisk> as Device>⟧ ⟦<MemDisk as Device>⟧) lines.now sizes) }
     ensures err { said.IfErr result (said.IsWithoutReport ⟦<Fuse<MemDisk> as Device>⟧ ⟦<MemDisk as Device>⟧
-        (said.HoldsLeft ⟦<Fuse<MemDisk> as Device>⟧ ⟦<MemDisk as Device>⟧) lines.now sizes) }
+        (said.ReadsAsNothing ⟦<Fuse<MemDisk> as Device>⟧) (said.HoldsLeft ⟦<Fuse<MemDisk> as Device>⟧ ⟦<MemDisk as Device>⟧) lines.now sizes) }
 {
     let shape = shape_of(sizes)?;
-    let device = Fuse::new(MemDisk::new(alloc));
+    let memory = MemDisk::new(alloc);
+    let device = Fuse::new(memory);
     let Played { logs, keeper, .. } = play_new(rt, alloc, device, shape, lines, gate)?;
     let KeeperEnd {
         device,
@@ -185,9 +186,12 @@ fn report_in_file<G: Gate + Sync, R: Threads + Wait + Sync, S: StorePlaces>(
 ) -> Result<Report, NoReport>
 where
     S::Disk: Send,
-    ensures ok { said.IfOk result (said.IsReportOfRun ⟦<Mirror<S::Disk> as Device>⟧ ⟦<ReadAhead<S::Disk> as Device>⟧ (said.IsOpenedAgain
-        S.Disk.Device ⟦<Mirror<S::Disk> as Device>⟧ ⟦<ReadAhead<S::Disk> as Device>⟧ (S.is_opened places.now path.now)) lines.now sizes) }
+    ensures ok { said.IfOk result (said.IsReportOfRun ⟦<Mirror<S::Disk> as Device>⟧ ⟦<ReadAhead<S::Disk> as Device>⟧
+        (said.IsMirrorOf S.Disk.Device (S.is_made places.now path.now))
+        (said.IsOpenedAgain S.Disk.Device ⟦<Mirror<S::Disk> as Device>⟧ ⟦<ReadAhead<S::Disk> as Device>⟧ (S.is_opened places.now path.now))
+        lines.now sizes) }
     ensures err { said.IfErr result (said.WhyClosed (said.IsWithoutReport ⟦<Mirror<S::Disk> as Device>⟧ ⟦<ReadAhead<S::Disk> as Device>⟧
+        (said.IsMirrorOf S.Disk.Device (S.is_made places.now path.now))
         (said.IsOpenedAgain S.Disk.Device ⟦<Mirror<S::Disk> as Device>⟧ ⟦<ReadAhead<S::Disk> as Device>⟧ (S.is_opened places.now path.now))
         lines.now sizes)) }
 {
@@ -208,8 +212,7 @@ where
         finished,
         ..
     } = keeper;
-    drop(device);
-    let mut ahead = match opened_again(places, alloc, path) {
+    let mut ahead = match opened_again(places, alloc, path, device) {
         Ok(ahead) => ahead,
         Err(trouble) => return Err(NoReport::Closed(trouble)),
     };
@@ -220,7 +223,9 @@ where
 }
 
 /// The file of this path, which a new store is to lie in.
-fn made<S: StorePlaces>(places: &S, alloc: Global, path: &str) -> Result<Mirror<S::Disk>, Trouble> {
+fn made<S: StorePlaces>(places: &S, alloc: Global, path: &str) -> Result<Mirror<S::Disk>, Trouble>
+    ensures { said.IfOk result (said.IsMirrorOf S.Disk.Device (S.is_made places.now path.now)) }
+{
     let (file, length) = places.make_alone(path)?;
     let Some(length) = length else {
         return Err(Trouble::Irregular);
@@ -229,17 +234,21 @@ fn made<S: StorePlaces>(places: &S, alloc: Global, path: &str) -> Result<Mirror<
     Ok(device)
 }
 
-/// The file of this path, which a store lies in.
+/// Closes the file behind a mirror, and opens the file of this path.
 fn opened_again<S: StorePlaces>(
     places: &S,
     alloc: Global,
     path: &str,
+    closed: Mirror<S::Disk>,
 ) -> Result<ReadAhead<S::Disk>, Trouble>
-    ensures { said.IfOk result (λ ahead. S.is_opened places.now path.now (said.ahead_device ahead)) }
+    ensures { said.IfOk result (said.IsOpenedAgain S.Disk.Device ⟦<Mirror<S::Disk> as Device>⟧ ⟦<ReadAhead<S::Disk> as Device>⟧
+        (S.is_opened places.now path.now) closed) }
 {
+    drop(closed);
     let (file, _) = places.open_alone(path)?;
     let pages = Pages::new(alloc, PageSize::Kib4, PAGES)?;
-    Ok(ReadAhead::new(file, pages))
+    let ahead = ReadAhead::new(file, pages);
+    Ok(ahead)
 }
 
 /// Plays lines over a new store of this shape on a device. A refusal that ended the run is its answer.
@@ -252,8 +261,8 @@ fn play_new<D: Device + Drop + Send, G: Gate + Sync, R: Threads + Wait + Sync>(
     gate: &G,
 ) -> Result<Played<D>, Fault>
     requires honest { D.honest device }
-    ensures ok { said.IfOk result (λ its. said.IsPlayedNew D.Device shape lines.now its.logs.items its.keeper.device its.keeper.finished) }
-    ensures err { said.IfErr result (said.IsUnplayed D.Device shape lines.now) }
+    ensures ok { said.IfOk result (λ its. said.IsPlayedNew D.Device device shape lines.now its.logs.items its.keeper.device its.keeper.finished) }
+    ensures err { said.IfErr result (said.IsUnplayed D.Device device shape lines.now) }
 {
     let mut device = device;
     let opened = create_opened(alloc, &mut device, shape)?;
@@ -283,7 +292,7 @@ fn report_on<D: Device>(
     device: &mut D,
 ) -> Result<Report, Fault>
     ensures ok { said.IfOk result (said.IsReportOn D.Device lines.now logs.now finished.now device.old) }
-    ensures err { said.IfErr result (said.IsUnreported D.Device device.old) }
+    ensures err { said.IfErr result (said.IsUnreported D.Device logs.now device.old) }
 {
     let opened = recover(alloc, device)?;
     let pairs = content(alloc, &opened, device)?;

@@ -36,12 +36,12 @@ where
     S::Disk: Send,
     ensures whole { said.IfOk result (λ status. said.Writes (said.IsRunOfInput (said.IsEndIn
         (said.IsEndInMemory ⟦<Fuse<MemDisk> as Device>⟧ ⟦<MemDisk as Device>⟧)
-        (said.IsEndInFile S.Disk.Device ⟦<Mirror<S::Disk> as Device>⟧ ⟦<ReadAhead<S::Disk> as Device>⟧ (S.is_opened places.now))
+        (said.IsEndInFile S.Disk.Device ⟦<Mirror<S::Disk> as Device>⟧ ⟦<ReadAhead<S::Disk> as Device>⟧ (S.is_opened places.now) (S.is_made places.now))
         (said.option_map (λ path. path.now) file.entry))
         (I.remaining input) status) (W.contents output.old) (W.contents output.new)) }
     ensures part { said.OnErr result (said.BreaksOff (said.WithSomeStatus (said.IsRunOfInput (said.IsEndIn
         (said.IsEndInMemory ⟦<Fuse<MemDisk> as Device>⟧ ⟦<MemDisk as Device>⟧)
-        (said.IsEndInFile S.Disk.Device ⟦<Mirror<S::Disk> as Device>⟧ ⟦<ReadAhead<S::Disk> as Device>⟧ (S.is_opened places.now))
+        (said.IsEndInFile S.Disk.Device ⟦<Mirror<S::Disk> as Device>⟧ ⟦<ReadAhead<S::Disk> as Device>⟧ (S.is_opened places.now) (S.is_made places.now))
         (said.option_map (λ path. path.now) file.entry))
         (I.remaining input))) (W.contents output.old) (W.contents output.new)) }
 {
@@ -97,12 +97,12 @@ where
     S::Disk: Send,
     ensures whole { said.IfOk result (λ status. said.Writes (said.IsRunOfBytes (said.IsEndIn
         (said.IsEndInMemory ⟦<Fuse<MemDisk> as Device>⟧ ⟦<MemDisk as Device>⟧)
-        (said.IsEndInFile S.Disk.Device ⟦<Mirror<S::Disk> as Device>⟧ ⟦<ReadAhead<S::Disk> as Device>⟧ (S.is_opened places.now))
+        (said.IsEndInFile S.Disk.Device ⟦<Mirror<S::Disk> as Device>⟧ ⟦<ReadAhead<S::Disk> as Device>⟧ (S.is_opened places.now) (S.is_made places.now))
         (said.option_map (λ path. path.now) file.entry))
         bytes.now status) (W.contents output.old) (W.contents output.new)) }
     ensures part { said.OnErr result (said.BreaksOff (said.WithSomeStatus (said.IsRunOfBytes (said.IsEndIn
         (said.IsEndInMemory ⟦<Fuse<MemDisk> as Device>⟧ ⟦<MemDisk as Device>⟧)
-        (said.IsEndInFile S.Disk.Device ⟦<Mirror<S::Disk> as Device>⟧ ⟦<ReadAhead<S::Disk> as Device>⟧ (S.is_opened places.now))
+        (said.IsEndInFile S.Disk.Device ⟦<Mirror<S::Disk> as Device>⟧ ⟦<ReadAhead<S::Disk> as Device>⟧ (S.is_opened places.now) (S.is_made places.now))
         (said.option_map (λ path. path.now) file.entry))
         bytes.now)) (W.contents output.old) (W.contents output.new)) }
 {
@@ -147,11 +147,11 @@ fn run_in_file<R: Threads + Wait + Sync, S: StorePlaces, W: Write, E: Write>(
 where
     S::Disk: Send,
     ensures whole { said.IfOk result (said.IsRunOnThreads (said.IsEndInFile S.Disk.Device ⟦<Mirror<S::Disk> as Device>⟧
-        ⟦<ReadAhead<S::Disk> as Device>⟧ (S.is_opened places.now) path.now script.now.lines.items) script.now.opening
+        ⟦<ReadAhead<S::Disk> as Device>⟧ (S.is_opened places.now) (S.is_made places.now) path.now script.now.lines.items) script.now.opening
         (said.Appends (W.contents output.old) (W.contents output.new))) }
     ensures part { said.OnErr result (said.BreaksOff (said.WithSomeStatus (said.IsTextOnThreads
-        (said.IsEndInFile S.Disk.Device ⟦<Mirror<S::Disk> as Device>⟧ ⟦<ReadAhead<S::Disk> as Device>⟧ (S.is_opened places.now) path.now
-        script.now.lines.items) script.now.opening)) (W.contents output.old) (W.contents output.new)) }
+        (said.IsEndInFile S.Disk.Device ⟦<Mirror<S::Disk> as Device>⟧ ⟦<ReadAhead<S::Disk> as Device>⟧ (S.is_opened places.now)
+        (S.is_made places.now) path.now script.now.lines.items) script.now.opening)) (W.contents output.old) (W.contents output.new)) }
 {
     let (status, trouble) = run_threads_in_file(rt, places, alloc, path, script, output, &Open)?;
     complain_of_end(complaints, path, status, trouble);

@@ -5,6 +5,7 @@ use Rattle.std.proofs.lemmas.Bool.{cases_lt}
 use Rattle.std.proofs.lemmas.List.{get_or-append_right, get_or_append_left, length-append}
 use Rattle.fkv_base.specs.declared.shapes.Shape.{Shape}
 use Rattle.fkv_disk.specs.Bytes.{bytes_at}
+use Rattle.fkv_marks.specs.Marks.{mark}
 use Rattle.fkv_record.specs.Places.{record_place}
 use Rattle.fkv_opening.specs.Warm.{IsWarm, warm_word}
 use Rattle.fkv_opening.specs.declared.opened_store.Opened.{Opened}
@@ -48,16 +49,16 @@ word_there image shape number first (suc n) i k few small =
     ]
 
 -- so memory has what it is to have
-pub is_warm : (image : List ℕ) (o : Opened) → o.frames.items ≡ records_from image o.shape o.number.0 o.warm.0 (o.tail.0 - o.warm.0) → IsWarm image o
+pub is_warm : (image : List ℕ) (o : Opened) → o.frames.items ≡ records_from image o.shape (mark o.number.0) o.warm.0 (o.tail.0 - o.warm.0) → IsWarm image o
 is_warm image o are = record {
   header = λ a above below. word a 0 above below (omega arith);
   key = λ a above below. word a 1 above below (omega arith);
   value = λ a above below. word a 2 above below (omega arith);
 }
   where
-    word : (a k : ℕ) → o.warm.0 ≤ a → a < o.tail.0 → k < 3 → warm_word o a k ≡ slice_index (record_words (bytes_at image (record_place o.shape a) 24) o.number.0) k
+    word : (a k : ℕ) → o.warm.0 ≤ a → a < o.tail.0 → k < 3 → warm_word o a k ≡ slice_index (record_words (bytes_at image (record_place o.shape a) 24) (mark o.number.0)) k
     word a k above below small =
         let here : o.warm.0 + (a - o.warm.0) ≡ a = omega (arith, above) in
         ap (λ (words : List ℕ). slice_index words (3 * (a - o.warm.0) + k)) are
-        ∙ (word_there image o.shape o.number.0 o.warm.0 (o.tail.0 - o.warm.0) (a - o.warm.0) k (omega (arith, above, below)) small
-        ∙ ap (λ (at : ℕ). slice_index (record_words (bytes_at image (record_place o.shape at) 24) o.number.0) k) here)
+        ∙ (word_there image o.shape (mark o.number.0) o.warm.0 (o.tail.0 - o.warm.0) (a - o.warm.0) k (omega (arith, above, below)) small
+        ∙ ap (λ (at : ℕ). slice_index (record_words (bytes_at image (record_place o.shape at) 24) (mark o.number.0)) k) here)

@@ -9,6 +9,7 @@ ghost use Rattle.fkv_warming.specs.Warmed.{IsSameStore, warm_from};
 use crate::records::records_from;
 use fkv_base::{Addr, Fault};
 use fkv_disk::Device;
+use fkv_marks::mark;
 use fkv_opening::Opened;
 use fkv_plane::Places;
 use std::alloc::Global;
@@ -38,7 +39,8 @@ pub fn warm<D: Device>(alloc: Global, opened: Opened, most: u64, d: &mut D) -> R
     ensures reads { OnlyReads D.refuses D.expects d.old d.new }
 {
     let first = first_warm(&opened, most);
-    let words = records_from(alloc, opened.shape, opened.number, first, opened.tail, d)?;
+    let version = mark(opened.number);
+    let words = records_from(alloc, opened.shape, version, first, opened.tail, d)?;
     let Opened {
         shape,
         number,

@@ -9,7 +9,7 @@ use fkv_base::{Serial, Version};
 pub struct CutWord {
     /// The serial, up to `Serial::LAST`; 0 where the session has taken none.
     pub serial: Serial,
-    /// The version, up to `Version::LAST`; 0 before the session has left a version.
+    /// The mark of the version, up to 8191; 0 before the session has left a version.
     pub version: Version,
     pub ghost serial_fits: { serial.0 < 2 ^ 48 },
     pub ghost version_fits: { version.0 < 2 ^ 13 },

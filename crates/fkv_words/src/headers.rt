@@ -9,7 +9,7 @@ use fkv_base::{Addr, Version};
 pub struct Header {
     /// The address of the previous record of the home, below 2^48; 0 where there is none.
     pub previous: Addr,
-    /// The version, 1 to `Version::LAST`.
+    /// The mark of the version, 1 to 8191.
     pub version: Version,
     /// Whether the record was given up before any entry named it.
     pub invalid: bool,

@@ -8,7 +8,7 @@ use fkv_base::{Phase, Version};
 /// The phase of the commit, and the version that sessions are to take up.
 #[derive(Clone, Copy, Debug, PartialEq, Eq)]
 pub struct PhaseWord {
-    /// The version, 1 to `Version::LAST`.
+    /// The version, 1 to 8191.
     pub version: Version,
     pub phase: Phase,
     pub ghost some_version: { 0 < version.0 },

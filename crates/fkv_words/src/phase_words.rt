@@ -14,18 +14,12 @@ pub enum PhaseSaid {
 }
 
 /// What this word says as a phase word: total, so a machine's table may go by any reply. It says a phase and version
-/// exactly where [`WidePhase::unpack`] gives them and the version is no later than the last that there is.
+/// exactly where [`WidePhase::unpack`] gives them.
 pub fn phase_said(word: u64) -> PhaseSaid
     ensures { result ≡ phase_said word }
 {
     match WidePhase::unpack(word) {
-        Some(its) => {
-            if its.version.0 <= Version::LAST {
-                PhaseSaid::Says(its.phase, its.version)
-            } else {
-                PhaseSaid::Spoiled
-            }
-        }
+        Some(its) => PhaseSaid::Says(its.phase, its.version),
         None => PhaseSaid::Spoiled,
     }
 }

@@ -1,5 +1,6 @@
 pub mod Attempts
 pub mod Links
+mod Near
 pub mod Raises
 pub mod Sessions
 mod Tests

@@ -1,15 +1,16 @@
 -- Why the keeper refuses a commit, and why it ends a turn early.
-use Rattle.std.specs.Prelude.{◌≡◌, ℕ, List, [], ◌∷◌, Bool, false, length, Option, Some, None}
+use Rattle.std.specs.Prelude.{◌≡◌, ℕ, List, [], ◌∷◌, Bool, false, Option, Some, None}
 use Rattle.fkv_base.specs.declared.commits.CommitKind.{CommitKind}
 use Rattle.fkv_base.specs.declared.faults.Fault.{Fault}
 use Rattle.fkv_base.specs.declared.faults.Fault.TheVariants as fault
 use Rattle.fkv_base.specs.declared.shapes.Shape.{Shape}
 use Rattle.fkv_plane.specs.declared.places.Places.{Places}
 use Rattle.fkv_commit.specs.Exchanges.{AreIdle, Exchange, WasEpochLast}
+use Rattle.fkv_commit.specs.declared.starting.StartAsked.{StartAsked}
 use Rattle.fkv_commit.specs.Phases.{IsRefusalTrue}
 use Rattle.fkv_epoch.specs.Once.{Among}
 use Rattle.fkv_keeper.specs.KeeperRun.{BeginsCommit, Calls, KeeperEvent, Replies, is_in_hand, keeper_run}
-use Rattle.fkv_keeper.specs.Keeping.{KeeperState, is_copy_resting}
+use Rattle.fkv_keeper.specs.Keeping.{asked_for, KeeperState, is_copy_resting}
 use Rattle.fkv_keeper.specs.declared.keepers.Keeping.TheVariants.{LoadsPhase}
 use Rattle.fkv_commit.specs.declared.commits.Commit.{Commit}
 
@@ -23,26 +24,23 @@ unfoldable pub kind_asked : Shape → Places → KeeperState → List KeeperEven
 kind_asked shape p opening [] = None
 kind_asked shape p opening (event ∷ before) = kind_after (is_in_hand (keeper_run shape p opening before).step) event (kind_asked shape p opening before)
 
--- how many lost ranges the keeper has in hand
-abbrev pub lost_in_hand : KeeperState → ℕ
-lost_in_hand s = length s.lost
-
 -- a call of the device has failed
 abbrev pub HasFailed : List KeeperEvent → Type 0
 HasFailed events = (bytes : List ℕ) × Among (Calls false bytes) events
 
 -- ---- a commit that is refused
--- The call has changed no word. By what it was replied the cause holds, of a commit of this kind with so many lost ranges in hand.
-pub record IsShown (asked : Option CommitKind) (lost : ℕ) (why : Fault) (told : List Exchange) : Type 0 where
+-- The call has changed no word. By what it was replied the cause holds, of a commit of this kind as it was asked for.
+pub record IsShown (asked : Option CommitKind) (so : CommitKind → StartAsked) (why : Fault) (told : List Exchange) : Type 0 where
   pub kind : CommitKind
   pub its_kind : asked ≡ Some kind
   pub idle : AreIdle told
-  pub shown : IsRefusalTrue kind lost why told
+  pub shown : IsRefusalTrue (so kind) why told
 
--- It is refused as broken only if a call of the device has failed before. Any other cause is shown by what this call has asked and was replied.
-abbrev pub HasCommitCause : List KeeperEvent → Option CommitKind → ℕ → List Exchange → Fault → Type 0
-HasCommitCause before asked lost told fault.Broken = HasFailed before
-HasCommitCause before asked lost told why = IsShown asked lost why told
+-- It is refused as broken only if a call of the device has failed before. Any other cause is shown by what this call has asked and was
+-- replied, with the lost ranges that the keeper has in hand and the checkpoint of the newest finished commit.
+abbrev pub HasCommitCause : List KeeperEvent → Option CommitKind → KeeperState → List Exchange → Fault → Type 0
+HasCommitCause before asked s told fault.Broken = HasFailed before
+HasCommitCause before asked s told why = IsShown asked (asked_for s) why told
 
 -- ---- a turn that ends early
 -- This event is a call of the device, and it failed.

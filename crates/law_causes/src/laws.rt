@@ -12,18 +12,19 @@ ghost use Rattle.fkv_world.specs.Opened.{IsOpenedWorld};
 ghost use Rattle.fkv_world.specs.OwnEvents.{keeper_events};
 ghost use Rattle.fkv_world.specs.Runs.{World, run};
 ghost use Rattle.fkv_world.specs.World.{Event};
-ghost use Rattle.law_causes.specs.Causes.{HasCommitCause, HasTurnCause, kind_asked, lost_in_hand};
+ghost use Rattle.law_causes.specs.Causes.{HasCommitCause, HasTurnCause, kind_asked};
 ghost use Rattle.law_causes.specs.Lives.{keeper_before, kind_of_life, told_in_life};
 
-/// Whatever is begun, replied, given and called: a commit that is refused has its cause, and so has a turn that ends early. A commit is refused as broken only if a
-/// call of the device has failed before. Else the call has changed no word, and the words that it has loaded show why: a commit is running, versions or epochs are spent,
-/// a log commit has too many lost ranges, or no drain slot is free. A turn ends as broken only if a call of the device has failed before, and for the device
-/// only at its own call that fails. It ends for the epochs only if it has loaded the last epoch, and for memory only where that is refused.
+/// Whatever is begun, replied, given and called: a commit that is refused has its cause, and so has a turn that ends early. A commit is refused as broken
+/// only if a call of the device has failed before. Else the call has changed no word, and the words that it has loaded show why: a commit is running,
+/// versions or epochs are spent, a log commit has too many lost ranges or lies past the window of its checkpoint, or no drain slot is free. A turn ends
+/// as broken only if a call of the device has failed before, and for the device only at its own call that fails. It ends for the epochs only if it has
+/// loaded the last epoch, and for memory only where that is refused.
 pub fn law_of_refusals()
     ensures commits { (shape : Shape) (p : Places) (opening : KeeperState) (before : List KeeperEvent) (event : KeeperEvent) (why : Fault) → IsOpened opening
         → is_calling (keeper_run shape p opening before).step event ≡ true
         → (keeper_run shape p opening (event ∷ before)).step ≡ Ended (CommitRefused why)
-        → HasCommitCause before (kind_asked shape p opening (event ∷ before)) (lost_in_hand (keeper_run shape p opening (event ∷ before))) (call_told shape p opening (event ∷ before)) why }
+        → HasCommitCause before (kind_asked shape p opening (event ∷ before)) (keeper_run shape p opening (event ∷ before)) (call_told shape p opening (event ∷ before)) why }
     ensures turns { (shape : Shape) (p : Places) (opening : KeeperState) (before : List KeeperEvent) (event : KeeperEvent) (why : Fault) → IsOpened opening
         → is_calling (keeper_run shape p opening before).step event ≡ true
         → (keeper_run shape p opening (event ∷ before)).step ≡ Ended (TurnRefused why)
@@ -36,7 +37,7 @@ pub fn law_world_refused()
         → keeper_events opening events ≡ event ∷ before
         → is_calling (keeper_before opening before).step event ≡ true
         → (run opening events).now.keeper.step ≡ Ended (CommitRefused why)
-        → HasCommitCause before (kind_of_life opening (event ∷ before)) (lost_in_hand (run opening events).now.keeper) (told_in_life opening (event ∷ before)) why }
+        → HasCommitCause before (kind_of_life opening (event ∷ before)) (run opening events).now.keeper (told_in_life opening (event ∷ before)) why }
     ensures turns { (opening : World) (events : List Event) (event : KeeperEvent) (before : List KeeperEvent) (why : Fault) → IsOpenedWorld opening
         → keeper_events opening events ≡ event ∷ before
         → is_calling (keeper_before opening before).step event ≡ true

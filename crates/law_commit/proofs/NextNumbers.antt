@@ -2,7 +2,7 @@
 use Rattle.std.proofs.Common.{◌≡◌, ℕ, ◌+◌, ◌<◌, ◌^◌, ◌∙◌, List, [], ◌∷◌, ◌++◌, refl, arith, sym, subst, Bool, true, false}
 use Rattle.std.specs.Prelude.{⊤, Option, Some, None, if◌then◌else◌, nat_le}
 use Rattle.std.proofs.lemmas.Bool.Decides.{nat_tests}
-use Rattle.fkv_base.specs.Limits.{last_version}
+use Rattle.fkv_base.specs.Limits.{last_of}
 use Rattle.fkv_base.specs.declared.numbers.Addr.{Addr}
 use Rattle.fkv_base.specs.declared.numbers.Version.{Version}
 use Rattle.fkv_base.specs.declared.phases.Phase.TheVariants as phase
@@ -27,6 +27,7 @@ use Rattle.law_refine.specs.Below.fkv_commit.StartAnswer.TheVariants as start
 use Rattle.law_refine.specs.Below.fkv_commit.TheStarting.{Starting}
 use Rattle.law_refine.specs.Below.fkv_commit.TheStarting.TheVariants as starting
 use Rattle.law_refine.specs.Below.fkv_commit.Deferring.{defer_ask, defer_next}
+use Rattle.law_refine.proofs.Below.fkv_commit.Shown.{last_low}
 use Rattle.law_refine.specs.Below.fkv_commit.Starting.{StartState, defer_led, is_lost_full, phase_found, seek_led, start_ask, start_next, starting_ask, starting_next}
 use Rattle.law_refine.specs.Below.fkv_keeper.KeeperTold.{KeeperTold}
 use Rattle.law_refine.specs.Below.fkv_keeper.KeeperTold.TheVariants.{Device}
@@ -74,8 +75,8 @@ either_next last false a b one other = other refl
 found_next : (last : ℕ) (s : StartState) (said : PhaseSaid) → RestIsNext last said → NumberIsNext last (phase_found s said).step
 found_next last s Spoiled says = tt
 found_next last s (Says phase.Rest number) says =
-    either_next last (nat_le last_version number.0) _ _ (λ spent. tt)
-    (λ left. either_next last (is_lost_full s.kind s.lost) _ _ (λ full. tt) (λ has. (says, grind (arith, nat_tests, left))))
+    either_next last (nat_le (last_of s.asked.class) number.0) _ _ (λ spent. tt)
+    (λ left. either_next last (is_lost_full s.asked number.0) _ _ (λ full. tt) (λ has. let low = last_low s.asked.class number.0 (grind (arith, nat_tests, left)) in (says, omega (arith, low))))
 found_next last s (Says phase.Prepare number) says = tt
 found_next last s (Says phase.InProgress number) says = tt
 found_next last s (Says phase.WaitPending number) says = tt

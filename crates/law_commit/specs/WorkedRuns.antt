@@ -1,5 +1,6 @@
 -- Runs whose past is worked out: raises of a keeper, and a life of two sessions.
 use Rattle.std.specs.Prelude.{◌≡◌, true, false, replicate, List, [], ◌∷◌, ◌++◌, Some, None}
+use Rattle.fkv_base.specs.declared.classes.StoreClass.TheVariants.{Specified}
 use Rattle.fkv_base.specs.declared.phases.Phase.TheVariants.{Rest, Prepare, WaitPending}
 use Rattle.fkv_base.specs.declared.shapes.Shape.{Shape}
 use Rattle.fkv_map.specs.declared.operations.Call.TheVariants as call
@@ -32,10 +33,10 @@ use Rattle.law_commit.specs.Raises.{life_raises, no_raises, raises}
 use Rattle.law_commit.specs.Views.{View, sight_of}
 use Rattle.law_refine.specs.Events.Worked.{first_world}
 
--- A keeper as its store was opened begins a commit. The phase is rest in version 1, the epoch is 7, slot 0 is free, prepare is stored over the phase, and
+-- The keeper of a specified store as that was opened begins a commit. The phase is rest in version 1, the epoch is 7, slot 0 is free, prepare is stored over the phase, and
 -- the tail is 5. Then the epoch is raised, from 9 by now.
 abbrev pub resting_keeper : KeeperState → KeeperState
-resting_keeper s = record s { commit = None; is_broken = false; lost = []; step = Ended (Turned false false) }
+resting_keeper s = record s { start = record s.start { asked = record s.start.asked { class = Specified } }; commit = None; is_broken = false; lost = []; step = Ended (Turned false false) }
 
 abbrev pub events_before_raise : List KeeperEvent
 events_before_raise = Replies 5 true ∷ Replies 1 true ∷ Replies 0 true ∷ Replies 0 true ∷ Replies 7 true ∷ Replies 1 true ∷ BeginsCommit Full ∷ []

@@ -5,4 +5,5 @@ pub mod GoesOn
 pub mod Heart
 pub mod Moments
 pub mod Newest
+pub mod Recent
 pub mod Sharers

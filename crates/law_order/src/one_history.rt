@@ -6,12 +6,13 @@ use crate::in_turn::{law_ends_open, law_versions_open};
 use crate::ordered::{law_reads_met, law_world_ordered};
 use crate::rules::{law_life_begins, law_order_of_rules};
 use law_commit::{
-    law_floor_stands, law_latched_in_tries, law_phases_are_seen, law_shares_not_missed,
-    law_versions_counted, law_versions_end, law_views_see_tails,
+    law_begun, law_commits_cut, law_commits_ended, law_floor_stands, law_latched_in_tries,
+    law_phases_are_seen, law_shares_not_missed, law_versions_counted, law_versions_end,
+    law_views_see_tails,
 };
 use law_opening::law_latches_open;
 
-/// What the induction is given of each life: of phases, of latches, and of how versions end.
+/// What the induction is given of each life: of phases, of latches, and of how versions and commits end.
 fn law_given()
     ensures { said.Given }
 {
@@ -22,6 +23,9 @@ fn law_given()
     law_versions_counted();
     law_latched_in_tries();
     law_views_see_tails();
+    law_begun();
+    law_commits_ended();
+    law_commits_cut();
 }
 
 /// Each life keeps order, with no further premise: it begins so, and what the induction is given of phases, latches and versions holds of each life. So each

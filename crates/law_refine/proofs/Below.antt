@@ -2,6 +2,7 @@
 pub mod law_local
 pub mod law_world
 pub use Rattle.law_world.proofs.Below.fkv_checkpoint
+pub use Rattle.law_world.proofs.Below.fkv_commit
 pub use Rattle.law_world.proofs.Below.fkv_flush
 pub use Rattle.law_world.proofs.Below.fkv_keeper
 pub use Rattle.law_world.proofs.Below.fkv_ops

@@ -1,5 +1,6 @@
 -- What crates above name of the crates below.
 pub mod fkv_checkpoint
+pub mod fkv_commit
 pub mod fkv_flush
 pub mod fkv_keeper
 pub mod fkv_maintain

@@ -3,4 +3,5 @@ mod OfGuard
 mod Lives
 mod OfCommits
 mod OfPrefixes
+mod NewBytes
 mod OfImages

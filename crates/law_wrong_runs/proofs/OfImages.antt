@@ -1,12 +1,15 @@
 -- The images that a wrong slot leaves. By the law of gates its bytes are there, and its number is that of no commit that has begun.
 use Rattle.std.proofs.Common.{◌≡◌, inl, inr, ℕ, ◌≤◌, ◌<◌, ◌∙◌, List, [], ◌∷◌, ◌++◌, refl, sym, ap, subst, arith, true, false, length, map, replicate}
-use Rattle.std.specs.Prelude.{◌==◌, ◌^◌, Bool, Some, drop}
+use Rattle.std.proofs.lemmas.Bool.Decides.{nat_tests}
+use Rattle.std.specs.Prelude.{◌==◌, ◌≢◌, ◌^◌, Bool, Some, drop}
 use Rattle.fkv_base.specs.declared.shapes.Shape.{Shape}
 use Rattle.law_order.specs.Below.fkv_keeper.Area.{Area}
 use Rattle.law_order.specs.Below.fkv_keeper.Area.TheVariants.{First, Second}
 use Rattle.fkv_base.specs.declared.commits.CommitKind.TheVariants.{Full}
 use Rattle.fkv_base.specs.declared.faults.Damage.TheVariants.{Manifest}
 use Rattle.fkv_base.specs.declared.faults.Fault.TheVariants.{Damaged}
+use Rattle.fkv_creating.specs.Created.{IsCreated, created_bytes}
+use Rattle.fkv_disk.specs.Stays.{reads_itself, reads_may_stay}
 use Rattle.fkv_marks.specs.Marks.{mark}
 use Rattle.fkv_disk.specs.Bytes.{byte_at}
 use Rattle.fkv_disk.specs.Calls.{Call, MayLeave, Sync, Write, reads_as}
@@ -35,6 +38,7 @@ use Rattle.law_order.specs.Below.law_commit.BegunCommits.{BegunCommit}
 use Rattle.law_log.specs.Trace.{IsIn}
 use Rattle.law_order.specs.Prefix.Law.{NamesCommit}
 use Rattle.law_order.proofs.OfOneHistory.WorkedShape.{places, shape}
+use Rattle.law_wrong_runs.proofs.NewBytes.{begins_at_first}
 use Rattle.law_wrong_runs.specs.Tables.{run_by, slot_says_next_number}
 use Rattle.law_wrong_runs.specs.WrongImages.{AreWrongImages, BeginAtFirst, five_calls}
 use Rattle.law_wrong_runs.specs.WrongPrefixes.{begun_by_table, kept_world}
@@ -102,6 +106,9 @@ made_so : (w : CommitWriter) → w.step ≡ SyncsTriples → w.gate.step ≡ gat
 unfolding made_u.commit_made made_u.commit_run committing_u.commit_step_call committing_u.commit_step_next committing_u.gate_after gating_u.gate_step_call gating_u.gate_next
 made_so w step gate place start slot is = rw (step, gate, place, start, is) refl
 
+isnt_open : (b : ℕ) → b ≢ 165 → (b == 165) ≡ false
+isnt_open b shut = grind (arith, nat_tests, shut)
+
 -- ---- what is computed
 module _ (its : KeeperState) (one other : SessionState) where
   abbrev w : CommitWriter
@@ -165,7 +172,7 @@ module _ (its : KeeperState) (one other : SessionState) where
     its_slot = subst (λ (s : List ℕ). IsSlotOf 2 s) (sym slot_is) (named said (omega arith) (omega arith) (omega arith))
 
     closed : gate_start (byte_at bytes (writer its one other).gate.place == 165) ≡ gate_start false
-    closed = ap (λ (place : ℕ). gate_start (byte_at bytes place == 165)) place_is ∙ ap (λ (b : ℕ). gate_start (b == 165)) first.closed
+    closed = ap (λ (place : ℕ). gate_start (byte_at bytes place == 165)) place_is ∙ ap gate_start (isnt_open (byte_at bytes 1024) first.closed)
 
     begins : Begins (writer its one other) bytes [] 512
     begins = record {
@@ -237,7 +244,11 @@ SparesStores = (shape : Shape) (w : CommitWriter) (opened : List ℕ) (before : 
 abbrev AreNamed : Type 0
 AreNamed = (said : SlotSaid) → said.number < 2 ^ 64 → length said.points ≤ 32 → length said.lost ≤ 8 → IsSlotOf said.number (newest_bytes said)
 
-module _ (written : IsWritten) (store : SparesStores) (named : AreNamed) (its : KeeperState) (one other : SessionState) where
+-- what the law of new stores says
+abbrev AreCreated : Type 0
+AreCreated = (old : List ℕ) (shape : Shape) → IsCreated shape (created_bytes old shape)
+
+module _ (written : IsWritten) (store : SparesStores) (named : AreNamed) (created : AreCreated) (its : KeeperState) (one other : SessionState) where
   as_made : (bytes image : List ℕ) → MayLeave bytes (run_by (slot_says_next_number shape) (world its one other) five_calls).past.calls image → MayLeave bytes (commit_made (writer its one other) five ++ []) image
   as_made bytes image left = subst (λ (calls : List Call). MayLeave bytes calls image) (calls_are its one other) left
 
@@ -252,10 +263,15 @@ module _ (written : IsWritten) (store : SparesStores) (named : AreNamed) (its : 
     room = (let none = ap (λ (b : List ℕ). length b) (triples_are its one other) in omega (arith, none));
   }
 
+  stays_itself : (bytes : List ℕ) (calls : List Call) → MayLeave bytes calls (reads_as bytes calls)
+  stays_itself bytes calls = reads_may_stay bytes calls (reads_as bytes calls) (reads_itself bytes calls)
+
   pub wrong_images : AreWrongImages its one other
   wrong_images = record {
     shape = shape;
     places = places;
+    begins = λ old. begins_at_first shape (created_bytes old shape) (created old shape);
+    stays = λ bytes. stays_itself bytes (run_by (slot_says_next_number shape) (world its one other) five_calls).past.calls;
     unnamed = λ bytes image c first left is names. not_two c (begun_by_table (slot_says_next_number shape) (world its one other) five_calls) (numbers_are its one other) is (names_two its one other named bytes first image (new_stands bytes image first left) c names);
     faulty = λ bytes image first left.
         let spared = store shape (writer its one other) bytes [] 512 _ _ five image (begins its one other named bytes first) (as_made bytes image left) lies in

@@ -1,11 +1,12 @@
 -- A life by a wrong table whose images name no commit of it, and have a fault.
-use Rattle.std.specs.Prelude.{◌≡◌, ℕ, ◌≤◌, true, replicate, List, [], ◌∷◌, ◌++◌, length, Some}
+use Rattle.std.specs.Prelude.{◌≡◌, ◌≢◌, ℕ, ◌≤◌, true, replicate, List, [], ◌∷◌, ◌++◌, length, Some}
 use Rattle.fkv_base.specs.declared.commits.CommitKind.TheVariants.{Full}
 use Rattle.fkv_base.specs.declared.faults.Damage.TheVariants.{Manifest}
 use Rattle.fkv_base.specs.declared.faults.Fault.TheVariants.{Damaged}
 use Rattle.fkv_base.specs.declared.shapes.Shape.{Shape}
+use Rattle.fkv_creating.specs.Created.{created_bytes}
 use Rattle.fkv_disk.specs.Bytes.{byte_at}
-use Rattle.fkv_disk.specs.Calls.{MayLeave}
+use Rattle.fkv_disk.specs.Calls.{MayLeave, reads_as}
 use Rattle.fkv_manifest.specs.Newest.{newest, slot_in}
 use Rattle.fkv_newest.specs.Newest.{HasShape}
 use Rattle.fkv_opening.specs.Faults.{IsFaultOf}
@@ -26,7 +27,7 @@ pub record BeginAtFirst (shape : Shape) (bytes : List ℕ) : Type 0 where
   pub block : HasShape bytes shape
   pub in_force : newest bytes ≡ Some 512
   pub number : number_at (slot_in bytes 512) 8 ≡ 0
-  pub closed : byte_at bytes 1024 ≡ 0
+  pub closed : byte_at bytes 1024 ≢ 165
   pub long : 1536 ≤ length bytes
 
 -- A commit begins, and the keeper makes the five calls of the device by which it is written.
@@ -42,9 +43,16 @@ NeverNamed t shape opening events =
 abbrev pub AlwaysFaulty : Tables → Shape → World → List Event → Type 0
 AlwaysFaulty t shape opening events = (bytes image : List ℕ) → BeginAtFirst shape bytes → MayLeave bytes (run_by t opening events).past.calls image → IsFaultOf image (Damaged Manifest 1)
 
--- So it is if a slot says the number after its commit's. That commit has begun, so it would have to be named.
+-- There are such images: of any bytes the calls may leave what they make of them.
+abbrev pub MayStay : Tables → World → List Event → Type 0
+MayStay t opening events = (bytes : List ℕ) → MayLeave bytes (run_by t opening events).past.calls (reads_as bytes (run_by t opening events).past.calls)
+
+-- So it is if a slot says the number after its commit's. That commit has begun, so it would have to be named. But for the
+-- point that this world keeps, a new store's bytes begin such a life, whatever its device held before.
 pub record AreWrongImages (its : KeeperState) (one other : SessionState) : Type 0 where
   pub shape : Shape
   pub places : Places
+  pub begins : (old : List ℕ) → BeginAtFirst shape (created_bytes old shape)
+  pub stays : MayStay (slot_says_next_number shape) (kept_world shape places its one other) five_calls
   pub unnamed : NeverNamed (slot_says_next_number shape) shape (kept_world shape places its one other) five_calls
   pub faulty : AlwaysFaulty (slot_says_next_number shape) shape (kept_world shape places its one other) five_calls

@@ -1,5 +1,6 @@
 -- Lives of two sessions by wrong tables, in which a clause fails that holds by the right ones. They begin with a store that was just opened.
 use Rattle.std.specs.Prelude.{◌≡◌, ℕ, true, false, None, replicate, List, [], ◌∷◌, ◌++◌}
+use Rattle.fkv_base.specs.declared.classes.StoreClass.TheVariants.{Specified}
 use Rattle.fkv_base.specs.declared.shapes.Shape.{Shape}
 use Rattle.fkv_epoch.specs.EpochWorld.{Claimed, drain_word}
 use Rattle.fkv_epoch.specs.Once.{Among}
@@ -52,9 +53,9 @@ IsNewestOfKind its (it ∷ before) = IsOfKind its it.its
 abbrev pub LeavesOfKind : Call → World → Type 0
 LeavesOfKind its w = IsNewestOfKind its (answers_of 1 w.past.trace)
 
--- ---- the beginning: a store of two sessions that was just opened, whose keeper has no call and no commit in hand, and finishes commits for both
+-- ---- the beginning: a specified store of two sessions that was just opened, whose keeper has no call and no commit in hand, and finishes commits for both
 abbrev pub idle : KeeperState → KeeperState
-idle k = record k { commit = None; is_broken = false; finish = record k.finish { sessions = 2 }; step = keeping.Ended (Turned false false) }
+idle k = record k { start = record k.start { asked = record k.start.asked { class = Specified } }; commit = None; is_broken = false; finish = record k.finish { sessions = 2 }; step = keeping.Ended (Turned false false) }
 
 abbrev pub opened_world : Shape → Places → KeeperState → SessionState → SessionState → World
 opened_world shape places keeper one other = first_world shape places (idle keeper) one other

@@ -1,6 +1,7 @@
 //! What wrong tables lead to, computed.
 ghost use Rattle.law_wrong_runs.specs.Said as said;
 
+use fkv_creating::law_new_stores;
 use fkv_manifest::{law_gates, law_slots_are_named};
 
 /// Two sessions of a store with one bucket, whose key has 70 by one record. A table by which a record that is fixed is changed in place leads to a
@@ -30,10 +31,12 @@ pub fn law_of_wrong_prefixes()
 {}
 
 /// Two sessions of the same store. A commit is written by a slot that says the number after its own. So no image that the finished writes may leave names a
-/// commit that has begun, and each has a fault: its newest slot has the number of the other slot's parity.
+/// commit that has begun, and each has a fault: its newest slot has the number of the other slot's parity. The bytes of a new store are such as
+/// this life begins with, and there is an image.
 pub fn law_of_wrong_images()
     ensures { (keeper : said.KeeperState) (one other : said.SessionState) → said.AreWrongImages keeper one other }
 {
     law_gates();
     law_slots_are_named();
+    law_new_stores();
 }

@@ -151,6 +151,9 @@ class Keys(OverFile):
             self.assertEqual(its.begin, 1)
             self.assertTrue(1 < its.head <= its.flushed <= its.read_only <= its.tail)
             self.assertLessEqual(its.overflow, shape.overflow)
+            self.assertEqual((its.entries, sum(its.pending)), (0, 0))
+            session.commit()
+            self.assertEqual(store.stats.entries, 1000)
 
 
 class Stores(OverFile):

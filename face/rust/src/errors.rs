@@ -15,7 +15,7 @@ pub enum Error {
     IndexFull,
     /// The log has no room for another record, and never will have.
     LogFull,
-    /// The store has taken its last commit, the 8,190th.
+    /// The store has taken its last commit.
     VersionsSpent,
     /// The session has taken its last serial.
     SerialsSpent,
@@ -43,7 +43,7 @@ pub enum Error {
     NoSession,
     /// The session is awake.
     Awake,
-    /// More than eight ranges of lost records are in hand.
+    /// More than eight ranges of lost records are in hand, or the last full commit is too old.
     LostFull,
     /// A session is out still; or a hook would end the thread that calls it.
     HandleOut,

@@ -33,7 +33,7 @@ struct Hooks {
 }
 
 impl Keeping {
-    /// Commits each so long, rounded up to milliseconds, unless no session was out since the last commit. A store takes 8,190 commits.
+    /// Commits each so long, rounded up to milliseconds, unless no session was out since the last commit. A specified store takes 8,190 commits.
     pub fn commit_each(mut self, time: Duration) -> Keeping {
         self.commit_each = time;
         self

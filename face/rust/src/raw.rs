@@ -19,6 +19,7 @@ pub struct Opened {
     pub number: u64,
     pub damage: u64,
     pub damaged_at: u64,
+    pub entries: u64,
 }
 
 #[repr(C)]
@@ -145,8 +146,10 @@ pub struct Stats {
     pub read_only: u64,
     pub tail: u64,
     pub overflow: u64,
+    pub entries: u64,
     pub stopped: i32,
     pub waited: [u64; REASONS],
+    pub pending: [u64; REASONS],
 }
 
 #[repr(C)]

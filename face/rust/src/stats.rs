@@ -46,10 +46,14 @@ pub struct Stats {
     pub tail: u64,
     /// Overflow buckets of the index that are taken, of the shape's `overflow`.
     pub overflow: u64,
+    /// Entries of the index that were taken at the opening, or as the last full commit since copied it. None is given back.
+    pub entries: u64,
     /// The number of the fault for which no commit is finished any more; 0 while commits go on.
     pub stopped: i32,
-    /// Calls that had to wait: updates by the number of their first [`Reason`](crate::Reason) in C, and reads at 0.
+    /// Requests that calls had to wait for: updates by the number of their first [`Reason`](crate::Reason) in C, and reads at 0.
     pub waited: [u64; 6],
+    /// Those of them that are pending just now: calls wait for them, or were refused to.
+    pub pending: [u64; 6],
 }
 
 impl Store {
@@ -78,8 +82,10 @@ impl Store {
             read_only: its.read_only,
             tail: its.tail,
             overflow: its.overflow,
+            entries: its.entries,
             stopped: -its.stopped,
             waited: its.waited,
+            pending: its.pending,
         })
     }
 }

@@ -4,7 +4,7 @@ use fkv::{
     Error, How, Keeping, Made, Merge, RenewedKeys, Shape, Stats, Store, Update, Wish, Work,
     renew_file,
 };
-use std::io::ErrorKind;
+use std::io::{ErrorKind, Write};
 use std::path::PathBuf;
 use std::sync::atomic::{AtomicBool, Ordering};
 use std::sync::mpsc;
@@ -29,6 +29,12 @@ impl Path {
 
     fn store(&self, keys: u64) -> Store {
         Store::open_or_make(&self.0, &Wish::default().keys(keys).sessions(3)).unwrap()
+    }
+
+    /// Makes its store, which nobody has open, a specified one: the text by which the file begins says so.
+    fn specify(&self) {
+        let mut file = fs::OpenOptions::new().write(true).open(&self.0).unwrap();
+        file.write_all(b"FKVSTOR1").unwrap();
     }
 }
 
@@ -84,6 +90,8 @@ fn a_session_reads_what_it_wrote_beside_commits() {
 #[test]
 fn the_last_commit_is_told() {
     let path = Path::new("spent");
+    drop(path.store(10));
+    path.specify();
     let store = path.store(10);
     let (send, receive) = mpsc::channel();
     let keeping = Keeping::default().log_commits(100).stopped(move |why| {
@@ -238,6 +246,7 @@ fn what_is_done_is_kept_as_the_keeper_is_dropped() {
     assert_eq!((joined, stopped), (1, 0));
     assert!(stats.in_hand.is_none() && stats.commit_time.is_none());
     assert_eq!((stats.begin, stats.tail, stats.flushed), (1, 1001, 1001));
+    assert_eq!((stats.entries, stats.pending), (1000, [0; 6]));
     assert!(stats.begin <= stats.head && stats.head <= stats.flushed);
     assert!(stats.flushed <= stats.read_only && stats.read_only <= stats.tail);
     session.put(7, 1).unwrap();

@@ -36,7 +36,7 @@ use Rattle.law_local.specs.Tries.OnWay.{IsOrderly}
 use Rattle.law_local.specs.Tries.TryRows.{NoneIsLater, TryKnows, key_in}
 use Rattle.law_local.proofs.OfTries.TrialKept.{KeepsRequest, try_kept}
 use Rattle.law_local.proofs.OfTries.TrySteps.{try_leads}
-use Rattle.law_apart.specs.Apart.Rows.{AttemptApart, PendingApart, TellsSharer, TryApart, VersionsFit}
+use Rattle.law_apart.specs.Apart.Rows.{AttemptApart, PendingApart, TellsPhase, TellsSharer, TryApart, VersionsNear}
 use Rattle.law_apart.proofs.OfApart.Tries.{begun_asks, none_at_end, try_apart, try_begins_apart}
 
 module _ (home : ℕ → ℕ) (p : Places) (log : Log) where
@@ -138,25 +138,25 @@ module _ (home : ℕ → ℕ) (p : Places) (log : Log) where
   put_apart a ask at pending = subst (AttemptApart home p log a) (sym at) pending
 
   -- ---- each reply
-  row_apart : (bits room session : ℕ) (a : AttemptState) (step : Attempting) (reply : ℕ) → IsOrderly home log → VersionsFall log.cells (log.chains (home (key_in a.trial.request))) → VersionsFit log
-      → (a.step ≡ Tries → TellsSharer home log p a.trial reply) → (a.step ≡ Tries → TryKnows home log (try_next p room a.trial reply)) → a.step ≡ step → AttemptRow home log a step → IsTrueOfAttempt home log p a step reply
+  row_apart : (bits room session : ℕ) (a : AttemptState) (step : Attempting) (reply : ℕ) → IsOrderly home log → VersionsFall log.cells (log.chains (home (key_in a.trial.request))) → (a.step ≡ Tries → VersionsNear log a.trial)
+      → (a.step ≡ Tries → TellsSharer home log p a.trial reply) → (a.step ≡ Tries → TellsPhase home log a.trial reply) → (a.step ≡ Tries → TryKnows home log (try_next p room a.trial reply)) → a.step ≡ step → AttemptRow home log a step → IsTrueOfAttempt home log p a step reply
       → AttemptApart home p log a step → Apart (attempting_next p bits room session (record a { effect = None }) step reply)
   unfolding attempting_next
-  row_apart bits room session a (Ended its) reply orderly falls fit tells leads at row says apart = subst (AttemptApart home p log (record a { effect = None })) (sym at) apart
-  row_apart bits room session a Looks reply orderly falls fit tells leads at row says apart = look_apart bits (record a { effect = None; mailing = mail_next a.mailing reply }) (mail_ask session (mail_next a.mailing reply)) at apart
-  row_apart bits room session a Tries reply orderly falls fit tells leads at row says apart =
+  row_apart bits room session a (Ended its) reply orderly falls near tells word leads at row says apart = subst (AttemptApart home p log (record a { effect = None })) (sym at) apart
+  row_apart bits room session a Looks reply orderly falls near tells word leads at row says apart = look_apart bits (record a { effect = None; mailing = mail_next a.mailing reply }) (mail_ask session (mail_next a.mailing reply)) at apart
+  row_apart bits room session a Tries reply orderly falls near tells word leads at row says apart =
       led_apart (record a { effect = (try_next p room a.trial reply).effect; trial = try_next p room a.trial reply }) (try_ask p (try_next p room a.trial reply)) at refl
       (record { knows = leads at; its_request = kept.request ∙ row.its_request; its_seen = kept.seen ∙ row.its_seen; not_asked = row.not_asked })
-      (try_apart home log p room a.trial reply orderly falls fit (tells at) row.knows says apart.0)
+      (try_apart home log p room a.trial reply orderly falls (near at) (tells at) (word at) row.knows says apart.0)
     where
       kept : KeepsRequest a.trial (try_next p room a.trial reply)
       kept = try_kept p room a.trial reply
-  row_apart bits room session a Puts reply orderly falls fit tells leads at row says apart = put_apart (record a { effect = None; mailing = mail_next a.mailing reply }) (mail_ask session (mail_next a.mailing reply)) at apart
+  row_apart bits room session a Puts reply orderly falls near tells word leads at row says apart = put_apart (record a { effect = None; mailing = mail_next a.mailing reply }) (mail_ask session (mail_next a.mailing reply)) at apart
 
-  pub attempt_apart : (bits room session : ℕ) (a : AttemptState) (reply : ℕ) → IsOrderly home log → VersionsFall log.cells (log.chains (home (key_in a.trial.request))) → VersionsFit log
-      → (a.step ≡ Tries → TellsSharer home log p a.trial reply) → (a.step ≡ Tries → TryKnows home log (try_next p room a.trial reply)) → AttemptKnows home log a → IsTrueOfAttempt home log p a a.step reply
+  pub attempt_apart : (bits room session : ℕ) (a : AttemptState) (reply : ℕ) → IsOrderly home log → VersionsFall log.cells (log.chains (home (key_in a.trial.request))) → (a.step ≡ Tries → VersionsNear log a.trial)
+      → (a.step ≡ Tries → TellsSharer home log p a.trial reply) → (a.step ≡ Tries → TellsPhase home log a.trial reply) → (a.step ≡ Tries → TryKnows home log (try_next p room a.trial reply)) → AttemptKnows home log a → IsTrueOfAttempt home log p a a.step reply
       → AttemptApart home p log a a.step → Apart (attempt_next p bits room session a reply)
-  attempt_apart bits room session a reply orderly falls fit tells leads knows says apart = row_apart bits room session a a.step reply orderly falls fit tells leads refl knows.row says apart
+  attempt_apart bits room session a reply orderly falls near tells word leads knows says apart = row_apart bits room session a a.step reply orderly falls near tells word leads refl knows.row says apart
 
   pub attempt_begins_apart : (bits : ℕ) (pending : PendingRequest) (seen : Seen) (occasion : Occasion) (spare : ℕ) (is_orphaned : Bool) → Waits pending → Apart (attempt_begun p bits pending seen occasion spare is_orphaned)
   attempt_begins_apart bits pending seen occasion spare is_orphaned waits =

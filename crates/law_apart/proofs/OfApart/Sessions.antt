@@ -34,7 +34,7 @@ use Rattle.law_local.specs.Tries.OnWay.{IsOrderly}
 use Rattle.law_local.specs.Tries.TryRows.{NoneIsLater, TryKnows, key_in}
 use Rattle.law_local.proofs.OfSessions.Known.{begun_known, next_known, stays_known}
 use Rattle.law_local.proofs.OfSessions.Moves.{next_requests}
-use Rattle.law_apart.specs.Apart.Rows.{AttemptApart, PendingApart, SessionApart, TellsSharer, VersionsFit}
+use Rattle.law_apart.specs.Apart.Rows.{AttemptApart, PendingApart, SessionApart, TellsPhase, TellsSharer, VersionsNear}
 use Rattle.law_apart.proofs.OfApart.Attempts.{attempt_apart, attempt_begins_apart, latch_apart}
 
 never : {X : Type 0} → false ≡ true → X
@@ -80,10 +80,11 @@ module _ (home : ℕ → ℕ) (k : Seat) where
     pub record ApartFacts : Type 0 where
       pub orderly : IsOrderly home log
       pub falls : (h : ℕ) → VersionsFall log.cells (log.chains h)
-      pub fit : VersionsFit log
+      pub near : is_attempting s.step ≡ true → s.attempt.step ≡ Tries → VersionsNear log s.attempt.trial
       pub attempt : is_attempting s.step ≡ true → AttemptKnows home log s.attempt
       pub says : is_attempting s.step ≡ true → IsTrueOfAttempt home log k.places s.attempt s.attempt.step reply
       pub tells : is_attempting s.step ≡ true → s.attempt.step ≡ Tries → TellsSharer home log k.places s.attempt.trial reply
+      pub phase : is_attempting s.step ≡ true → s.attempt.step ≡ Tries → TellsPhase home log s.attempt.trial reply
       pub leads : is_attempting s.step ≡ true → s.attempt.step ≡ Tries → TryKnows home log (try_next k.places (room_of k) s.attempt.trial reply)
       -- what is known stays
       pub waiting : (index : ℕ) (pending : PendingRequest) → slice_get s.requests index ≡ Some pending → s.step ≢ Polls index → Waits log pending → Waits log' pending
@@ -99,7 +100,7 @@ module _ (home : ℕ → ℕ) (k : Seat) where
       goes : (attempting : is_attempting s.step ≡ true) → Tried log s.attempt → Tried log' (attempt_after k s reply)
       goes attempting its =
           facts.trying attempting
-          (attempt_apart home k.places log (bits_of k) (room_of k) k.number s.attempt reply facts.orderly (facts.falls (home (key_in s.attempt.trial.request))) facts.fit (facts.tells attempting) (facts.leads attempting) (facts.attempt attempting) (facts.says attempting) its)
+          (attempt_apart home k.places log (bits_of k) (room_of k) k.number s.attempt reply facts.orderly (facts.falls (home (key_in s.attempt.trial.request))) (facts.near attempting) (facts.tells attempting) (facts.phase attempting) (facts.leads attempting) (facts.attempt attempting) (facts.says attempting) its)
 
       left : (its : TryAnswer) → attempt_comes_to k s reply ≡ Done its → Tried log' (attempt_after k s reply) → Waits log' (attempt_after k s reply).pending
       left its e after = left_apart log' (attempt_after k s reply) (attempt_after k s reply).step its e after

@@ -119,7 +119,8 @@ module _ (home : ℕ → ℕ) (m : Map) (log log' : Log) (held : Held home m log
 
     shares_stays : (step : Trying) → t.has_shared ≡ true → SharesRow home log t step → SharesRow home log' t step
     shares_stays try.TakesShared has row = tt
-    shares_stays try.Walks has row = elim row [ inl none ↦ inl (none_on has none.0, in_stays (home (key_in t.request)) t.walk.first none.1) | inr apart ↦ inr (apart.0, apart.1, walk_stays t.request t.seen (raises has) t.walk t.walk.step apart.2, apart.3) ]
+    shares_stays try.LoadsPhase has row = tt
+    shares_stays try.Walks has row = elim row [ inl none ↦ inl (none_on has none.0, in_stays (home (key_in t.request)) t.walk.first none.1) | inr apart ↦ inr (apart.0, apart.1, walk_stays t.request t.seen (raises has) t.walk t.walk.step apart.2, apart.3, apart.4) ]
     shares_stays (try.DropsExclusive its) has row = λ wait. none_on has (row wait)
     shares_stays (try.Ended its) has row = none_on has row
     shares_stays (try.LoadsSafe addr version) has row = none_on has row
@@ -139,6 +140,7 @@ module _ (home : ℕ → ℕ) (m : Map) (log log' : Log) (held : Held home m log
     copies_stay try.LoadsOld row = copies_on row
     copies_stay (try.Appends its) row = copies_on row
     copies_stay try.TakesShared row = tt
+    copies_stay try.LoadsPhase row = tt
     copies_stay try.Walks row = tt
     copies_stay (try.DropsExclusive its) row = tt
     copies_stay (try.Ended its) row = tt

@@ -1,14 +1,16 @@
 -- Each true reply leads a try on to what it has to know of versions.
-use Rattle.std.proofs.Common.{◌≡◌, ◌⊎◌, inl, inr, ℕ, ◌<◌, ◌≤◌, ◌^◌, refl, sym, ap, ◌∙◌, subst, arith, Bool, true, false, Option, Some, None}
+use Rattle.std.proofs.Common.{◌≡◌, ◌⊎◌, inl, inr, ℕ, ◌+◌, ◌<◌, ◌≤◌, ◌^◌, refl, sym, ap, ◌∙◌, subst, arith, Bool, true, false, Option, Some, None}
 use Rattle.std.proofs.lemmas.Bool.Decides.{nat_tests}
 use Rattle.std.specs.Prelude.{◌==◌, ◌&&◌, not, nat_lt, nat_le, if◌then◌else◌}
 use Rattle.fkv_base.specs.declared.numbers.Addr.{Addr}
 use Rattle.fkv_base.specs.declared.numbers.Version.{Version}
 use Rattle.fkv_marks.specs.Marks.{mark}
-use Rattle.fkv_marks.proofs.Shown.{mark_small, marks_tell}
+use Rattle.fkv_marks.proofs.Shown.{mark_low, mark_small}
 use Rattle.fkv_map.specs.declared.operations.Reply.{Reply}
 use Rattle.fkv_map.specs.Map.{absent_word}
 use Rattle.fkv_map.specs.Keys.{key_of, reply_from}
+use Rattle.fkv_words.specs.declared.phase_words.PhaseSaid.{PhaseSaid}
+use Rattle.fkv_words.specs.PhaseWords.{phase_said}
 use Rattle.fkv_plane.specs.declared.asks.Ask.{Ask}
 use Rattle.fkv_plane.specs.declared.asks.Ask.TheVariants.{Done}
 use Rattle.fkv_plane.specs.declared.places.Places.{Places}
@@ -48,14 +50,14 @@ use Rattle.law_local.specs.Below.fkv_ops.Seen.{Seen}
 use Rattle.law_local.specs.Below.fkv_ops.OldValue.{OldValue}
 use Rattle.law_local.specs.Below.fkv_ops.OldValue.TheVariants.{InMemory, Known}
 use Rattle.law_local.specs.Below.fkv_ops.TheTrying.{Trying}
-use Rattle.law_local.specs.Below.fkv_ops.TheTrying.TheVariants.{Appends, ChangesValue, DropsExclusive, DropsShared, Ended, LoadsAnswer, LoadsCurrent, LoadsOld, LoadsSafe, SwapsValue, TakesExclusive, TakesShared, Walks}
+use Rattle.law_local.specs.Below.fkv_ops.TheTrying.TheVariants.{Appends, ChangesValue, DropsExclusive, DropsShared, Ended, LoadsAnswer, LoadsCurrent, LoadsOld, LoadsPhase, LoadsSafe, SwapsValue, TakesExclusive, TakesShared, Walks}
 use Rattle.law_local.specs.Below.fkv_ops.WalkAnswer.{WalkAnswer}
 use Rattle.law_local.specs.Below.fkv_ops.WalkAnswer.TheVariants as walk
 use Rattle.law_local.specs.Below.fkv_ops.TheWalking.{Walking}
 use Rattle.law_local.specs.Below.fkv_ops.TheWalking.TheVariants as walking
 use Rattle.law_local.specs.Below.fkv_ops.Appending.{append_ask, append_next}
 use Rattle.law_local.specs.Below.fkv_ops.Requests.{is_blind, is_read, purpose_of}
-use Rattle.law_local.specs.Below.fkv_ops.Trying.{TryState, answer_ledto, append_ledto, appends, awaits, changes, copies, copies_from, current_ledto, ended_without, ends, exclusive_dropped, exclusive_ledto, full_at, has_walked, held_used, is_above, is_moving_on, is_own_version, is_prepare, is_wait, met_disk, met_nowhere, met_record, must_shift, new_try, old_ledto, region_met, safe_loaded, shared_dropped, shared_ledto, takes_effect, told_value, try_ask, try_begun, try_next, trying_ask, trying_next, value_changed, walk_ledto, walked, walks, wants_exclusive, wants_shared, with_latch}
+use Rattle.law_local.specs.Below.fkv_ops.Trying.{TryState, answer_ledto, append_ledto, appends, awaits, changes, copies, copies_from, current_ledto, ended_without, ends, exclusive_dropped, exclusive_ledto, full_at, has_walked, held_used, is_above, is_marked, is_moving_on, is_next_marked, is_own_version, is_still_in, is_surely_own, latch_shared, phase_loaded, is_prepare, is_wait, met_disk, met_nowhere, met_record, must_shift, new_try, old_ledto, region_met, safe_loaded, shared_dropped, shared_ledto, takes_effect, told_value, try_ask, try_begun, try_next, trying_ask, trying_next, value_changed, walk_ledto, walked, walks, wants_exclusive, wants_shared, with_latch}
 use Rattle.law_local.specs.Below.fkv_ops.Values.{value_of}
 use Rattle.law_local.specs.Below.fkv_ops.Walking.{WalkState, walk_ask, walk_next, walk_on, walking_ask}
 use Rattle.law_local.specs.Tries.OnWay.{IsFoundAt, IsOrderly}
@@ -63,7 +65,8 @@ use Rattle.law_local.specs.Tries.Replies.{IsTrueReply}
 use Rattle.law_local.specs.Tries.TryRows.{IsUpdate, IsWalkFor, MarksTell, NoneIsLater, NoneLaterPast, StandsAt, TryKnows, TryRow, head_in, key_in}
 use Rattle.law_local.specs.Tries.WalkRows.{LoadKnows, LoadsFrom, WalkKnows, WalkRow, begin_of}
 use Rattle.law_local.proofs.OfTries.WalkRows.{loads_same, same_on, walk_leads, walk_tells}
-use Rattle.law_apart.specs.Apart.Rows.{CopiesApart, CopiesRow, EndApart, HasComeTo, HasMet, HasMetFirst, HasOwn, IsDropping, IsUnderWay, LatchRow, MovesOn, SharesRow, ShowsLater, TellsSharer, TryApart, VersionsFit, WalkApart, is_linking, KnowsNone, MetIn}
+use Rattle.law_apart.specs.Apart.Rows.{AreNear, CopiesApart, CopiesRow, EndApart, HasComeTo, HasMet, HasMetFirst, HasOwn, IsDropping, IsUnderWay, LatchRow, MovesOn, SharesRow, ShowsLater, TellsPhase, TellsSharer, TryApart, VersionsNear, WalkApart, is_linking, KnowsNone, MetIn}
+use Rattle.law_apart.proofs.OfApart.Near.{near_told, small_told, unmarked_small}
 use Rattle.law_apart.proofs.OfApart.Tests.{both_true, eq_true, le_false, lt_false, lt_true, not_both, test_true, waits_so}
 use Rattle.law_apart.proofs.OfApart.Walks.{walk_apart, walk_met}
 
@@ -78,31 +81,38 @@ none_of_shows home log request seen from shows never a is_in = by_test (nat_lt r
     by_test false e = lt_false request.version.0 (version_at (log.cells a)) e
 
 -- where the first version that was met isn't above the request's
-passes_test : (prepare read above : Bool) → prepare ≡ true → read ≡ false → (prepare && not read && above) ≡ false → above ≡ false
-passes_test true false above one other e = e
-passes_test true true above one other e = cc
-passes_test false read above one other e = cc
+passes_test : (prepare read marked above : Bool) → prepare ≡ true → read ≡ false → marked ≡ false → (prepare && not read && not marked && above) ≡ false → above ≡ false
+passes_test true false false above one other none e = e
+passes_test true false true above one other none e = cc
+passes_test true true marked above one other none e = cc
+passes_test false read marked above one other none e = cc
 
-met_low : (log : Log) → VersionsFit log → (from : ℕ) (first : Option Version) (version : Version) → version.0 < 2 ^ 13 → HasMetFirst log from first → is_above first version ≡ false → version.0 < version_at (log.cells from) → ⊥
-met_low log fit from None version small met e high = absurd met
-met_low log fit from (Some was) version small met e high =
+met_low : (log : Log) (from : ℕ) (first : Option Version) (version : Version) → version_at (log.cells from) ≤ version.0 + 1 → version.0 < 8191 → HasMetFirst log from first → is_above first version ≡ false → version.0 < version_at (log.cells from) → ⊥
+met_low log from None version near few met e high = absurd met
+met_low log from (Some was) version near few met e high =
     let low = lt_false (mark version.0) was.0 e in
     let is : version_at (log.cells from) ≡ met.cell.version = ap version_at met.its in
-    let same = met.its_mark ∙ mark_small met.cell.version (subst (λ (n : ℕ). n < 2 ^ 13) is (fit from)) in
-    let own = mark_small version.0 small in
+    let same = met.its_mark ∙ mark_small met.cell.version (omega (arith, is, near, few)) in
+    let own = mark_small version.0 (omega (arith, few)) in
     omega (arith, low, high, is, same, own)
 
-come_low : (log : Log) → VersionsFit log → (from at head : ℕ) (first : Option Version) (version : Version) → version.0 < 2 ^ 13 → HasComeTo log from first at → is_above first version ≡ false → (at ≡ from → head ≤ from → version.0 < version_at (log.cells from) → ⊥) → head ≤ from
+come_low : (log : Log) (from at head : ℕ) (first : Option Version) (version : Version) → version_at (log.cells from) ≤ version.0 + 1 → version.0 < 8191 → HasComeTo log from first at → is_above first version ≡ false → (at ≡ from → head ≤ from → version.0 < version_at (log.cells from) → ⊥) → head ≤ from
     → version.0 < version_at (log.cells from) → ⊥
-come_low log fit from at head None version small come e never in_memory high = never come in_memory high
-come_low log fit from at head (Some was) version small come e never in_memory high = met_low log fit from (Some was) version small come e high
+come_low log from at head None version near few come e never in_memory high = never come in_memory high
+come_low log from at head (Some was) version near few come e never in_memory high = met_low log from (Some was) version near few come e high
 
 -- a walk that has ended in memory or below it, at a try that passes its test
-none_past : (home : ℕ → ℕ) (log : Log) (t : TryState) (its : WalkAnswer) → IsOrderly home log → VersionsFit log → is_prepare t.seen.phase ≡ true → EndApart home log t.request t.seen t.walk its → (has_walked its && must_shift t) ≡ false → NoneIsLater home log t.request
-none_past home log t its orderly fit prepare apart passes update = by_end its apart passes
+none_past : (home : ℕ → ℕ) (log : Log) (t : TryState) (its : WalkAnswer) → IsOrderly home log → VersionsNear log t → is_prepare t.seen.phase ≡ true → is_next_marked t.request.version ≡ false → EndApart home log t.request t.seen t.walk its → (has_walked its && must_shift t) ≡ false → NoneIsLater home log t.request
+none_past home log t its orderly near prepare unmarked apart passes update = by_end its apart passes
   where
+    few : t.request.version.0 < 8191
+    few = le_false 8191 t.request.version.0 unmarked
+
+    from_near : version_at (log.cells (begin_of t.walk)) ≤ t.request.version.0 + 1
+    from_near = (near update).below (begin_of t.walk)
+
     tested : must_shift t ≡ false → is_above t.walk.first t.request.version ≡ false
-    tested e = passes_test (is_prepare t.seen.phase) (is_read t.request.op) (is_above t.walk.first t.request.version) prepare update e
+    tested e = passes_test (is_prepare t.seen.phase) (is_read t.request.op) (is_next_marked t.request.version) (is_above t.walk.first t.request.version) prepare update unmarked e
 
     none_at : (from : ℕ) → 0 ≡ from → head_in t.seen ≤ from → t.request.version.0 < version_at (log.cells from) → ⊥
     none_at from e in_memory high =
@@ -113,11 +123,11 @@ none_past home log t its orderly fit prepare apart passes update = by_end its ap
     below addr from low e in_memory high = omega (arith, low, e, in_memory)
 
     by_end : (end : WalkAnswer) → EndApart home log t.request t.seen t.walk end → (has_walked end && must_shift t) ≡ false → NoneAbove log (home (key_in t.request)) t.request.version.0
-    by_end (walk.Found addr version) so e = none_of_shows home log t.request t.seen (begin_of t.walk) so.0 (λ in_memory high. met_low log fit (begin_of t.walk) t.walk.first t.request.version t.request.version_fits so.1 (tested e) high)
+    by_end (walk.Found addr version) so e = none_of_shows home log t.request t.seen (begin_of t.walk) so.0 (λ in_memory high. met_low log (begin_of t.walk) t.walk.first t.request.version from_near few so.1 (tested e) high)
     by_end walk.Nowhere so e = none_of_shows home log t.request t.seen (begin_of t.walk) so.0
-        (λ in_memory high. come_low log fit (begin_of t.walk) 0 (head_in t.seen) t.walk.first t.request.version t.request.version_fits so.1 (tested e) (none_at (begin_of t.walk)) in_memory high)
+        (λ in_memory high. come_low log (begin_of t.walk) 0 (head_in t.seen) t.walk.first t.request.version from_near few so.1 (tested e) (none_at (begin_of t.walk)) in_memory high)
     by_end (walk.OnDisk addr) so e = none_of_shows home log t.request t.seen (begin_of t.walk) so.0
-        (λ in_memory high. come_low log fit (begin_of t.walk) addr.0 (head_in t.seen) t.walk.first t.request.version t.request.version_fits so.1 (tested e) (below addr.0 (begin_of t.walk) so.2) in_memory high)
+        (λ in_memory high. come_low log (begin_of t.walk) addr.0 (head_in t.seen) t.walk.first t.request.version from_near few so.1 (tested e) (below addr.0 (begin_of t.walk) so.2) in_memory high)
     by_end (walk.Value value) so e = absurd so
     by_end walk.Full so e = absurd so
     by_end walk.Contended so e = absurd so
@@ -182,6 +192,14 @@ end_apart home log p request seen w walking.Finds its row apart e = find_asks w.
 end_apart home log p request seen w (walking.Meets addr) its row apart e = load_asks log p addr w.loading its row.its_load e
 end_apart home log p request seen w (walking.HasFound addr version) its row apart e = subst (EndApart home log request seen w) (the_answer (walk.Found addr version) its e) apart
 end_apart home log p request seen w walking.LoadsValue its row apart e = absurd apart
+
+first_true : (a b : Bool) → (a && b) ≡ true → a ≡ true
+first_true true b e = refl
+first_true false b e = cc
+
+second_true : (a b : Bool) → (a && b) ≡ true → b ≡ true
+second_true true b e = e
+second_true false b e = cc
 
 module _ (home : ℕ → ℕ) (log : Log) (p : Places) where
   -- if it shares its latch none is later
@@ -288,7 +306,7 @@ module _ (home : ℕ → ℕ) (log : Log) (p : Places) where
 
   -- ---- behind the walk
   abbrev Row : TryState → Type 0
-  Row t = t.has_shared ≡ true → KnowsNone home log t ⊎ ((is_prepare t.seen.phase ≡ true) × WalkApart home log t.request t.seen t.walk t.walk.step × (t.request.has_latch ≡ false))
+  Row t = t.has_shared ≡ true → KnowsNone home log t ⊎ ((is_prepare t.seen.phase ≡ true) × WalkApart home log t.request t.seen t.walk t.walk.step × (t.request.has_latch ≡ false) × (is_next_marked t.request.version ≡ false))
 
   -- what still asks is under way
   going : (request : Request) (seen : Seen) (w : WalkState) (step : Walking) → is_done (walking_ask p w step) ≡ false → WalkApart home log request seen w step → IsUnderWay step
@@ -302,23 +320,23 @@ module _ (home : ℕ → ℕ) (log : Log) (p : Places) where
   row_on : (t : TryState) → is_done (walk_ask p t.walk) ≡ false → t.step ≡ Walks → Row t → t.has_shared ≡ true → SharesRow home log t t.step
   row_on t asks at row has = subst (SharesRow home log t) (sym at) (elim (row has) [
     | inl none ↦ inl none
-    | inr apart ↦ inr (apart.0, going t.request t.seen t.walk t.walk.step asks apart.1, apart.1, apart.2)
+    | inr apart ↦ inr (apart.0, going t.request t.seen t.walk t.walk.step asks apart.1, apart.1, apart.2, apart.3)
   ])
 
-  past_none : (t : TryState) (its : WalkAnswer) → IsOrderly home log → VersionsFit log → WalkKnows home log t.walk → walk_ask p t.walk ≡ Done its → Row t → (has_walked its && must_shift t) ≡ false → SharesNone t
-  past_none t its orderly fit knows asks row passes has = elim (row has) [
+  past_none : (t : TryState) (its : WalkAnswer) → IsOrderly home log → VersionsNear log t → WalkKnows home log t.walk → walk_ask p t.walk ≡ Done its → Row t → (has_walked its && must_shift t) ≡ false → SharesNone t
+  past_none t its orderly near knows asks row passes has = elim (row has) [
     | inl none ↦ none.0
-    | inr apart ↦ none_past home log t its orderly fit apart.0 (end_apart home log p t.request t.seen t.walk t.walk.step its knows apart.1 asks) passes
+    | inr apart ↦ none_past home log t its orderly near apart.0 apart.3 (end_apart home log p t.request t.seen t.walk t.walk.step its knows apart.1 asks) passes
   ]
 
-  led_apart : (t : TryState) (ask : Ask WalkAnswer) → IsOrderly home log → VersionsFit log → WalkKnows home log t.walk → t.step ≡ Walks → walk_ask p t.walk ≡ ask → Row t → Apart (walk_ledto p t ask)
+  led_apart : (t : TryState) (ask : Ask WalkAnswer) → IsOrderly home log → VersionsNear log t → WalkKnows home log t.walk → t.step ≡ Walks → walk_ask p t.walk ≡ ask → Row t → Apart (walk_ledto p t ask)
   unfolding walk_ledto
-  led_apart t (Done its) orderly fit knows at asks row = by_test (has_walked its && must_shift (record t { spare = t.walk.spare })) refl
+  led_apart t (Done its) orderly near knows at asks row = by_test (has_walked its && must_shift (record t { spare = t.walk.spare })) refl
     where
       by_test : (b : Bool) → (has_walked its && must_shift (record t { spare = t.walk.spare })) ≡ b → Apart (if b then ends p (record t { spare = t.walk.spare }) answer.Shift else walked p (record t { spare = t.walk.spare }) its)
       by_test true e = ends_apart (record t { spare = t.walk.spare }) answer.Shift (λ (wait : false ≡ true). cc)
-      by_test false e = walked_apart (record t { spare = t.walk.spare }) its (past_none t its orderly fit knows asks row e)
-  led_apart t ask orderly fit knows at asks row = record {
+      by_test false e = walked_apart (record t { spare = t.walk.spare }) its (past_none t its orderly near knows asks row e)
+  led_apart t ask orderly near knows at asks row = record {
     latch = subst (LatchRow t) (sym at) tt;
     shares = row_on t (ap is_done asks) at row;
     copies = subst (CopiesRow home log t) (sym at) tt;
@@ -328,10 +346,10 @@ module _ (home : ℕ → ℕ) (log : Log) (p : Places) where
   rested_step : find.LoadsSlot 0 ≡ find.AtRest → ⊥
   rested_step e = cc
 
-  walks_apart : (t : TryState) → (t.has_shared ≡ true → NoneIsLater home log t.request ⊎ ((is_prepare t.seen.phase ≡ true) × (t.request.has_latch ≡ false))) → Apart (walks p t)
+  walks_apart : (t : TryState) → (t.has_shared ≡ true → NoneIsLater home log t.request ⊎ ((is_prepare t.seen.phase ≡ true) × (t.request.has_latch ≡ false) × (is_next_marked t.request.version ≡ false))) → Apart (walks p t)
   walks_apart t row = record {
     latch = tt;
-    shares = λ has. elim (row has) [ inl none ↦ inl (none, tt) | inr prepare ↦ inr (prepare.0, tt, begins, prepare.1) ];
+    shares = λ has. elim (row has) [ inl none ↦ inl (none, tt) | inr prepare ↦ inr (prepare.0, tt, begins, prepare.1, prepare.2) ];
     copies = tt;
   }
     where
@@ -348,9 +366,25 @@ module _ (home : ℕ → ℕ) (log : Log) (p : Places) where
       begins : (w.first ≡ None) × (w.finding.step ≡ find.AtRest → ⊥) × (is_linking w.finding ≡ false)
       begins = (refl, rested_step, unlinked)
 
+  latch_apart : (t : TryState) → is_prepare t.seen.phase ≡ true → t.has_shared ≡ true → t.request.has_latch ≡ false → Apart (latch_shared p t)
+  latch_apart t prepares has_share without = by_mark (is_next_marked t.request.version) refl
+    where
+      by_mark : (b : Bool) → is_next_marked t.request.version ≡ b → Apart (if b then record t { step = LoadsPhase } else walks p t)
+      by_mark true e = record { latch = (prepares, has_share, without); shares = λ has. tt; copies = tt }
+      by_mark false e = walks_apart t (λ has. inr (prepares, without, e))
+
+  -- the phase word tells that none is later, and the share keeps it so
+  phase_apart : (t : TryState) (said : PhaseSaid) → (t.has_shared ≡ true → is_still_in said t.request.version ≡ true → NoneIsLater home log t.request) → Apart (phase_loaded p t said)
+  unfolding phase_loaded
+  phase_apart t said tells = by_word (is_still_in said t.request.version) refl
+    where
+      by_word : (b : Bool) → is_still_in said t.request.version ≡ b → Apart (if b then walks p t else ends p t answer.Shift)
+      by_word true e = walks_apart t (λ has. inl (tells has e))
+      by_word false e = ends_apart t answer.Shift (λ (wait : false ≡ true). cc)
+
   shared_apart : (t : TryState) (ask : Ask LatchAnswer) → t.step ≡ TakesShared → (is_prepare t.seen.phase ≡ true) × (t.has_shared ≡ false) × (t.request.has_latch ≡ false) → Apart (shared_ledto p t ask)
   unfolding shared_ledto
-  shared_apart t (Done latch.Taken) at takes = walks_apart (record t { has_shared = true }) (λ has. inr (takes.0, takes.2))
+  shared_apart t (Done latch.Taken) at takes = latch_apart (record t { has_shared = true }) takes.0 refl takes.2
   shared_apart t (Done its) at takes = ends_apart t answer.Shift (λ (wait : false ≡ true). cc)
   shared_apart t ask at takes = record {
     latch = subst (LatchRow t) (sym at) takes;
@@ -412,8 +446,8 @@ module _ (home : ℕ → ℕ) (log : Log) (p : Places) where
   append_apart t its ask at none copy = record { latch = subst (LatchRow t) (sym at) tt; shares = λ has. subst (SharesRow home log t) (sym at) (none has); copies = subst (CopiesRow home log t) (sym at) copy }
 
   -- ---- the safe read-only offset
-  own_there : (t : TryState) (addr : Addr) (version : Version) → VersionsFit log → StandsAt home log t.request t.seen t.walk addr version → addr.0 < log.fixed → version.0 ≡ mark t.request.version.0 → HasOwn home log t.request (begin_of t.walk)
-  own_there t addr version fit stands fixed own = record {
+  own_there : (t : TryState) (addr : Addr) (version : Version) → AreNear log t.request t.seen → t.request.version.0 < 2 ^ 13 → StandsAt home log t.request t.seen t.walk addr version → addr.0 < log.fixed → version.0 ≡ mark t.request.version.0 → HasOwn home log t.request (begin_of t.walk)
+  own_there t addr version near small stands fixed own = record {
     at = addr.0;
     found = subst (IsFoundAt home log (key_in t.request) (begin_of t.walk) addr.0) same (subst (λ (k : _). IsFoundAt home log k.0 (begin_of t.walk) addr.0 stands.knows.version) stands.its.its_key stands.knows.found);
     fixed = fixed;
@@ -423,26 +457,27 @@ module _ (home : ℕ → ℕ) (log : Log) (p : Places) where
       there = ap version_at stands.knows.found.its ∙ stands.knows.found.its_version
 
       same : stands.knows.version ≡ t.request.version.0
-      same = marks_tell stands.knows.version t.request.version.0 (subst (λ (n : ℕ). n < 2 ^ 13) there (fit addr.0)) t.request.version_fits (sym stands.knows.its_mark ∙ own)
+      same = let low = near.below addr.0 in small_told t.request.version.0 stands.knows.version t.request.some_version small (omega (arith, low, there)) (sym stands.knows.its_mark ∙ own)
 
-  safe_apart : (t : TryState) (addr : Addr) (version : Version) (safe : ℕ) → VersionsFit log → SharesNone t → StandsAt home log t.request t.seen t.walk addr version → safe ≡ log.fixed → Apart (safe_loaded p t addr version safe)
-  safe_apart t addr version safe fit none stands is_fixed = by_test (nat_le safe addr.0) refl
+  safe_apart : (t : TryState) (addr : Addr) (version : Version) (safe : ℕ) → AreNear log t.request t.seen → SharesNone t → StandsAt home log t.request t.seen t.walk addr version → safe ≡ log.fixed → Apart (safe_loaded p t addr version safe)
+  safe_apart t addr version safe near none stands is_fixed = by_test (nat_le safe addr.0) refl
     where
-      by_test : (b : Bool) → nat_le safe addr.0 ≡ b → Apart (if b then ends p t (answer.Wait reason.Fuzzy) else copies p t InMemory (is_own_version t version))
+      by_test : (b : Bool) → nat_le safe addr.0 ≡ b → Apart (if b then ends p t (answer.Wait reason.Fuzzy) else copies p t InMemory (is_surely_own t version))
       by_test true e = ends_apart t (answer.Wait reason.Fuzzy) (λ wait. none)
       by_test false e =
-          copies_apart t InMemory (is_own_version t version) none
-          (λ own. own_there t addr version fit stands (let low : addr.0 < safe = le_false safe addr.0 e in omega (arith, low, is_fixed)) (eq_true version.0 (mark t.request.version.0) own))
+          copies_apart t InMemory (is_surely_own t version) none
+          (λ own. own_there t addr version near (unmarked_small t.request.version (first_true (not (is_marked t.request.version)) (is_own_version t version) own)) stands (let low : addr.0 < safe = le_false safe addr.0 e in omega (arith, low, is_fixed)) (eq_true version.0 (mark t.request.version.0) (second_true (not (is_marked t.request.version)) (is_own_version t version) own)))
 
   -- ---- each reply
-  row_apart : (room : ℕ) (t : TryState) (step : Trying) (reply : ℕ) → IsOrderly home log → VersionsFall log.cells (log.chains (home (key_in t.request))) → VersionsFit log → TellsSharer home log p t reply → t.step ≡ step → TryRow home log t step
+  row_apart : (room : ℕ) (t : TryState) (step : Trying) (reply : ℕ) → IsOrderly home log → VersionsFall log.cells (log.chains (home (key_in t.request))) → VersionsNear log t → TellsSharer home log p t reply → TellsPhase home log t reply → t.step ≡ step → TryRow home log t step
       → IsTrueReply home log p t step reply → LatchRow t step → (t.has_shared ≡ true → SharesRow home log t step) → CopiesRow home log t step → Apart (trying_next p room (record t { effect = None }) step reply)
   unfolding trying_next
-  row_apart room t (Ended its) reply orderly falls fit tells at row says takes shares copies =
+  row_apart room t (Ended its) reply orderly falls near tells word at row says takes shares copies =
       record { latch = subst (LatchRow (record t { effect = None })) (sym at) tt; shares = λ has. subst (SharesRow home log (record t { effect = None })) (sym at) (shares has); copies = subst (CopiesRow home log (record t { effect = None })) (sym at) tt }
-  row_apart room t TakesShared reply orderly falls fit tells at row says takes shares copies = shared_apart (record t { effect = None; latching = latch_next t.latching reply }) (latch_next_ask t.latching reply) at takes
-  row_apart room t Walks reply orderly falls fit tells at row says takes shares copies =
-      led_apart (record t { effect = None; walk = walk_next p t.walk reply }) (walk_ask p (walk_next p t.walk reply)) orderly fit (walk_leads home log p t.walk reply orderly.chains row.1 says) at refl walk_row
+  row_apart room t TakesShared reply orderly falls near tells word at row says takes shares copies = shared_apart (record t { effect = None; latching = latch_next t.latching reply }) (latch_next_ask t.latching reply) at takes
+  row_apart room t LoadsPhase reply orderly falls near tells word at row says takes shares copies = phase_apart (record t { effect = None }) (phase_said reply) (word at)
+  row_apart room t Walks reply orderly falls near tells word at row says takes shares copies =
+      led_apart (record t { effect = None; walk = walk_next p t.walk reply }) (walk_ask p (walk_next p t.walk reply)) orderly near (walk_leads home log p t.walk reply orderly.chains row.1 says) at refl walk_row
     where
       walk_row : Row (record t { effect = None; walk = walk_next p t.walk reply })
       walk_row has = elim (shares has) [
@@ -451,30 +486,30 @@ module _ (home : ℕ → ℕ) (log : Log) (p : Places) where
             let its = tells at has apart.0 in
             elim (walk_apart home log t.request t.seen p orderly its.above its.in_ring falls t.walk reply row.0 row.1 says its.search apart.2) [
               | inl none ↦ inl none
-              | inr on ↦ inr (apart.0, on, apart.3)
+              | inr on ↦ inr (apart.0, on, apart.3, apart.4)
             ]
       ]
-  row_apart room t (LoadsSafe addr version) reply orderly falls fit tells at row says takes shares copies = safe_apart (record t { effect = None }) addr version reply fit shares row.1 says
-  row_apart room t (SwapsValue addr) reply orderly falls fit tells at row says takes shares copies = effect_apart (record t { effect = None }) (reply_from None t.request.op)
-  row_apart room t (LoadsCurrent addr) reply orderly falls fit tells at row says takes shares copies = current_apart (record t { effect = None; walk = walk_next p t.walk reply }) addr (walk_ask p (walk_next p t.walk reply)) at shares
-  row_apart room t (ChangesValue addr old) reply orderly falls fit tells at row says takes shares copies = changed_apart (record t { effect = None }) old reply shares
-  row_apart room t LoadsAnswer reply orderly falls fit tells at row says takes shares copies = answer_apart (record t { effect = None; walk = walk_next p t.walk reply }) (walk_ask p (walk_next p t.walk reply)) at shares
-  row_apart room t (TakesExclusive old) reply orderly falls fit tells at row says takes shares copies = exclusive_apart (record t { effect = None; latching = latch_next t.latching reply }) old (latch_next_ask t.latching reply) at shares
-  row_apart room t LoadsOld reply orderly falls fit tells at row says takes shares copies =
+  row_apart room t (LoadsSafe addr version) reply orderly falls near tells word at row says takes shares copies = safe_apart (record t { effect = None }) addr version reply (near row.0) shares row.1 says
+  row_apart room t (SwapsValue addr) reply orderly falls near tells word at row says takes shares copies = effect_apart (record t { effect = None }) (reply_from None t.request.op)
+  row_apart room t (LoadsCurrent addr) reply orderly falls near tells word at row says takes shares copies = current_apart (record t { effect = None; walk = walk_next p t.walk reply }) addr (walk_ask p (walk_next p t.walk reply)) at shares
+  row_apart room t (ChangesValue addr old) reply orderly falls near tells word at row says takes shares copies = changed_apart (record t { effect = None }) old reply shares
+  row_apart room t LoadsAnswer reply orderly falls near tells word at row says takes shares copies = answer_apart (record t { effect = None; walk = walk_next p t.walk reply }) (walk_ask p (walk_next p t.walk reply)) at shares
+  row_apart room t (TakesExclusive old) reply orderly falls near tells word at row says takes shares copies = exclusive_apart (record t { effect = None; latching = latch_next t.latching reply }) old (latch_next_ask t.latching reply) at shares
+  row_apart room t LoadsOld reply orderly falls near tells word at row says takes shares copies =
       old_apart (record t { effect = None; walk = walk_next p t.walk reply }) (walk_ask p (walk_next p t.walk reply)) at shares
       (λ moves. subst (λ (e : ℕ). (t.has_exclusive ≡ true) ⊎ HasOwn home log t.request (entry_addr e)) (sym (loads_same p t.walk row.1.addr reply row.1.its.loads)) (copies moves))
-  row_apart room t (Appends its) reply orderly falls fit tells at row says takes shares copies = append_apart (record t { effect = None; append = append_next p room t.append reply }) its (append_ask p (append_next p room t.append reply)) at shares copies
-  row_apart room t (DropsExclusive its) reply orderly falls fit tells at row says takes shares copies = dropped_apart (record t { effect = None; latching = latch_next t.latching reply }) its t.latching reply takes (λ wait has. shares has wait)
-  row_apart room t (DropsShared its) reply orderly falls fit tells at row says takes shares copies = unshared_apart (record t { effect = None; latching = latch_next t.latching reply }) its (latch_next_ask t.latching reply) at shares
+  row_apart room t (Appends its) reply orderly falls near tells word at row says takes shares copies = append_apart (record t { effect = None; append = append_next p room t.append reply }) its (append_ask p (append_next p room t.append reply)) at shares copies
+  row_apart room t (DropsExclusive its) reply orderly falls near tells word at row says takes shares copies = dropped_apart (record t { effect = None; latching = latch_next t.latching reply }) its t.latching reply takes (λ wait has. shares has wait)
+  row_apart room t (DropsShared its) reply orderly falls near tells word at row says takes shares copies = unshared_apart (record t { effect = None; latching = latch_next t.latching reply }) its (latch_next_ask t.latching reply) at shares
 
-pub try_apart : (home : ℕ → ℕ) (log : Log) (p : Places) (room : ℕ) (t : TryState) (reply : ℕ) → IsOrderly home log → VersionsFall log.cells (log.chains (home (key_in t.request))) → VersionsFit log → TellsSharer home log p t reply
+pub try_apart : (home : ℕ → ℕ) (log : Log) (p : Places) (room : ℕ) (t : TryState) (reply : ℕ) → IsOrderly home log → VersionsFall log.cells (log.chains (home (key_in t.request))) → VersionsNear log t → TellsSharer home log p t reply → TellsPhase home log t reply
     → TryKnows home log t → IsTrueReply home log p t t.step reply → TryApart home log t → TryApart home log (try_next p room t reply)
-try_apart home log p room t reply orderly falls fit tells knows says apart = row_apart home log p room t t.step reply orderly falls fit tells refl knows.row says apart.latch apart.shares apart.copies
+try_apart home log p room t reply orderly falls near tells word knows says apart = row_apart home log p room t t.step reply orderly falls near tells word refl knows.row says apart.latch apart.shares apart.copies
 
 -- so one that shares its latch leads on past its walk
-pub sharers_pass : (home : ℕ → ℕ) (log : Log) (p : Places) (t : TryState) (reply : ℕ) → IsOrderly home log → VersionsFall log.cells (log.chains (home (key_in t.request))) → VersionsFit log → TellsSharer home log p t reply
+pub sharers_pass : (home : ℕ → ℕ) (log : Log) (p : Places) (t : TryState) (reply : ℕ) → IsOrderly home log → VersionsFall log.cells (log.chains (home (key_in t.request))) → VersionsNear log t → TellsSharer home log p t reply
     → TryKnows home log t → IsTrueReply home log p t t.step reply → TryApart home log t → t.has_shared ≡ true → NoneLaterPast home log p t reply
-sharers_pass home log p t reply orderly falls fit tells knows says apart has at addr version ends passes =
+sharers_pass home log p t reply orderly falls near tells knows says apart has at addr version ends passes =
     let row : TryRow home log t Walks = subst (TryRow home log t) at knows.row in
     let told : IsTrueReply home log p t Walks reply = subst (λ (s : Trying). IsTrueReply home log p t s reply) at says in
     let shares : SharesRow home log t Walks = subst (SharesRow home log t) at (apart.shares has) in
@@ -485,26 +520,28 @@ sharers_pass home log p t reply orderly falls fit tells knows says apart has at 
           elim (walk_apart home log t.request t.seen p orderly its.above its.in_ring falls t.walk reply row.0 row.1 told its.search walks.2) [
             | inl none ↦ none.0
             | inr on ↦
-                none_past home log (record t { walk = walk_next p t.walk reply }) (walk.Found addr version) orderly fit walks.0
+                none_past home log (record t { walk = walk_next p t.walk reply }) (walk.Found addr version) orderly near walks.0 walks.4
                 (end_apart home log p t.request t.seen (walk_next p t.walk reply) (walk_next p t.walk reply).step (walk.Found addr version) (walk_leads home log p t.walk reply orderly.chains row.1 told) on ends) passes
           ]
     ]
 
 -- ---- a record that is met in memory
 -- is of the version whose mark its header has
-pub marks_told : (home : ℕ → ℕ) (log : Log) (p : Places) (t : TryState) (reply : ℕ) → IsOrderly home log → VersionsFit log → TryKnows home log t → IsTrueReply home log p t t.step reply → MarksTell log p t reply
-marks_told home log p t reply orderly fit knows says at addr said ends mutable own =
+pub marks_told : (home : ℕ → ℕ) (log : Log) (p : Places) (t : TryState) (reply : ℕ) → IsOrderly home log → VersionsNear log t → TryKnows home log t → IsTrueReply home log p t t.step reply → MarksTell log p t reply
+marks_told home log p t reply orderly near knows says at addr said ends update mutable own =
     let row : TryRow home log t Walks = subst (TryRow home log t) at knows.row in
     let told : IsTrueReply home log p t Walks reply = subst (λ (s : Trying). IsTrueReply home log p t s reply) at says in
     let found = (walk_tells home log p (walk_next p t.walk reply) (walk.Found addr said) (walk_leads home log p t.walk reply orderly.chains row.1 told) ends).1 in
     let there : version_at (log.cells addr.0) ≡ found.version = ap version_at found.found.its ∙ found.found.its_version in
-    there ∙ marks_tell found.version t.request.version.0 (subst (λ (n : ℕ). n < 2 ^ 13) there (fit addr.0)) t.request.version_fits (sym found.its_mark ∙ own)
+    let low = (near update).below addr.0 in
+    let high = (near update).above addr.0 found.found.cell mutable found.found.its in
+    there ∙ near_told t.request.version.0 found.version t.request.some_version (omega (arith, low, there)) (let is = found.found.its_version in omega (arith, high, is)) (sym found.its_mark ∙ own)
 
 -- ---- one whose request came with its share
 -- has met nothing that is later, so it doesn't shift
-pub came_stays : (home : ℕ → ℕ) (log : Log) (p : Places) (t : TryState) (reply : ℕ) → VersionsFit log → TryKnows home log t → TryApart home log t → t.step ≡ Walks → t.has_shared ≡ true → t.request.has_latch ≡ true
+pub came_stays : (home : ℕ → ℕ) (log : Log) (p : Places) (t : TryState) (reply : ℕ) → TryKnows home log t → TryApart home log t → t.step ≡ Walks → t.has_shared ≡ true → t.request.has_latch ≡ true
     → must_shift (record t { walk = walk_next p t.walk reply }) ≡ false
-came_stays home log p t reply fit knows apart at has came =
+came_stays home log p t reply knows apart at has came =
     let row : TryRow home log t Walks = subst (TryRow home log t) at knows.row in
     let shares : SharesRow home log t Walks = subst (SharesRow home log t) at (apart.shares has) in
     elim shares [
@@ -512,24 +549,26 @@ came_stays home log p t reply fit knows apart at has came =
       | inr walks ↦ not_both t.request.has_latch came walks.3
     ]
   where
-    both_false : (a b c : Bool) → (b ≡ false → c ≡ false) → (a && not b && c) ≡ false
-    both_false true false true so = let clash = so refl in cc
-    both_false true false false so = refl
-    both_false true true c so = refl
-    both_false false b c so = refl
+    both_false : (a b m c : Bool) → (b ≡ false → m ≡ false → c ≡ false) → (a && not b && not m && c) ≡ false
+    both_false true false false true so = let clash = so refl refl in cc
+    both_false true false false false so = refl
+    both_false true false true c so = refl
+    both_false true true m c so = refl
+    both_false false b m c so = refl
 
-    low : NoneIsLater home log t.request → is_read t.request.op ≡ false → (found : Option Version) → MetIn log (log.chains (home (key_in t.request))) found → is_above found t.request.version ≡ false
-    low none update None met = refl
-    low none update (Some its) met =
+    low : NoneIsLater home log t.request → is_read t.request.op ≡ false → t.request.version.0 < 8191 → (found : Option Version) → MetIn log (log.chains (home (key_in t.request))) found → is_above found t.request.version ≡ false
+    low none update few None met = refl
+    low none update few (Some its) met =
         let high = none update met.at met.is_in in
         let is : version_at (log.cells met.at) ≡ met.met.cell.version = ap version_at met.met.its in
-        let same = met.met.its_mark ∙ mark_small met.met.cell.version (subst (λ (n : ℕ). n < 2 ^ 13) is (fit met.at)) in
-        let own = mark_small t.request.version.0 t.request.version_fits in
-        let under : its.0 ≤ mark t.request.version.0 = omega (arith, high, is, same, own) in
+        let same = met.met.its_mark in
+        let lower = mark_low met.met.cell.version in
+        let own = mark_small t.request.version.0 (omega (arith, few)) in
+        let under : its.0 ≤ mark t.request.version.0 = omega (arith, high, is, same, lower, own) in
         grind (arith, nat_tests, under)
 
     by_read : NoneIsLater home log t.request → MetIn log (log.chains (home (key_in t.request))) (walk_next p t.walk reply).first → must_shift (record t { walk = walk_next p t.walk reply }) ≡ false
-    by_read none met = both_false (is_prepare t.seen.phase) (is_read t.request.op) (is_above (walk_next p t.walk reply).first t.request.version) (λ update. low none update (walk_next p t.walk reply).first met)
+    by_read none met = both_false (is_prepare t.seen.phase) (is_read t.request.op) (is_next_marked t.request.version) (is_above (walk_next p t.walk reply).first t.request.version) (λ update unmarked. low none update (le_false 8191 t.request.version.0 unmarked) (walk_next p t.walk reply).first met)
 
 -- ---- where a try has come to its end
 -- one that has, and shares its latch, has none later
@@ -548,6 +587,7 @@ none_at_end home log p t its knows apart asks has = by_step t.step asks knows.ro
 
     by_step : (step : Trying) → trying_ask p t step ≡ Done its → TryRow home log t step → LatchRow t step → SharesRow home log t step → NoneIsLater home log t.request
     by_step TakesShared e row takes shares = not_both t.has_shared has takes.1
+    by_step LoadsPhase e row takes shares = cc
     by_step Walks e row takes shares = elim shares [ inl none ↦ none.0 | inr walks ↦ by_walk t.walk.step row.1 walks.1 walks.2 e ]
     by_step (DropsExclusive told) e row takes shares = by_latch t.latching told takes e
     by_step (Ended told) e row takes shares = shares

@@ -1,5 +1,5 @@
 -- What updates know of the versions at their homes, by control state: those that share a latch, and those that make a new record.
-use Rattle.std.specs.Prelude.{◌≡◌, ◌⊎◌, ◌+◌, ◌^◌, ◌<◌, ◌≤◌, ◌||◌, ⊤, ℕ, Bool, true, false, List, Option, Some, None}
+use Rattle.std.specs.Prelude.{◌≡◌, ◌⊎◌, ◌+◌, ◌<◌, ◌≤◌, ◌||◌, ⊤, ℕ, Bool, true, false, List, Option, Some, None}
 use Rattle.fkv_base.specs.declared.numbers.Version.{Version}
 use Rattle.fkv_marks.specs.Marks.{mark}
 use Rattle.fkv_plane.specs.declared.asks.Ask.TheVariants.{Done}
@@ -17,6 +17,7 @@ use Rattle.fkv_index.specs.declared.finding.Linking.{Linking}
 use Rattle.fkv_index.specs.declared.finding.Linking.TheVariants.{Made}
 use Rattle.fkv_index.specs.Finding.{find_next_ask}
 use Rattle.fkv_index.specs.Slots.{link_of}
+use Rattle.fkv_words.specs.PhaseWords.{phase_said}
 use Rattle.law_log.specs.Chains.{Cell, Published, head_of, version_at}
 use Rattle.law_log.specs.Ghosts.{Log}
 use Rattle.law_log.specs.Enabled.{IsFixed}
@@ -24,12 +25,12 @@ use Rattle.law_log.specs.Trace.{IsIn}
 use Rattle.law_local.specs.Below.fkv_ops.Request.{Request}
 use Rattle.law_local.specs.Below.fkv_ops.Seen.{Seen}
 use Rattle.law_local.specs.Below.fkv_ops.TheTrying.{Trying}
-use Rattle.law_local.specs.Below.fkv_ops.TheTrying.TheVariants.{Appends, DropsExclusive, LoadsOld, TakesShared, Walks}
+use Rattle.law_local.specs.Below.fkv_ops.TheTrying.TheVariants.{Appends, DropsExclusive, LoadsOld, LoadsPhase, TakesShared, Walks}
 use Rattle.law_local.specs.Below.fkv_ops.WalkAnswer.{WalkAnswer}
 use Rattle.law_local.specs.Below.fkv_ops.WalkAnswer.TheVariants as walked
 use Rattle.law_local.specs.Below.fkv_ops.TheWalking.{Walking}
 use Rattle.law_local.specs.Below.fkv_ops.TheWalking.TheVariants.{Ended, Finds, HasFound, Meets}
-use Rattle.law_local.specs.Below.fkv_ops.Trying.{TryState, is_moving_on, is_prepare, is_wait, try_ask}
+use Rattle.law_local.specs.Below.fkv_ops.Trying.{TryState, is_next_marked, is_still_in, is_moving_on, is_prepare, is_wait, try_ask}
 use Rattle.law_local.specs.Below.fkv_ops.Walking.{WalkState}
 use Rattle.law_local.specs.Below.fkv_pending.TheAttempting.{Attempting}
 use Rattle.law_local.specs.Below.fkv_pending.TheAttempting.TheVariants.{Tries}
@@ -38,7 +39,7 @@ use Rattle.law_local.specs.Below.fkv_pending.Attempting.{AttemptState}
 use Rattle.law_local.specs.Below.fkv_session.Sessions.{SessionState}
 use Rattle.law_local.specs.Sessions.Known.{KnowsRequests}
 use Rattle.law_local.specs.Tries.OnWay.{IsFoundAt}
-use Rattle.law_local.specs.Tries.TryRows.{NoneIsLater, head_in, key_in}
+use Rattle.law_local.specs.Tries.TryRows.{IsUpdate, NoneIsLater, head_in, key_in}
 use Rattle.law_local.specs.Tries.WalkRows.{begin_of}
 
 -- ---- a later version at a request's home
@@ -126,10 +127,12 @@ abbrev pub KnowsNone : (ℕ → ℕ) → Log → TryState → Type 0
 KnowsNone home log t = NoneIsLater home log t.request × MetIn log (log.chains (home (key_in t.request))) t.walk.first
 
 -- Of one that shares its latch: no record of its home is of a later version than its request, from where its walk has ended. One whose request came with
--- its share knows it from the start. One that searches in prepare, and has to link, knows it because its home was empty.
+-- its share knows it from the start. One that searches in prepare, and has to link, knows it because its home was empty. One that loads the phase word is
+-- told it by that, and any other goes by the mark of the first record.
 abbrev pub SharesRow : (ℕ → ℕ) → Log → TryState → Trying → Type 0
 SharesRow home log t TakesShared = ⊤
-SharesRow home log t Walks = KnowsNone home log t ⊎ ((is_prepare t.seen.phase ≡ true) × IsUnderWay t.walk.step × WalkApart home log t.request t.seen t.walk t.walk.step × (t.request.has_latch ≡ false))
+SharesRow home log t LoadsPhase = ⊤
+SharesRow home log t Walks = KnowsNone home log t ⊎ ((is_prepare t.seen.phase ≡ true) × IsUnderWay t.walk.step × WalkApart home log t.request t.seen t.walk t.walk.step × (t.request.has_latch ≡ false) × (is_next_marked t.request.version ≡ false))
 SharesRow home log t (DropsExclusive its) = is_wait its ≡ true → NoneIsLater home log t.request
 SharesRow home log t step = NoneIsLater home log t.request
 
@@ -159,6 +162,7 @@ IsDropping step = ⊥
 
 abbrev pub LatchRow : TryState → Trying → Type 0
 LatchRow t TakesShared = (is_prepare t.seen.phase ≡ true) × (t.has_shared ≡ false) × (t.request.has_latch ≡ false)
+LatchRow t LoadsPhase = (is_prepare t.seen.phase ≡ true) × (t.has_shared ≡ true) × (t.request.has_latch ≡ false)
 LatchRow t (DropsExclusive its) = IsDropping t.latching
 LatchRow t step = ⊤
 
@@ -187,9 +191,15 @@ shares_now a Tries = a.trial.has_shared
 shares_now a step = a.pending.request.has_latch
 
 -- ---- what is given
--- The version of each record takes 13 bits, so that it is told by its mark.
-abbrev pub VersionsFit : Log → Type 0
-VersionsFit log = (a : ℕ) → version_at (log.cells a) < 2 ^ 13
+-- Headers have marks alone. Beside an update no record is of a version past the next one. From the read-only offset on that its session has seen none is more than
+-- one version older.
+pub record AreNear (log : Log) (request : Request) (seen : Seen) : Type 0 where
+  pub below : (a : ℕ) → version_at (log.cells a) ≤ request.version.0 + 1
+  pub above : (a : ℕ) (cell : Cell) → seen.offsets.read_only.0 ≤ a → log.cells a ≡ Published cell → request.version.0 ≤ cell.version + 1
+
+-- so it is beside the update of a try
+abbrev pub VersionsNear : Log → TryState → Type 0
+VersionsNear log t = IsUpdate t.request → AreNear log t.request t.seen
 
 -- What a search is told. It is lost only if it links. At the load of an eighth word that leads nowhere its home is empty.
 pub record SearchTells (log : Log) (h : ℕ) (p : Places) (f : Finding) (reply : ℕ) : Type 0 where
@@ -206,6 +216,10 @@ pub record TellsApart (home : ℕ → ℕ) (log : Log) (p : Places) (t : TryStat
 -- so it is of one that walks and shares its latch
 abbrev pub TellsSharer : (ℕ → ℕ) → Log → Places → TryState → ℕ → Type 0
 TellsSharer home log p t reply = t.step ≡ Walks → t.has_shared ≡ true → is_prepare t.seen.phase ≡ true → TellsApart home log p t reply
+
+-- A try that has its share, and loads the phase word: if that says prepare of its version still, no record of its home is of a later one.
+abbrev pub TellsPhase : (ℕ → ℕ) → Log → TryState → ℕ → Type 0
+TellsPhase home log t reply = t.step ≡ LoadsPhase → t.has_shared ≡ true → is_still_in (phase_said reply) t.request.version ≡ true → NoneIsLater home log t.request
 
 -- ---- what others leave
 -- a chain that has no record of a later version than this gets none

@@ -33,7 +33,9 @@ use Rattle.fkv_commit.specs.declared.starting.StartAnswer.{StartAnswer}
 use Rattle.fkv_commit.specs.declared.starting.StartAnswer.TheVariants as start
 use Rattle.fkv_commit.specs.declared.waiting.WaitAnswer.{WaitAnswer}
 use Rattle.fkv_commit.specs.declared.waiting.WaitAnswer.TheVariants as wait
-use Rattle.fkv_commit.proofs.Shown.{enters_end, seeks_end}
+use Rattle.fkv_base.specs.declared.classes.StoreClass.{StoreClass}
+use Rattle.fkv_commit.specs.declared.starting.StartAsked.{StartAsked}
+use Rattle.fkv_commit.proofs.Shown.{enters_end, seeks_end, start_asked}
 use Rattle.fkv_commit.specs.Deferring.{defer_ask}
 use Rattle.fkv_commit.specs.Entering.{EnterState, enter_ask, enter_begun, enter_next, entering_ask}
 use Rattle.fkv_commit.specs.Exchanges.{AreIdle, Exchange, WasEpochLast, exchange, exchanged, exchanges, run_of}
@@ -54,7 +56,7 @@ use Rattle.fkv_keeper.specs.declared.answers.KeeperTold.TheVariants.{CommitRefus
 use Rattle.fkv_keeper.specs.declared.keepers.Keeping.{Keeping}
 use Rattle.fkv_keeper.specs.declared.keepers.Keeping.TheVariants.{Copies, Ended, Enters, Finishes, LoadsPhase, Maintains, Seeks, Starts, Waits, Writes}
 use Rattle.fkv_keeper.specs.DrainLaws.{call_told, told_after, told_anew}
-use Rattle.fkv_keeper.specs.Keeping.{KeeperState, commit_asked, copies, copies_next, copy_driven, copy_ledto, device_passed, ended, enter_ledto, finish_ledto, finished, keeping_ask, keeping_called, keeping_given, keeping_next, maintain_ledto, part_begun, phase_ledto, seek_ledto, start_ledto, turn_asked, turn_over, turned, wait_ledto, write_ledto, writes_begun, writes_called, is_copy_resting, copy_taken, copy_told}
+use Rattle.fkv_keeper.specs.Keeping.{asked_for, KeeperState, commit_asked, copies, copies_next, copy_driven, copy_ledto, device_passed, ended, enter_ledto, finish_ledto, finished, keeping_ask, keeping_called, keeping_given, keeping_next, maintain_ledto, part_begun, phase_ledto, seek_ledto, start_ledto, turn_asked, turn_over, turned, wait_ledto, write_ledto, writes_begun, writes_called, is_copy_resting, copy_taken, copy_told}
 use Rattle.fkv_keeper.specs.KeeperRun.{BeginsCommit, BeginsTurn, Calls, Gets, IsOpened, KeeperEvent, Replies, begins, is_calling, is_in_hand, keeper_happens, keeper_run}
 use Rattle.law_causes.specs.Causes.{HasCommitCause, HasFailed, HasTurnCause, IsFailure, IsMemoryRefusal, IsShown, kind_after, kind_asked}
 use Rattle.law_causes.proofs.OfCauses.Asking.{among_first, passed_alone, passed_told, told_behind}
@@ -144,7 +146,7 @@ seek_last s told knows e =
 
 -- ---- while a call is in hand
 abbrev pub During : Option CommitKind → KeeperState → Keeping → List Exchange → Type 0
-During asked s Starts told = StartKnows asked (length s.lost) s.start told
+During asked s Starts told = StartKnows asked (asked_for s) s.start told
 During asked s Maintains told = IsUnderWay s.maintain.step
 During asked s Enters told = EnterKnows s.enter told
 During asked s Seeks told = SeekKnows s.seek told
@@ -152,13 +154,13 @@ During asked s step told = ⊤
 
 -- ---- how it ends: by causes of a commit's refusals and of a turn's
 module _ (before : List KeeperEvent) (was : KeeperState) (event : KeeperEvent) (asked : Option CommitKind) (told : List Exchange) where
-  abbrev EndsBy : ℕ → KeeperTold → Type 0
-  EndsBy lost (CommitRefused why) = HasCommitCause before asked lost told why
-  EndsBy lost (TurnRefused why) = HasTurnCause before was event told why
-  EndsBy lost its = ⊤
+  abbrev EndsBy : KeeperState → KeeperTold → Type 0
+  EndsBy s (CommitRefused why) = HasCommitCause before asked s told why
+  EndsBy s (TurnRefused why) = HasTurnCause before was event told why
+  EndsBy s its = ⊤
 
   abbrev pub Comes : KeeperState → Keeping → Type 0
-  Comes s (Ended its) = EndsBy (length s.lost) its
+  Comes s (Ended its) = EndsBy s its
   Comes s step = During asked s step told
 
   -- and if it is broken now, a call of the device has failed
@@ -176,15 +178,15 @@ module _ (before : List KeeperEvent) (was : KeeperState) (event : KeeperEvent) (
   either true x y one other = one
   either false x y one other = other
 
-  shown : (lost : ℕ) (why : Fault) → IsShown asked lost why told → HasCommitCause before asked lost told why
-  shown lost fault.Broken is = absurd is.shown
-  shown lost why is = is
+  shown : (s : KeeperState) (why : Fault) → IsShown asked (asked_for s) why told → HasCommitCause before asked s told why
+  shown s fault.Broken is = absurd is.shown
+  shown s why is = is
 
-  start_led : (t : KeeperState) (ask : Ask StartAnswer) → t.step ≡ Starts → start_ask t.start ≡ ask → Works t → StartKnows asked (length t.lost) t.start told → Outcome (start_ledto t ask)
+  start_led : (t : KeeperState) (ask : Ask StartAnswer) → t.step ≡ Starts → start_ask t.start ≡ ask → Works t → StartKnows asked (asked_for t) t.start told → Outcome (start_ledto t ask)
   unfolding start_ledto
   start_led t (Done (start.Begun number first)) e asks works knows = record { broken = works; comes = tt }
-  start_led t (Done (start.Refused why)) e asks works knows = record { broken = works; comes = shown (length t.lost) why (start_refused asked (length t.lost) t.start told why knows asks) }
-  start_led t (Done start.Idle) e asks works knows = absurd (start_not_idle asked (length t.lost) t.start told knows asks)
+  start_led t (Done (start.Refused why)) e asks works knows = record { broken = works; comes = shown t why (start_refused asked (asked_for t) t.start told why knows asks) }
+  start_led t (Done start.Idle) e asks works knows = absurd (start_not_idle asked (asked_for t) t.start told knows asks)
   start_led t ask e asks works knows = at t Starts e works knows
 
   maintain_led : (shape : Shape) (p : Places) (t : KeeperState) (ask : Ask MaintainAnswer) → t.step ≡ Maintains → maintain_ask shape p t.maintain ≡ ask → Works t
@@ -306,7 +308,9 @@ module _ (shape : Shape) (p : Places) (before : List KeeperEvent) (asked : Optio
   reply_at s Starts reply granted told e in_hand works knows =
       let t : KeeperState = record s { start = start_next s.start reply } in
       subst (λ (x : List Exchange). Outcome before s (Replies reply granted) asked x (start_ledto t (start_ask t.start))) (sym (passed_told (start_ask s.start) (CommitRefused fault.CommitRunning) reply told))
-      (start_led before s (Replies reply granted) asked (exchanged (start_ask s.start) reply told) t (start_ask t.start) e refl (sooner (Replies reply granted) s works) (start_replied asked (length s.lost) s.start told reply knows))
+      (start_led before s (Replies reply granted) asked (exchanged (start_ask s.start) reply told) t (start_ask t.start) e refl (sooner (Replies reply granted) s works)
+      (subst (λ (class : StoreClass). StartKnows asked (λ kind. record { class = class; kind = kind; lost = length s.lost; checkpoint = s.last.checkpoint.number }) t.start (exchanged (start_ask s.start) reply told)) (ap (λ (x : StartAsked). x.class) (sym (start_asked s.start reply)))
+      (start_replied asked (asked_for s) s.start told reply knows)))
   reply_at s Maintains reply granted told e in_hand works knows =
       let t : KeeperState = record s { maintain = maintain_next shape p s.maintain reply } in
       subst (λ (x : List Exchange). Outcome before s (Replies reply granted) asked x (maintain_ledto t (maintain_ask shape p t.maintain))) (sym (device_told (maintain_ask shape p s.maintain) (turn_over s) reply told))
@@ -394,9 +398,9 @@ told_so shape p s (Calls done bytes) told = refl
 
 module _ (shape : Shape) (p : Places) (before : List KeeperEvent) where
   commit_begun : (s : KeeperState) (kind : CommitKind) (b : Bool) → s.is_broken ≡ b → Broken shape p before (Some kind) s
-      → Outcome before s (BeginsCommit kind) (Some kind) [] (if b then ended s (CommitRefused fault.Broken) else record s { start = start_begun s.start kind (length s.lost); step = Starts })
+      → Outcome before s (BeginsCommit kind) (Some kind) [] (if b then ended s (CommitRefused fault.Broken) else record s { start = start_begun s.start (asked_for s kind); step = Starts })
   commit_begun s kind true e works = record { broken = sooner shape p before (Some kind) (BeginsCommit kind) s works; comes = works e }
-  commit_begun s kind false e works = record { broken = sooner shape p before (Some kind) (BeginsCommit kind) s works; comes = start_begins s.start kind (length s.lost) }
+  commit_begun s kind false e works = record { broken = sooner shape p before (Some kind) (BeginsCommit kind) s works; comes = start_begins s.start kind (asked_for s) }
 
   turn_begun : (s : KeeperState) (asked : Option CommitKind) (b : Bool) → s.is_broken ≡ b → Broken shape p before asked s
       → Outcome before s BeginsTurn asked [] (if b then ended s (TurnRefused fault.Broken) else record s { maintain = maintain_begun s.maintain; is_drain_full = false; step = Maintains })

@@ -1,7 +1,6 @@
 -- How a start goes on that has begun, over the replies that it was given.
 use Rattle.std.proofs.Common.{◌≡◌, ℕ, refl, ap, sym, subst, ◌∙◌, List, Bool, true, false}
 use Rattle.std.specs.Prelude.{⊤, [], ◌∷◌, Option, Some, nat_le, if◌then◌else◌}
-use Rattle.fkv_base.specs.Limits.{last_version}
 use Rattle.fkv_base.specs.declared.commits.CommitKind.{CommitKind}
 use Rattle.fkv_base.specs.declared.faults.Fault.{Fault}
 use Rattle.fkv_base.specs.declared.numbers.Addr.{Addr}
@@ -18,12 +17,14 @@ use Rattle.fkv_commit.specs.declared.deferring.DeferAnswer.{DeferAnswer}
 use Rattle.fkv_commit.specs.declared.deferring.Deferred.TheVariants.{EntersPhase}
 use Rattle.fkv_commit.specs.declared.starting.StartAnswer.{StartAnswer}
 use Rattle.fkv_commit.specs.declared.starting.StartAnswer.TheVariants as answer
+use Rattle.fkv_commit.specs.declared.starting.StartAsked.{StartAsked}
 use Rattle.fkv_commit.specs.declared.starting.Starting.{Starting}
 use Rattle.fkv_commit.specs.declared.starting.Starting.TheVariants as starts
 use Rattle.fkv_commit.specs.Commits.{version_after}
 use Rattle.fkv_commit.specs.Deferring.{defer_ask, defer_next}
 use Rattle.fkv_commit.specs.Exchanges.{AreIdle, Exchange, exchanged, exchanges, run_of}
 use Rattle.fkv_commit.specs.Phases.{IsRefusalTrue, IsStartEnd, start_told, started}
+use Rattle.fkv_base.specs.Limits.{last_of}
 use Rattle.fkv_commit.specs.Starting.{StartState, defer_led, is_lost_full, phase_found, seek_led, start_ask, start_begun, start_next, starting_ask, starting_next}
 use Rattle.law_causes.specs.Causes.{IsShown}
 use Rattle.law_causes.proofs.OfCauses.Asking.{not_done, passed_on}
@@ -48,7 +49,7 @@ one_of true x y one other = one
 one_of false x y one other = other
 
 found : (s : StartState) (said : PhaseSaid) → IsOnNow (phase_found s said)
-found s (Says phase.Rest number) = one_of (nat_le last_version number.0) _ _ tt (one_of (is_lost_full s.kind s.lost) _ _ tt (begins s.defer))
+found s (Says phase.Rest number) = one_of (nat_le (last_of s.asked.class) number.0) _ _ tt (one_of (is_lost_full s.asked number.0) _ _ tt (begins s.defer))
 found s said = tt
 
 seek_still : (number : Version) (s : StartState) (ask : Ask DeferAnswer) → is_done ask ≡ false → seek_led number s ask ≡ s
@@ -96,40 +97,40 @@ ends_at s (starts.LoadsTail number) its is e = cc
 ends_at s (starts.Defers number first) its is e = absurd (not_done (passed (defer_ask s.defer) answer.Idle) its (passed_on (defer_ask s.defer) answer.Idle (defers_asks s.defer is)) e)
 
 -- ---- a start that was asked for, over the replies so far
-pub record StartKnows (asked : Option CommitKind) (lost : ℕ) (s : StartState) (told : List Exchange) : Type 0 where
+pub record StartKnows (asked : Option CommitKind) (so : CommitKind → StartAsked) (s : StartState) (told : List Exchange) : Type 0 where
   pub opening : StartState
   pub kind : CommitKind
   pub its_kind : asked ≡ Some kind
   pub replies : List ℕ
-  pub is : s ≡ started opening kind lost replies
-  pub its : told ≡ start_told opening kind lost replies
+  pub is : s ≡ started opening (so kind) replies
+  pub its : told ≡ start_told opening (so kind) replies
   pub on : IsOnNow s
 
-pub start_begins : (s : StartState) (kind : CommitKind) (lost : ℕ) → StartKnows (Some kind) lost (start_begun s kind lost) []
+pub start_begins : (s : StartState) (kind : CommitKind) (so : CommitKind → StartAsked) → StartKnows (Some kind) so (start_begun s (so kind)) []
 unfolding run_of exchanges
-start_begins s kind lost = record { opening = s; kind = kind; its_kind = refl; replies = []; is = refl; its = refl; on = tt }
+start_begins s kind so = record { opening = s; kind = kind; its_kind = refl; replies = []; is = refl; its = refl; on = tt }
 
-pub start_replied : (asked : Option CommitKind) (lost : ℕ) (s : StartState) (told : List Exchange) (reply : ℕ) → StartKnows asked lost s told → StartKnows asked lost (start_next s reply) (exchanged (start_ask s) reply told)
+pub start_replied : (asked : Option CommitKind) (so : CommitKind → StartAsked) (s : StartState) (told : List Exchange) (reply : ℕ) → StartKnows asked so s told → StartKnows asked so (start_next s reply) (exchanged (start_ask s) reply told)
 unfolding run_of exchanges
-start_replied asked lost s told reply knows = record {
+start_replied asked so s told reply knows = record {
   opening = knows.opening;
   kind = knows.kind;
   its_kind = knows.its_kind;
   replies = reply ∷ knows.replies;
   is = ap (λ (x : StartState). start_next x reply) knows.is;
-  its = ap (λ (x : StartState). exchanged (start_ask x) reply told) knows.is ∙ ap (λ (x : List Exchange). exchanged (start_ask (started knows.opening knows.kind lost knows.replies)) reply x) knows.its;
+  its = ap (λ (x : StartState). exchanged (start_ask x) reply told) knows.is ∙ ap (λ (x : List Exchange). exchanged (start_ask (started knows.opening (so knows.kind) knows.replies)) reply x) knows.its;
   on = next_on s reply knows.on;
 }
 
-ended : (asked : Option CommitKind) (lost : ℕ) (s : StartState) (told : List Exchange) (its : StartAnswer) (knows : StartKnows asked lost s told) → start_ask s ≡ Done its → IsStartEnd knows.kind lost its told
-ended asked lost s told its knows e =
-    let at : (started knows.opening knows.kind lost knows.replies).step ≡ starts.Ended its = sym (ap (λ (x : StartState). x.step) knows.is) ∙ ends_at s s.step its knows.on e in
-    subst (λ (x : List Exchange). IsStartEnd knows.kind lost its x) (sym knows.its) (starts_end knows.opening knows.kind lost knows.replies its at)
+ended : (asked : Option CommitKind) (so : CommitKind → StartAsked) (s : StartState) (told : List Exchange) (its : StartAnswer) (knows : StartKnows asked so s told) → start_ask s ≡ Done its → IsStartEnd (so knows.kind) its told
+ended asked so s told its knows e =
+    let at : (started knows.opening (so knows.kind) knows.replies).step ≡ starts.Ended its = sym (ap (λ (x : StartState). x.step) knows.is) ∙ ends_at s s.step its knows.on e in
+    subst (λ (x : List Exchange). IsStartEnd (so knows.kind) its x) (sym knows.its) (starts_end knows.opening (so knows.kind) knows.replies its at)
 
-pub start_refused : (asked : Option CommitKind) (lost : ℕ) (s : StartState) (told : List Exchange) (why : Fault) → StartKnows asked lost s told → start_ask s ≡ Done (answer.Refused why) → IsShown asked lost why told
-start_refused asked lost s told why knows e =
-    let end : AreIdle told × IsRefusalTrue knows.kind lost why told = ended asked lost s told (answer.Refused why) knows e in
+pub start_refused : (asked : Option CommitKind) (so : CommitKind → StartAsked) (s : StartState) (told : List Exchange) (why : Fault) → StartKnows asked so s told → start_ask s ≡ Done (answer.Refused why) → IsShown asked so why told
+start_refused asked so s told why knows e =
+    let end : AreIdle told × IsRefusalTrue (so knows.kind) why told = ended asked so s told (answer.Refused why) knows e in
     record { kind = knows.kind; its_kind = knows.its_kind; idle = end.0; shown = end.1 }
 
-pub start_not_idle : (asked : Option CommitKind) (lost : ℕ) (s : StartState) (told : List Exchange) → StartKnows asked lost s told → start_ask s ≡ Done answer.Idle → ⊥
-start_not_idle asked lost s told knows e = ended asked lost s told answer.Idle knows e
+pub start_not_idle : (asked : Option CommitKind) (so : CommitKind → StartAsked) (s : StartState) (told : List Exchange) → StartKnows asked so s told → start_ask s ≡ Done answer.Idle → ⊥
+start_not_idle asked so s told knows e = ended asked so s told answer.Idle knows e

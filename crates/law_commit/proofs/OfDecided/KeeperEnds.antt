@@ -1,7 +1,7 @@
 -- What the keeper knows of the moments at which a commit's first address and its end were the tail; and that each of its steps keeps it.
 use Rattle.std.proofs.Common.{◌≡◌, ℕ, ◌+◌, ◌∙◌, List, [], ◌∷◌, ◌++◌, length, refl, ap, sym, subst, Bool, true, false}
 use Rattle.std.specs.Prelude.{⊤, nat_le, nat_lt, max, ◌==◌, if◌then◌else◌, Option, Some, None, ◌||◌, not}
-use Rattle.fkv_base.specs.Limits.{last_version}
+use Rattle.fkv_base.specs.Limits.{last_of}
 use Rattle.fkv_base.specs.declared.commits.CommitKind.{CommitKind}
 use Rattle.fkv_base.specs.declared.faults.Fault.TheVariants as fault
 use Rattle.fkv_base.specs.declared.numbers.Addr.{Addr}
@@ -50,7 +50,7 @@ use Rattle.law_refine.specs.Below.fkv_keeper.KeeperTold.TheVariants.{CommitRefus
 use Rattle.law_refine.specs.Below.fkv_keeper.TheKeeping.{Keeping}
 use Rattle.law_refine.specs.Below.fkv_keeper.TheKeeping.TheVariants.{Ended, Starts, Maintains, LoadsPhase, Enters, Copies, Seeks, Waits, Writes, Finishes}
 use Rattle.law_refine.specs.Below.fkv_keeper.KeeperRun.{is_in_hand}
-use Rattle.law_refine.specs.Below.fkv_keeper.Keeping.{KeeperState, commit_asked, copied, copies, copies_next, copy_driven, copy_ledto, ended, enter_ledto, finish_ledto, finished, keeping_called, keeping_given, keeping_next, maintain_ledto, part_begun, phase_ledto, points_known, seek_ledto, start_ledto, triples_written, turn_asked, turned, wait_ledto, write_ledto, writes_begun, writes_called, copy_taken, is_copy_resting, copy_told}
+use Rattle.law_refine.specs.Below.fkv_keeper.Keeping.{KeeperState, commit_asked, copied, copies, copies_next, copy_driven, copy_ledto, ended, enter_ledto, finish_ledto, finished, keeping_called, keeping_given, keeping_next, maintain_ledto, part_begun, phase_ledto, points_known, seek_ledto, start_ledto, triples_written, turn_asked, turned, wait_ledto, write_ledto, writes_begun, writes_called, copy_taken, is_copy_resting, copy_told, asked_for}
 use Rattle.law_refine.specs.Below.fkv_world.World.{keeper_asked}
 use Rattle.law_commit.specs.Decided.Ended.{Span, span_in}
 
@@ -145,8 +145,8 @@ module _ (F : Version → Addr → Type 0) (E : Span → Type 0) where
 
   found_ends : (s : StartState) (said : PhaseSaid) → StartEnds (phase_found s said).step
   found_ends s (Says phase.Rest number) =
-      either_start (nat_le last_version number.0) (refused s fault.VersionsSpent) (if is_lost_full s.kind s.lost then refused s fault.LostFull else record s { defer = defer_begun s.defer; step = start.Seeks number }) tt
-      (either_start (is_lost_full s.kind s.lost) (refused s fault.LostFull) (record s { defer = defer_begun s.defer; step = start.Seeks number }) tt tt)
+      either_start (nat_le (last_of s.asked.class) number.0) (refused s fault.VersionsSpent) (if is_lost_full s.asked number.0 then refused s fault.LostFull else record s { defer = defer_begun s.defer; step = start.Seeks number }) tt
+      (either_start (is_lost_full s.asked number.0) (refused s fault.LostFull) (record s { defer = defer_begun s.defer; step = start.Seeks number }) tt tt)
   found_ends s (Says phase.Prepare number) = tt
   found_ends s (Says phase.InProgress number) = tt
   found_ends s (Says phase.WaitPending number) = tt
@@ -444,7 +444,7 @@ module _ (F : Version → Addr → Type 0) (E : Span → Type 0) where
 
   commit_ends : (s : KeeperState) (kind : CommitKind) → (s.is_broken ≡ false → Hand s) → KeeperEnds (commit_asked s kind)
   commit_ends s kind hand =
-      either_ends s.is_broken (ended s (CommitRefused fault.Broken)) (record s { start = start_begun s.start kind (length s.lost); step = Starts }) (λ yes. hand) (λ no. (hand no, tt))
+      either_ends s.is_broken (ended s (CommitRefused fault.Broken)) (record s { start = start_begun s.start (asked_for s kind); step = Starts }) (λ yes. hand) (λ no. (hand no, tt))
 
   idle_hand : (s : KeeperState) (step : Keeping) → is_in_hand step ≡ false → KeepingEnds s step → s.is_broken ≡ false → Hand s
   idle_hand s (Ended told) idle its = its

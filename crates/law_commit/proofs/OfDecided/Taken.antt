@@ -63,7 +63,7 @@ use Rattle.law_refine.proofs.Below.law_world.OfGuarded.Kept.{moved_is}
 use Rattle.law_refine.proofs.Below.law_world.OfGuarded.KeeperSteps.{keeper_steps}
 use Rattle.law_refine.proofs.Below.law_world.OfGuarded.OneStep.{IsStep}
 use Rattle.law_refine.proofs.Below.law_world.OfGuarded.Worlds.{life_shows}
-use Rattle.law_refine.specs.Events.Appends.{append_ghosts, entry_made, reserved_ghosts}
+use Rattle.law_refine.specs.Events.Appends.{append_ghosts, reserved_ghosts, NewRecord, new_record}
 use Rattle.law_refine.specs.Events.GhostEvents.{fixed_ghosts, ghost_events, home_in, life_ghosts, mapped, moved_ghosts, own_ghosts, safe_at, serials_in, traced_by}
 use Rattle.law_refine.specs.Events.Lines.{lines_added}
 use Rattle.law_refine.specs.Events.Reservations.{AreStill, Behind, DropsOne, Keeps, LosesOne, MovesOn, PublishesOne, Reservation, TakesOne, is_still}
@@ -134,22 +134,22 @@ taking t = Some (guard_world.Reserves (reserve.TakesTail t))
 own_number : (t : ℕ) → (t == t) ≡ true
 own_number t = grind (arith, nat_tests)
 
-won_takes : (a : AppendState) (entry : HistoryEntry) (t : ℕ) → TakesAddr t (reserved_ghosts a entry (Done (if t == t then answer.Reserved (record { 0 = t }) else answer.Contended)))
-won_takes a entry t = rw (own_number t) (by_test _ (is_for_entry a (record { 0 = t })))
+won_takes : (a : AppendState) (made : NewRecord) (t : ℕ) → TakesAddr t (reserved_ghosts a made (Done (if t == t then answer.Reserved (record { 0 = t }) else answer.Contended)))
+won_takes a made t = rw (own_number t) (by_test _ (is_for_entry a (record { 0 = t })))
   where
-    by_test : (cell : Cell) (c : Bool) → TakesAddr t (if c then Reserves t entry cell ∷ [] else Drops t ∷ Reserves t entry cell ∷ [])
+    by_test : (cell : Cell) (c : Bool) → TakesAddr t (if c then Reserves t made.entry cell ∷ [] else Drops t ∷ Reserves t made.entry cell ∷ [])
     by_test cell true = inl refl
     by_test cell false = inr (inl refl)
 
 same_tail : (tail t : ℕ) → Some (guard_world.Reserves (reserve.TakesTail tail)) ≡ taking t → tail ≡ t
 same_tail tail t e = cc
 
-reserve_takes : (room : ℕ) (a : AppendState) (entry : HistoryEntry) (its : Reserving) (t : ℕ) → reserve_work its ≡ taking t → TakesAddr t (reserved_ghosts a entry (reserve_next_ask room its t))
+reserve_takes : (room : ℕ) (a : AppendState) (made : NewRecord) (its : Reserving) (t : ℕ) → reserve_work its ≡ taking t → TakesAddr t (reserved_ghosts a made (reserve_next_ask room its t))
 unfolding reserve_next_ask
-reserve_takes room a entry reserve.AtRest t e = cc
-reserve_takes room a entry reserve.LoadsLimit t e = cc
-reserve_takes room a entry (reserve.LoadsTail limit) t e = cc
-reserve_takes room a entry (reserve.TakesTail tail) t e = subst (λ (x : ℕ). TakesAddr t (reserved_ghosts a entry (Done (if t == x then answer.Reserved (record { 0 = x }) else answer.Contended)))) (sym (same_tail tail t e)) (won_takes a entry t)
+reserve_takes room a made reserve.AtRest t e = cc
+reserve_takes room a made reserve.LoadsLimit t e = cc
+reserve_takes room a made (reserve.LoadsTail limit) t e = cc
+reserve_takes room a made (reserve.TakesTail tail) t e = subst (λ (x : ℕ). TakesAddr t (reserved_ghosts a made (Done (if t == x then answer.Reserved (record { 0 = x }) else answer.Contended)))) (sym (same_tail tail t e)) (won_takes a made t)
 
 none_fills : (step : Filling) (t : ℕ) → fill_work step ≡ taking t → ⊥
 none_fills fill.AtRest t e = cc
@@ -159,15 +159,15 @@ none_invalidates : (step : Invalidating) (t : ℕ) → invalidate_work step ≡ 
 none_invalidates invalidate.AtRest t e = cc
 none_invalidates step t e = cc
 
-append_takes : (room : ℕ) (a : AppendState) (entry : HistoryEntry) (step : Appending) (t : ℕ) → append_work a step ≡ taking t → TakesAddr t (append_ghosts room a entry step t)
-append_takes room a entry appending.Reserves t e = reserve_takes room a entry a.reserving t e
-append_takes room a entry (appending.Fills addr) t e = absurd (none_fills a.filling t e)
-append_takes room a entry (appending.Publishes addr) t e = cc
-append_takes room a entry appending.Invalidates t e = absurd (none_invalidates a.invalidating t e)
-append_takes room a entry (appending.Ended its) t e = cc
+append_takes : (room : ℕ) (a : AppendState) (made : NewRecord) (step : Appending) (t : ℕ) → append_work a step ≡ taking t → TakesAddr t (append_ghosts room a made step t)
+append_takes room a made appending.Reserves t e = reserve_takes room a made a.reserving t e
+append_takes room a made (appending.Fills addr) t e = absurd (none_fills a.filling t e)
+append_takes room a made (appending.Publishes addr) t e = cc
+append_takes room a made appending.Invalidates t e = absurd (none_invalidates a.invalidating t e)
+append_takes room a made (appending.Ended its) t e = cc
 
 try_takes : (k : Seat) (reader : ℕ) (pending : PendingRequest) (seen : LastSeen) (x : TryState) (step : Trying) (t : ℕ) → (try_likeness_at seen x step).work ≡ taking t → TakesAddr t (try_ghosts k.places (room_of k) k.number reader pending x step t)
-try_takes k reader pending seen x (trying.Appends made) t e = append_takes (room_of k) x.append (entry_made k.number pending made) x.append.step t e
+try_takes k reader pending seen x (trying.Appends made) t e = append_takes (room_of k) x.append (new_record k.number pending made) x.append.step t e
 try_takes k reader pending seen x step t e = cc
 
 tried_takes : (k : Seat) (reader : ℕ) (seen : LastSeen) (a : AttemptState) (step : Attempting) (t : ℕ) → (attempt_likeness_at seen a step).work ≡ taking t → TakesAddr t (tried_ghosts k reader a step t)

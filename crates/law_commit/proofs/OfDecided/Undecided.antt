@@ -25,6 +25,7 @@ use Rattle.law_log.specs.Chains.{Cell, Logged, Unborn, Reserved, Published, Drop
 use Rattle.law_log.specs.Ghosts.{Log, Ghosts, GhostEvent, Tells, FindsEntry, TakesValue, Reserves, Publishes, Drops, Changes, Fixes, changed, changed_by, dropped, ghost_run, ghosts_after, log_after, published, set_at}
 use Rattle.law_log.proofs.Shown.{at_one}
 use Rattle.law_refine.specs.Below.law_world.Guarded.Shows as guard
+use Rattle.law_refine.specs.Events.Appends.{NewRecord}
 use Rattle.law_refine.specs.Events.GhostEvents.{ghost_events, home_in, life_ghosts, mapped, serials_in}
 use Rattle.law_refine.specs.Events.Reservations.{Reservation, append_reserves, attempt_reserves, invalidate_reserves, try_reserves}
 use Rattle.law_refine.specs.Events.Reserved.{IsOfSession, IsUnbornFrom, ReservesNothing, sitting_reserves, tail_at}
@@ -34,14 +35,14 @@ use Rattle.law_commit.specs.Views.{Sight, sight_in}
 use Rattle.law_commit.proofs.OfDecided.Attempting.{IsAttempt, attempt_sight, tails_behind}
 
 -- ---- whose reservation it is
-append_by : (a : AppendState) (entry : HistoryEntry) (step : Appending) (its : Reservation) → append_reserves a entry step ≡ Some its → its.entry ≡ entry
-append_by a entry (appending.Ended told) its e = cc
-append_by a entry appending.Reserves its e = cc
-append_by a entry (appending.Fills addr) its e = ap (λ (r : Reservation). r.entry) (sym (some_same _ its e))
-append_by a entry (appending.Publishes addr) its e = ap (λ (r : Reservation). r.entry) (sym (some_same _ its e))
-append_by a entry appending.Invalidates its e = by_step a.invalidating e
+append_by : (a : AppendState) (made : NewRecord) (step : Appending) (its : Reservation) → append_reserves a made step ≡ Some its → its.entry ≡ made.entry
+append_by a made (appending.Ended told) its e = cc
+append_by a made appending.Reserves its e = cc
+append_by a made (appending.Fills addr) its e = ap (λ (r : Reservation). r.entry) (sym (some_same _ its e))
+append_by a made (appending.Publishes addr) its e = ap (λ (r : Reservation). r.entry) (sym (some_same _ its e))
+append_by a made appending.Invalidates its e = by_step a.invalidating e
   where
-    by_step : (step : Invalidating) → invalidate_reserves a entry step ≡ Some its → its.entry ≡ entry
+    by_step : (step : Invalidating) → invalidate_reserves a made step ≡ Some its → its.entry ≡ made.entry
     by_step invalidating.AtRest e = cc
     by_step (invalidating.StoresHeader addr header) e = ap (λ (r : Reservation). r.entry) (sym (some_same _ its e))
 

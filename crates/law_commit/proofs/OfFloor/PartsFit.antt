@@ -2,7 +2,7 @@
 use Rattle.std.proofs.Common.{◌≡◌, ℕ, ◌+◌, ◌^◌, ◌<◌, ◌≤◌, ◌∷◌, [], ◌++◌, length, refl, arith, sym, subst, Bool, true, false}
 use Rattle.std.specs.Prelude.{not, ⊤, if◌then◌else◌, nat_le, nat_lt, ◌==◌, max, Option, None}
 use Rattle.std.proofs.lemmas.Bool.Decides.{nat_tests}
-use Rattle.fkv_base.specs.Limits.{last_version}
+use Rattle.fkv_base.specs.Limits.{last_of}
 use Rattle.fkv_base.specs.declared.numbers.Addr.{Addr}
 use Rattle.fkv_base.specs.declared.numbers.Version.{Version}
 use Rattle.fkv_base.specs.declared.phases.Phase.TheVariants.{InProgress, WaitPending, Rest, Prepare, WaitFlush}
@@ -175,7 +175,7 @@ start_either g commit true a b one other = one
 start_either g commit false a b one other = other
 
 found_fits : (g : Ground) (commit : Option Commit) (s : StartState) (said : PhaseSaid) → StartFits g commit (phase_found s said) (phase_found s said).step
-found_fits g commit s (Says Rest number) = start_either g commit (nat_le last_version number.0) _ _ tt (start_either g commit (is_lost_full s.kind s.lost) _ _ tt tt)
+found_fits g commit s (Says Rest number) = start_either g commit (nat_le (last_of s.asked.class) number.0) _ _ tt (start_either g commit (is_lost_full s.asked number.0) _ _ tt tt)
 found_fits g commit s (Says Prepare number) = tt
 found_fits g commit s (Says InProgress number) = tt
 found_fits g commit s (Says WaitPending number) = tt

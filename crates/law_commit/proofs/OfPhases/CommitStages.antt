@@ -2,7 +2,8 @@
 use Rattle.std.proofs.Common.{◌≡◌, ◌⊎◌, inl, ℕ, ◌+◌, ◌<◌, ◌∙◌, List, ◌∷◌, [], ◌++◌, length, refl, arith, sym, ap, subst, Bool, true, false}
 use Rattle.std.specs.Prelude.{not, ⊤, if◌then◌else◌, nat_le, nat_lt, ◌==◌, max}
 use Rattle.std.proofs.lemmas.Bool.Decides.{nat_tests}
-use Rattle.fkv_base.specs.Limits.{last_version}
+use Rattle.fkv_base.specs.Limits.{last_version, last_of}
+use Rattle.fkv_base.specs.declared.classes.StoreClass.{StoreClass}
 use Rattle.fkv_base.specs.declared.numbers.Addr.{Addr}
 use Rattle.fkv_base.specs.declared.numbers.Serial.{Serial}
 use Rattle.fkv_base.specs.declared.numbers.Version.{Version}
@@ -37,6 +38,7 @@ use Rattle.law_refine.specs.Below.fkv_commit.Seeking as seeking
 use Rattle.law_refine.specs.Below.fkv_commit.Seeking.{SeekState, owing_from, points_from, point_taken, with_point, slot_led, cut_met, other_met, seeking_next}
 use Rattle.law_refine.specs.Below.fkv_commit.Cuts.{is_cut_of, serial_said}
 use Rattle.law_refine.specs.Below.fkv_commit.Starting as starting
+use Rattle.law_refine.proofs.Below.fkv_commit.Shown.{last_low}
 use Rattle.law_refine.specs.Below.fkv_commit.Starting.{StartState, is_lost_full, phase_found, starting_next}
 use Rattle.law_commit.specs.Phases.Staged.{Stage, Rests, Prepares, DefersProgress, Progresses, DefersPending, Pends, Flushes, DefersAt, IsReadOnly, DefersReadOnly, StartsIt, StartAt, EnterAt, SeekAt, stage_phase, stage_version, defer_moves, start_moves, enter_moves, seek_moves}
 
@@ -150,13 +152,13 @@ start_either : (number : Version) (stage : Stage) (c : Bool) (a b : StartState) 
 start_either number stage true a b one other = one refl
 start_either number stage false a b one other = other refl
 
-not_last : (version : ℕ) → nat_le last_version version ≡ false → version < last_version
-not_last version e = grind (arith, nat_tests, e)
+not_last : (class : StoreClass) (version : ℕ) → nat_le (last_of class) version ≡ false → version < last_version
+not_last class version e = last_low class version (grind (arith, nat_tests, e))
 
 found_at : (number : Version) (stage : Stage) (s : StartState) → StartAt number stage (phase_found s (Says (stage_phase stage) (stage_version number stage))) (phase_found s (Says (stage_phase stage) (stage_version number stage))).step
 found_at number Rests s =
-    start_either number Rests (nat_le last_version number.0) _ _ (λ spent. tt)
-    (λ left. start_either number Rests (is_lost_full s.kind s.lost) _ _ (λ full. tt) (λ has. (record { same = refl; fits = not_last number.0 left }, refl, refl)))
+    start_either number Rests (nat_le (last_of s.asked.class) number.0) _ _ (λ spent. tt)
+    (λ left. start_either number Rests (is_lost_full s.asked number.0) _ _ (λ full. tt) (λ has. (record { same = refl; fits = not_last s.asked.class number.0 left }, refl, refl)))
 found_at number Prepares s = tt
 found_at number DefersProgress s = tt
 found_at number Progresses s = tt

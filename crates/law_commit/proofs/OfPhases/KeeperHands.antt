@@ -323,7 +323,7 @@ pub turn_asked_none : (s : KeeperState) → HasNone (turn_asked s)
 turn_asked_none s = either_none s.is_broken (ended s (TurnRefused fault.Broken)) (record s { maintain = maintain_begun s.maintain; is_drain_full = false; step = Maintains }) refl refl
 
 pub commit_asked_none : (s : KeeperState) (kind : CommitKind) → HasNone (commit_asked s kind)
-commit_asked_none s kind = either_none s.is_broken (ended s (CommitRefused fault.Broken)) (record s { start = start_begun s.start kind _; step = Starts }) refl refl
+commit_asked_none s kind = either_none s.is_broken (ended s (CommitRefused fault.Broken)) (record s { start = start_begun s.start _; step = Starts }) refl refl
 
 -- ---- what it puts
 -- the action that is out in the stage to which it leads, behind one of the same phase where none was out

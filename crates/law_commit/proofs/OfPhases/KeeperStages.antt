@@ -1,5 +1,5 @@
 -- Each event of the keeper's own leaves it at the stage to which it leads.
-use Rattle.std.proofs.Common.{◌≡◌, ◌⊎◌, inl, inr, ℕ, ◌+◌, ◌<◌, ◌∙◌, List, length, refl, arith, sym, ap, subst, Bool, true, false}
+use Rattle.std.proofs.Common.{◌≡◌, ◌⊎◌, inl, inr, ℕ, ◌+◌, ◌<◌, ◌∙◌, List, refl, arith, sym, ap, subst, Bool, true, false}
 use Rattle.std.specs.Prelude.{⊤, if◌then◌else◌, nat_lt, Option, Some, None, ◌||◌}
 use Rattle.fkv_base.specs.Limits.{last_version}
 use Rattle.fkv_base.specs.declared.faults.Fault.TheVariants as fault
@@ -56,7 +56,7 @@ use Rattle.law_refine.specs.Below.fkv_keeper.KeeperTold.{KeeperTold}
 use Rattle.law_refine.specs.Below.fkv_keeper.KeeperTold.TheVariants.{TurnRefused, CommitRefused}
 use Rattle.law_refine.specs.Below.fkv_keeper.TheKeeping.{Keeping}
 use Rattle.law_refine.specs.Below.fkv_keeper.TheKeeping.TheVariants.{Ended, Starts, Maintains, LoadsPhase, Enters, Copies, Seeks, Waits, Writes, Finishes}
-use Rattle.law_refine.specs.Below.fkv_keeper.Keeping.{KeeperState, ended, turned, commit_asked, turn_asked, start_ledto, maintain_ledto, copies, copies_next, part_begun, phase_ledto, enter_ledto, copied, copy_ledto, points_known, seek_ledto, writes_begun, wait_ledto, finished, finish_ledto, copy_driven, keeping_next, keeper_next, keeping_given, write_ledto, writes_called, keeping_called, copy_taken, is_copy_resting, copy_told}
+use Rattle.law_refine.specs.Below.fkv_keeper.Keeping.{KeeperState, ended, turned, commit_asked, turn_asked, start_ledto, maintain_ledto, copies, copies_next, part_begun, phase_ledto, enter_ledto, copied, copy_ledto, points_known, seek_ledto, writes_begun, wait_ledto, finished, finish_ledto, copy_driven, keeping_next, keeper_next, keeping_given, write_ledto, writes_called, keeping_called, copy_taken, is_copy_resting, copy_told, asked_for}
 use Rattle.law_refine.specs.Below.fkv_keeper.KeeperRun.{is_in_hand}
 use Rattle.law_commit.specs.Phases.Staged.{FitsVersion, DefersAt, defer_moves, Stage, Rests, Prepares, DefersProgress, Progresses, DefersPending, Pends, Flushes, stage_phase, stage_version, is_resting, is_early, StartsIt, StartAt, EnterAt, SeekAt, FinishAt, StepAt, EarlyAt, HasInHand, KeeperAt, start_moves, enter_moves, seek_moves, finish_moves, keeping_moves, finish_number, keeping_number}
 use Rattle.law_commit.proofs.OfPhases.CommitStages.{StartSays, start_goes, enter_goes, SeeksAt, seek_begins, seek_goes}
@@ -439,5 +439,5 @@ pub commit_asked_at : (number : Version) (stage : Stage) (s : KeeperState) (kind
 commit_asked_at number stage s kind its idle =
     let has = its.has in
     let early = idle_early stage s s.step idle its.early in
-    either_at number stage s.is_broken (ended s (CommitRefused fault.Broken)) (record s { start = start_begun s.start kind (length s.lost); step = Starts })
+    either_at number stage s.is_broken (ended s (CommitRefused fault.Broken)) (record s { start = start_begun s.start (asked_for s kind); step = Starts })
     (λ yes. ended_at number stage s _ has early) (λ no. record { has = record { next = has.next; hand = has.hand }; early = early; step = tt })

@@ -1,7 +1,7 @@
 -- What the keeper knows of the commit that it starts and has in hand, whatever is said of the commit's number.
-use Rattle.std.proofs.Common.{◌≡◌, inl, inr, ℕ, ◌∙◌, length, refl, ap, sym, subst, Bool, true, false}
+use Rattle.std.proofs.Common.{◌≡◌, inl, inr, ℕ, ◌∙◌, refl, ap, sym, subst, Bool, true, false}
 use Rattle.std.specs.Prelude.{⊤, nat_le, if◌then◌else◌, Option, Some, None}
-use Rattle.fkv_base.specs.Limits.{last_version}
+use Rattle.fkv_base.specs.Limits.{last_of}
 use Rattle.fkv_base.specs.declared.faults.Fault.TheVariants as fault
 use Rattle.fkv_base.specs.declared.numbers.Addr.{Addr}
 use Rattle.fkv_base.specs.declared.numbers.Version.{Version}
@@ -27,7 +27,7 @@ use Rattle.law_refine.specs.Below.fkv_keeper.KeeperTold.TheVariants.{CommitRefus
 use Rattle.law_refine.specs.Below.fkv_keeper.TheKeeping.{Keeping}
 use Rattle.law_refine.specs.Below.fkv_keeper.TheKeeping.TheVariants.{Ended, Starts, Maintains, LoadsPhase, Enters, Copies, Seeks, Waits, Writes, Finishes}
 use Rattle.law_refine.specs.Below.fkv_keeper.CheckpointLaws.{IsCommitAfter, MayFollow}
-use Rattle.law_refine.specs.Below.fkv_keeper.Keeping.{KeeperState, ended, keeping_called, keeping_given, keeping_next, start_ledto}
+use Rattle.law_refine.specs.Below.fkv_keeper.Keeping.{KeeperState, ended, keeping_called, keeping_given, keeping_next, start_ledto, asked_for}
 use Rattle.law_refine.specs.Below.fkv_keeper.KeeperRun.{BeginsCommit, BeginsTurn, Calls, Gets, KeeperEvent, Replies, is_in_hand, keeper_happens}
 use Rattle.law_refine.proofs.Below.fkv_keeper.Shown.{each_move}
 use Rattle.law_refine.proofs.Below.law_world.OfStanding.Runs.{happens_at}
@@ -63,8 +63,8 @@ module _ (R : ℕ → Type 0) where
 
   found_says : (s : StartState) (said : PhaseSaid) → ((number : Version) → said ≡ Says phase.Rest number → R number.0) → StartSays (phase_found s said).step
   found_says s (Says phase.Rest number) on =
-      either_start (nat_le last_version number.0) (refused s fault.VersionsSpent) (if is_lost_full s.kind s.lost then refused s fault.LostFull else record s { defer = defer_begun s.defer; step = start.Seeks number }) tt
-      (either_start (is_lost_full s.kind s.lost) (refused s fault.LostFull) (record s { defer = defer_begun s.defer; step = start.Seeks number }) tt (on number refl))
+      either_start (nat_le (last_of s.asked.class) number.0) (refused s fault.VersionsSpent) (if is_lost_full s.asked number.0 then refused s fault.LostFull else record s { defer = defer_begun s.defer; step = start.Seeks number }) tt
+      (either_start (is_lost_full s.asked number.0) (refused s fault.LostFull) (record s { defer = defer_begun s.defer; step = start.Seeks number }) tt (on number refl))
   found_says s (Says phase.Prepare number) on = tt
   found_says s (Says phase.InProgress number) on = tt
   found_says s (Says phase.WaitPending number) on = tt
@@ -113,7 +113,7 @@ module _ (R : ℕ → Type 0) where
   starts_say : (s : KeeperState) (ask : Ask StartAnswer) → s.step ≡ Starts → start_ask s.start ≡ ask → HandSays s.commit → StartSays s.start.step → KeeperSays (start_ledto s ask)
   unfolding start_ledto
   starts_say s (Done (started.Begun number first)) at asks hand says = record {
-    hand = λ c is. let its = begun_says s.start s.start.step number first says asks in let same : commit_begun number s.start.kind first ≡ c = cc in subst (λ (x : Commit). R x.number.0) same its;
+    hand = λ c is. let its = begun_says s.start s.start.step number first says asks in let same : commit_begun number s.start.asked.kind first ≡ c = cc in subst (λ (x : Commit). R x.number.0) same its;
     step = tt;
   }
   starts_say s (Done (started.Refused why)) at asks hand says = record { hand = hand; step = tt }
@@ -142,7 +142,7 @@ module _ (R : ℕ → Type 0) where
   unfolding keeping_next keeping_given keeping_called
   ended_led shape p s BeginsTurn told at hand = either_says s.is_broken (ended s (TurnRefused fault.Broken)) _ (record { hand = hand; step = tt }) (record { hand = hand; step = tt })
   ended_led shape p s (BeginsCommit kind) told at hand =
-      either_says s.is_broken (ended s (CommitRefused fault.Broken)) (record s { start = start_begun s.start kind (length s.lost); step = Starts }) (record { hand = hand; step = tt }) (record { hand = hand; step = tt })
+      either_says s.is_broken (ended s (CommitRefused fault.Broken)) (record s { start = start_begun s.start (asked_for s kind); step = Starts }) (record { hand = hand; step = tt }) (record { hand = hand; step = tt })
   ended_led shape p s (Replies reply granted) told at hand = stays s (Ended told) at hand tt
   ended_led shape p s (Gets action) told at hand = stays s (Ended told) at hand tt
   ended_led shape p s (Calls done bytes) told at hand = stays s (Ended told) at hand tt

@@ -45,7 +45,7 @@ use Rattle.law_refine.specs.Below.fkv_keeper.KeeperTold.TheVariants.{CommitRefus
 use Rattle.law_refine.specs.Below.fkv_keeper.TheKeeping.{Keeping}
 use Rattle.law_refine.specs.Below.fkv_keeper.TheKeeping.TheVariants.{Ended, Starts, Maintains, LoadsPhase, Enters, Copies, Seeks, Waits, Writes, Finishes}
 use Rattle.law_refine.specs.Below.fkv_keeper.KeeperRun.{is_in_hand}
-use Rattle.law_refine.specs.Below.fkv_keeper.Keeping.{KeeperState, commit_asked, copies, copies_next, copy_driven, copy_ledto, ended, enter_ledto, finish_ledto, finished, keeping_called, keeping_given, keeping_next, maintain_ledto, part_begun, phase_ledto, seek_ledto, start_ledto, turn_asked, turned, wait_ledto, write_ledto, writes_begun, writes_called, copy_taken, is_copy_resting, copy_told}
+use Rattle.law_refine.specs.Below.fkv_keeper.Keeping.{KeeperState, commit_asked, copies, copies_next, copy_driven, copy_ledto, ended, enter_ledto, finish_ledto, finished, keeping_called, keeping_given, keeping_next, maintain_ledto, part_begun, phase_ledto, seek_ledto, start_ledto, turn_asked, turned, wait_ledto, write_ledto, writes_begun, writes_called, copy_taken, is_copy_resting, copy_told, asked_for}
 use Rattle.law_refine.specs.Below.fkv_world.World.{keeper_asked}
 
 module _ (N : ℕ → ℕ → Type 0) (count : ℕ) where
@@ -281,7 +281,7 @@ module _ (N : ℕ → ℕ → Type 0) (count : ℕ) where
 
   pub commit_knows : (s : KeeperState) (kind : CommitKind) → HasSessions s → KeeperKnows (commit_asked s kind)
   commit_knows s kind sessions =
-      either_knows s.is_broken (ended s (CommitRefused fault.Broken)) (record s { start = start_begun s.start kind (length s.lost); step = Starts }) (record { sessions = sessions; step = tt }) (record { sessions = sessions; step = tt })
+      either_knows s.is_broken (ended s (CommitRefused fault.Broken)) (record s { start = start_begun s.start (asked_for s kind); step = Starts }) (record { sessions = sessions; step = tt }) (record { sessions = sessions; step = tt })
 
   pub asked_knows : (s begun : KeeperState) → KeeperKnows s → KeeperKnows begun → KeeperKnows (keeper_asked s begun)
   asked_knows s begun its next = by_hand (is_in_hand s.step)

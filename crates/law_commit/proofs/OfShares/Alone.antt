@@ -21,7 +21,7 @@ use Rattle.fkv_latch.specs.LatchWorld.{has_latch, times}
 use Rattle.fkv_map.specs.Keys.{key_of}
 use Rattle.law_refine.specs.Below.fkv_ops.Seen.{Seen}
 use Rattle.law_refine.specs.Below.fkv_ops.TheTrying.{Trying}
-use Rattle.law_refine.specs.Below.fkv_ops.TheTrying.TheVariants.{Ended, TakesShared, Walks, LoadsSafe, SwapsValue, LoadsCurrent, ChangesValue, LoadsAnswer, TakesExclusive, LoadsOld, Appends, DropsExclusive, DropsShared}
+use Rattle.law_refine.specs.Below.fkv_ops.TheTrying.TheVariants.{Ended, TakesShared, LoadsPhase, Walks, LoadsSafe, SwapsValue, LoadsCurrent, ChangesValue, LoadsAnswer, TakesExclusive, LoadsOld, Appends, DropsExclusive, DropsShared}
 use Rattle.law_refine.specs.Below.fkv_ops.Trying.{TryState, is_moving_on, is_prepare}
 use Rattle.law_refine.specs.Below.fkv_pending.TheAttempting.{Attempting}
 use Rattle.law_refine.specs.Below.fkv_pending.TheAttempting.TheVariants.{Tries}
@@ -138,6 +138,7 @@ so seen t same alone shares = record {
 }
 
 try_shares : (seen : Seen) (t : TryState) (step : Trying) → t.seen ≡ seen → (t.has_exclusive ≡ true → MovesOn seen t) → SharesBy t step → SharesTrying seen t step
+try_shares seen t LoadsPhase same alone shares = so seen t same alone shares
 try_shares seen t Walks same alone shares = so seen t same alone shares
 try_shares seen t (LoadsSafe addr version) same alone shares = so seen t same alone shares
 try_shares seen t (SwapsValue addr) same alone shares = so seen t same alone shares

@@ -24,6 +24,7 @@ module _ (P Q R : Request → Bool → Type 0) (each : (request : Request) (shar
   both_try t (trying.DropsExclusive its) one other = tt
   both_try t (trying.DropsShared its) one other = tt
   both_try t (trying.Ended its) one other = tt
+  both_try t trying.LoadsPhase one other = each t.request t.has_shared one other
   both_try t trying.Walks one other = each t.request t.has_shared one other
   both_try t (trying.LoadsSafe addr version) one other = each t.request t.has_shared one other
   both_try t (trying.SwapsValue addr) one other = each t.request t.has_shared one other

@@ -146,6 +146,7 @@ try_so P seen t trying.TakesShared make so = tt
 try_so P seen t (trying.DropsExclusive its) make so = tt
 try_so P seen t (trying.DropsShared its) make so = tt
 try_so P seen t (trying.Ended its) make so = tt
+try_so P seen t trying.LoadsPhase make so = make so
 try_so P seen t trying.Walks make so = make so
 try_so P seen t (trying.LoadsSafe addr version) make so = make so
 try_so P seen t (trying.SwapsValue addr) make so = make so

@@ -7,6 +7,8 @@ use Rattle.fkv_base.specs.declared.numbers.Version.{Version}
 use Rattle.fkv_map.specs.declared.operations.Reply.{Reply}
 use Rattle.fkv_map.specs.Map.{absent_word}
 use Rattle.fkv_map.specs.Keys.{key_of, reply_from}
+use Rattle.fkv_words.specs.declared.phase_words.PhaseSaid.{PhaseSaid}
+use Rattle.fkv_words.specs.PhaseWords.{phase_said}
 use Rattle.fkv_plane.specs.declared.asks.Ask.{Ask}
 use Rattle.fkv_plane.specs.declared.asks.Ask.TheVariants.{Done}
 use Rattle.fkv_plane.specs.declared.places.Places.{Places}
@@ -30,14 +32,14 @@ use Rattle.law_refine.specs.Below.fkv_ops.Seen.{Seen}
 use Rattle.law_refine.specs.Below.fkv_ops.OldValue.{OldValue}
 use Rattle.law_refine.specs.Below.fkv_ops.OldValue.TheVariants.{InMemory, Known}
 use Rattle.law_refine.specs.Below.fkv_ops.TheTrying.{Trying}
-use Rattle.law_refine.specs.Below.fkv_ops.TheTrying.TheVariants.{Ended, TakesShared, Walks, LoadsSafe, SwapsValue, LoadsCurrent, ChangesValue, LoadsAnswer, TakesExclusive, LoadsOld, Appends, DropsExclusive, DropsShared}
+use Rattle.law_refine.specs.Below.fkv_ops.TheTrying.TheVariants.{Ended, TakesShared, LoadsPhase, Walks, LoadsSafe, SwapsValue, LoadsCurrent, ChangesValue, LoadsAnswer, TakesExclusive, LoadsOld, Appends, DropsExclusive, DropsShared}
 use Rattle.law_refine.specs.Below.fkv_ops.WalkAnswer.{WalkAnswer}
 use Rattle.law_refine.specs.Below.fkv_ops.WalkAnswer.TheVariants as walk
 use Rattle.law_refine.specs.Below.fkv_ops.Values.{value_of}
 use Rattle.law_refine.specs.Below.fkv_ops.Requests.{is_read, is_blind}
 use Rattle.law_refine.specs.Below.fkv_ops.Walking.{walk_ask, walk_next, walk_on}
 use Rattle.law_refine.specs.Below.fkv_ops.Appending.{append_ask, append_next}
-use Rattle.law_refine.specs.Below.fkv_ops.Trying.{TryState, with_latch, is_moving_on, is_prepare, is_wait, ended_without, ends, takes_effect, walks, wants_shared, try_begun, shared_ledto, must_shift, wants_exclusive, appends, copies_from, copies, awaits, held_used, met_nowhere, met_disk, changes, is_own_version, region_met, met_record, walked, has_walked, walk_ledto, safe_loaded, current_ledto, value_changed, told_value, answer_ledto, exclusive_ledto, old_ledto, append_ledto, exclusive_dropped, shared_dropped, latch_moved, trying_next, try_next, new_try}
+use Rattle.law_refine.specs.Below.fkv_ops.Trying.{TryState, with_latch, is_moving_on, is_prepare, is_wait, ended_without, ends, takes_effect, walks, wants_shared, try_begun, is_next_marked, latch_shared, shared_ledto, is_still_in, phase_loaded, is_surely_own, must_shift, wants_exclusive, appends, copies_from, copies, awaits, held_used, met_nowhere, met_disk, changes, is_own_version, region_met, met_record, walked, has_walked, walk_ledto, safe_loaded, current_ledto, value_changed, told_value, answer_ledto, exclusive_ledto, old_ledto, append_ledto, exclusive_dropped, shared_dropped, latch_moved, trying_next, try_next, new_try}
 
 -- the session is between two versions, and the request is of its own
 abbrev pub MovesOn : Seen → TryState → Type 0
@@ -207,7 +209,7 @@ walk_ledto_moving p seen t (Done its) at keeps =
 walk_ledto_moving p seen t ask at keeps = stays_moving seen t Walks at (keeps.0, keeps.1, keeps.2) tt keeps.3
 
 safe_moving : (p : Places) (seen : Seen) (t : TryState) (addr : Addr) (version : Version) (safe : ℕ) → Inner seen t → IsTryMoving seen (safe_loaded p t addr version safe)
-safe_moving p seen t addr version safe keeps = either_moving (nat_le safe addr.0) seen (ends p t (answer.Wait reason.Fuzzy)) (copies p t InMemory (is_own_version t version)) (ends_moving p seen t _ keeps) (copies_moving p seen t InMemory (is_own_version t version) keeps)
+safe_moving p seen t addr version safe keeps = either_moving (nat_le safe addr.0) seen (ends p t (answer.Wait reason.Fuzzy)) (copies p t InMemory (is_surely_own t version)) (ends_moving p seen t _ keeps) (copies_moving p seen t InMemory (is_surely_own t version) keeps)
 
 current_moving : (p : Places) (seen : Seen) (t : TryState) (addr : Addr) (ask : Ask WalkAnswer) → t.step ≡ LoadsCurrent addr → Inner seen t → IsTryMoving seen (current_ledto p t addr ask)
 unfolding current_ledto
@@ -226,9 +228,16 @@ answer_moving p seen t (Done (walk.Value value)) at keeps = ends_moving p seen t
 answer_moving p seen t (Done its) at keeps = ends_moving p seen t _ keeps
 answer_moving p seen t ask at keeps = stays_moving seen t LoadsAnswer at (keeps.0, keeps.1, keeps.2) tt keeps.3
 
+latch_moving : (p : Places) (seen : Seen) (t : TryState) → Inner seen t → IsTryMoving seen (latch_shared p t)
+latch_moving p seen t keeps = either_moving (is_next_marked t.request.version) seen (record t { step = LoadsPhase }) (walks p t) (record { keeps = (keeps.0, keeps.1, keeps.2); takes = tt; shares = keeps.3 }) (walks_moving p seen t keeps)
+
+phase_moving : (p : Places) (seen : Seen) (t : TryState) (said : PhaseSaid) → Inner seen t → IsTryMoving seen (phase_loaded p t said)
+unfolding phase_loaded
+phase_moving p seen t said keeps = either_moving (is_still_in said t.request.version) seen (walks p t) (ends p t answer.Shift) (walks_moving p seen t keeps) (ends_moving p seen t answer.Shift keeps)
+
 shared_moving : (p : Places) (seen : Seen) (t : TryState) (ask : Ask LatchAnswer) → t.step ≡ TakesShared → KeepsMoving seen t → is_prepare t.seen.phase ≡ true → IsTryMoving seen (shared_ledto p t ask)
 unfolding shared_ledto
-shared_moving p seen t (Done Taken) at keeps prepares = walks_moving p seen (record t { has_shared = true }) (keeps.0, keeps.1, keeps.2, (λ prepare update. refl, λ has. refl, λ has. inl prepares))
+shared_moving p seen t (Done Taken) at keeps prepares = latch_moving p seen (record t { has_shared = true }) (keeps.0, keeps.1, keeps.2, (λ prepare update. refl, λ has. refl, λ has. inl prepares))
 shared_moving p seen t (Done its) at keeps prepares = ends_with p seen t answer.Shift keeps (λ wait. no_drop wait)
 shared_moving p seen t ask at keeps prepares = stays_moving seen t TakesShared at keeps tt prepares
 
@@ -274,6 +283,7 @@ next_moving : (p : Places) (room : ℕ) (seen : Seen) (t : TryState) (step : Try
 unfolding trying_next
 next_moving p room seen t (Ended its) reply at keeps takes shares = stays_moving seen t (Ended its) at keeps tt shares
 next_moving p room seen t TakesShared reply at keeps takes shares = shared_moving p seen (latch_moved t reply) (latch_next_ask t.latching reply) at (latch_keeps seen t reply keeps) shares
+next_moving p room seen t LoadsPhase reply at keeps takes shares = phase_moving p seen t (phase_said reply) (keeps.0, keeps.1, keeps.2, shares)
 next_moving p room seen t Walks reply at keeps takes shares = walk_ledto_moving p seen (record t { walk = walk_next p t.walk reply }) (walk_ask p (walk_next p t.walk reply)) at (keeps.0, keeps.1, keeps.2, shares)
 next_moving p room seen t (LoadsSafe addr version) reply at keeps takes shares = safe_moving p seen t addr version reply (keeps.0, keeps.1, keeps.2, shares)
 next_moving p room seen t (SwapsValue addr) reply at keeps takes shares = ends_moving p seen (record t { effect = Some (reply_from None t.request.op) }) _ (keeps.0, keeps.1, keeps.2, shares)
@@ -289,6 +299,7 @@ next_moving p room seen t (DropsShared its) reply at keeps takes shares = unshar
 effect_shares : (t : TryState) (step : Trying) → SharesBy t step → SharesBy (record t { effect = None }) step
 effect_shares t (Ended its) shares = shares
 effect_shares t TakesShared shares = shares
+effect_shares t LoadsPhase shares = shares
 effect_shares t Walks shares = shares
 effect_shares t (LoadsSafe addr version) shares = shares
 effect_shares t (SwapsValue addr) shares = shares

@@ -1,8 +1,6 @@
 -- In a life each address is taken for a record of the version of the request that is attempted, and a read takes none.
-use Rattle.std.proofs.Common.{◌≡◌, ℕ, List, [], ◌∷◌, ◌++◌, refl, sym, subst, Bool, true, false}
+use Rattle.std.proofs.Common.{◌≡◌, ℕ, List, [], ◌∷◌, ◌++◌, refl, subst, Bool, true, false}
 use Rattle.std.specs.Prelude.{map, slice_get, if◌then◌else◌, ◌==◌, Option, Some, None}
-use Rattle.fkv_base.specs.declared.numbers.Version.{Version}
-use Rattle.fkv_map.specs.declared.history.HistoryEntry.{HistoryEntry}
 use Rattle.fkv_map.specs.declared.operations.Op.{Op}
 use Rattle.fkv_map.specs.declared.operations.Op.TheVariants.{Read}
 use Rattle.fkv_map.specs.declared.operations.Reply.{Reply}
@@ -20,7 +18,6 @@ use Rattle.fkv_index.specs.declared.finding.Found.{Found}
 use Rattle.law_refine.specs.Below.fkv_ops.TryAnswer.{TryAnswer}
 use Rattle.law_refine.specs.Below.fkv_ops.TryAnswer.TheVariants as answer
 use Rattle.law_refine.specs.Below.fkv_ops.TheAppending.{Appending}
-use Rattle.law_refine.specs.Below.fkv_ops.Request.{Request}
 use Rattle.law_refine.specs.Below.fkv_ops.TheTrying.{Trying}
 use Rattle.law_refine.specs.Below.fkv_ops.TheTrying.TheVariants as trying
 use Rattle.law_refine.specs.Below.fkv_ops.Appending.{AppendState}
@@ -41,7 +38,7 @@ use Rattle.law_refine.specs.Below.fkv_world.Runs.{World, happens, run}
 use Rattle.law_refine.specs.Below.fkv_world.World.{Event, Moves, seat_at}
 use Rattle.law_refine.specs.Below.law_world.Guarded.Shows as guard
 use Rattle.law_refine.specs.Below.law_world.GuardSessions.Tries.{is_for_entry}
-use Rattle.law_refine.specs.Events.Appends.{append_ghosts, entry_made, reserved_ghosts}
+use Rattle.law_refine.specs.Events.Appends.{append_ghosts, entry_made, reserved_ghosts, NewRecord, new_record}
 use Rattle.law_refine.specs.Events.Effects.{mover_step, step_at}
 use Rattle.law_refine.specs.Events.GhostEvents.{fixed_ghosts, ghost_events, moved_ghosts, own_ghosts, safe_at, serials_in, traced_by}
 use Rattle.law_refine.specs.Events.Lines.{lines_added}
@@ -50,7 +47,6 @@ use Rattle.law_refine.specs.Events.Sessions.{attempt_ghosts, sitting_ghosts, ste
 use Rattle.law_refine.specs.Events.Tries.{search_ghosts, try_ghosts}
 use Rattle.law_refine.proofs.OfEvents.ReadTries.{IsReadStep}
 use Rattle.law_refine.proofs.OfEvents.RequestNames.{IsAttemptSo, IsTryOf, StepIsSo, TriesAt, life_so}
-use Rattle.law_refine.proofs.OfEvents.TryAppends.{IsAppendOf, KnowsAt}
 use Rattle.law_commit.specs.Versions.Cells.{AllReserve, AllReserveOf}
 use Rattle.law_commit.specs.Versions.Requests.{AttemptsSo, IsUpdateSo}
 use Rattle.law_refine.proofs.OfEvents.Searches.{append_all, search_all}
@@ -69,26 +65,24 @@ either_reserves P true a b one other = one
 either_reserves P false a b one other = other
 
 -- ---- an append
-taken_reserves : (P : ℕ → Type 0) (request : Request) (a : AppendState) (entry : HistoryEntry) (ask : Ask ReserveAnswer) → P request.version.0 → IsAppendOf request a → AllReserve P (reserved_ghosts a entry ask)
-taken_reserves P request a entry (Done (reserve.Reserved addr)) its so =
-    let is_so : P a.its_words.header.version.0 = subst (λ (v : Version). P v.0) (sym so.same.its_version) its in
-    let made : Cell = (reservation a entry addr.0).cell in
-    either_reserves P (is_for_entry a addr) (Reserves addr.0 entry made ∷ []) (Drops addr.0 ∷ Reserves addr.0 entry made ∷ []) (is_so, tt) (tt, (is_so, tt))
-taken_reserves P request a entry ask its so = tt
+taken_reserves : (P : ℕ → Type 0) (a : AppendState) (made : NewRecord) (ask : Ask ReserveAnswer) → P made.version → AllReserve P (reserved_ghosts a made ask)
+taken_reserves P a made (Done (reserve.Reserved addr)) its =
+    let cell : Cell = (reservation a made addr.0).cell in
+    either_reserves P (is_for_entry a addr) (Reserves addr.0 made.entry cell ∷ []) (Drops addr.0 ∷ Reserves addr.0 made.entry cell ∷ []) (its, tt) (tt, (its, tt))
+taken_reserves P a made ask its = tt
 
-append_reserves : (P : ℕ → Type 0) (room : ℕ) (request : Request) (a : AppendState) (entry : HistoryEntry) (step : Appending) (reply : ℕ) → P request.version.0 → IsAppendOf request a
-    → AllReserve P (append_ghosts room a entry step reply)
-append_reserves P room request a entry step reply its so = append_all (AllReserve P) tt (λ addr. (tt, tt)) (λ addr. (tt, tt)) room a entry step reply (λ ask. taken_reserves P request a entry ask its so)
+append_reserves : (P : ℕ → Type 0) (room : ℕ) (a : AppendState) (made : NewRecord) (step : Appending) (reply : ℕ) → P made.version → AllReserve P (append_ghosts room a made step reply)
+append_reserves P room a made step reply its = append_all (AllReserve P) tt (λ addr. (tt, tt)) (λ addr. (tt, tt)) room a made step reply (λ ask. taken_reserves P a made ask its)
 
 -- ---- a try
 search_reserves : (P : ℕ → Type 0) (p : Places) (op : Op) (reader : ℕ) (w : WalkState) (reply : ℕ) → AllReserve P (search_ghosts p op reader w reply)
 search_reserves P p op reader w reply = search_all (AllReserve P) tt reader (tt, tt) p op w reply
 
 appends_reserve : (P : ℕ → Type 0) (room session : ℕ) (pending : PendingRequest) (t : TryState) (made : Reply) (reply : ℕ) (reads : Bool) → is_read pending.request.op ≡ reads → t.step ≡ trying.Appends made → IsUpdateSo P pending
-    → IsTryOf pending t → AllReserve P (append_ghosts room t.append (entry_made session pending made) t.append.step reply)
+    → IsTryOf pending t → AllReserve P (append_ghosts room t.append (new_record session pending made) t.append.step reply)
 appends_reserve P room session pending t made reply true e at its so = absurd (subst IsReadStep at (so.reads e).step)
 appends_reserve P room session pending t made reply false e at its so =
-    append_reserves P room pending.request t.append (entry_made session pending made) t.append.step reply (its e) (subst (KnowsAt pending.request t) at so.of_request.knows)
+    append_reserves P room t.append (new_record session pending made) t.append.step reply (its e)
 
 try_reserves : (P : ℕ → Type 0) (p : Places) (room session reader : ℕ) (pending : PendingRequest) (t : TryState) (step : Trying) (reply : ℕ) → t.step ≡ step → IsUpdateSo P pending → IsTryOf pending t
     → AllReserve P (try_ghosts p room session reader pending t step reply)

@@ -6,6 +6,8 @@ use Rattle.fkv_base.specs.declared.numbers.Version.{Version}
 use Rattle.fkv_map.specs.declared.operations.Reply.{Reply}
 use Rattle.fkv_map.specs.Map.{absent_word}
 use Rattle.fkv_map.specs.Keys.{key_of, reply_from}
+use Rattle.fkv_words.specs.declared.phase_words.PhaseSaid.{PhaseSaid}
+use Rattle.fkv_words.specs.PhaseWords.{phase_said}
 use Rattle.fkv_plane.specs.declared.asks.Ask.{Ask}
 use Rattle.fkv_plane.specs.declared.asks.Ask.TheVariants.{Done}
 use Rattle.fkv_plane.specs.declared.places.Places.{Places}
@@ -28,14 +30,14 @@ use Rattle.fkv_ops.specs.declared.requests.Seen.{Seen}
 use Rattle.fkv_ops.specs.declared.trying.OldValue.{OldValue}
 use Rattle.fkv_ops.specs.declared.trying.OldValue.TheVariants.{InMemory, Known}
 use Rattle.fkv_ops.specs.declared.trying.Trying.{Trying}
-use Rattle.fkv_ops.specs.declared.trying.Trying.TheVariants.{Ended, TakesShared, Walks, LoadsSafe, SwapsValue, LoadsCurrent, ChangesValue, LoadsAnswer, TakesExclusive, LoadsOld, Appends, DropsExclusive, DropsShared}
+use Rattle.fkv_ops.specs.declared.trying.Trying.TheVariants.{Ended, TakesShared, LoadsPhase, Walks, LoadsSafe, SwapsValue, LoadsCurrent, ChangesValue, LoadsAnswer, TakesExclusive, LoadsOld, Appends, DropsExclusive, DropsShared}
 use Rattle.fkv_ops.specs.declared.walking.WalkAnswer.{WalkAnswer}
 use Rattle.fkv_ops.specs.declared.walking.WalkAnswer.TheVariants as walk
 use Rattle.fkv_ops.specs.Requests.{is_read, is_blind}
 use Rattle.fkv_ops.specs.Values.{value_of}
 use Rattle.fkv_ops.specs.Walking.{walk_ask, walk_next, walk_on}
 use Rattle.fkv_ops.specs.Appending.{append_ask, append_next}
-use Rattle.fkv_ops.specs.Trying.{TryState, with_latch, is_wait, ended_without, ends, takes_effect, full_at, wants_shared, walks, try_begun, shared_ledto, must_shift, wants_exclusive, appends, copies_from, copies, awaits, held_used, changes, is_own_version, region_met, walked, has_walked, walk_ledto, safe_loaded, current_ledto, value_changed, told_value, answer_ledto, exclusive_ledto, old_ledto, append_ledto, exclusive_dropped, shared_dropped, latch_moved, walk_moved, trying_next, try_next, new_try}
+use Rattle.fkv_ops.specs.Trying.{TryState, with_latch, is_wait, ended_without, ends, takes_effect, full_at, wants_shared, walks, try_begun, is_next_marked, shared_ledto, is_still_in, phase_loaded, is_surely_own, must_shift, wants_exclusive, appends, copies_from, copies, awaits, held_used, changes, is_own_version, region_met, walked, has_walked, walk_ledto, safe_loaded, current_ledto, value_changed, told_value, answer_ledto, exclusive_ledto, old_ledto, append_ledto, exclusive_dropped, shared_dropped, latch_moved, walk_moved, trying_next, try_next, new_try}
 use Rattle.law_local.specs.Sessions.Inputs.{WalksFor, IsTryFor}
 use Rattle.law_local.specs.Tries.TryRows.{IsWalkFor}
 use Rattle.law_local.proofs.OfSessions.WalkInputs.{walk_for, walk_on_for}
@@ -142,9 +144,15 @@ module _ (bits : ℕ) (request : Request) (seen : Seen) (occasion : Occasion) wh
 
   shared_so : (p : Places) (t : TryState) (ask : Ask LatchAnswer) → t.step ≡ TakesShared → IsGiven t → IsSo (shared_ledto p t ask)
   unfolding shared_ledto
-  shared_so p t (Done latch.Taken) at given = walks_so p (record t { has_shared = true }) given
+  shared_so p t (Done latch.Taken) at given =
+      let loads : TryState = record t { has_shared = true; step = LoadsPhase } in
+      either_so (is_next_marked t.request.version) loads (walks p (record t { has_shared = true })) (made loads LoadsPhase refl given tt) (walks_so p (record t { has_shared = true }) given)
   shared_so p t (Done told) at given = ends_so p t answer.Shift given
   shared_so p t ask at given = made t TakesShared at given tt
+
+  phase_so : (p : Places) (t : TryState) (said : PhaseSaid) → IsGiven t → IsSo (phase_loaded p t said)
+  unfolding phase_loaded
+  phase_so p t said given = either_so (is_still_in said t.request.version) (walks p t) (ends p t answer.Shift) (walks_so p t given) (ends_so p t answer.Shift given)
 
   walk_so : (p : Places) (t : TryState) (ask : Ask WalkAnswer) → t.step ≡ Walks → IsGiven t → IsWalking t → IsSo (walk_ledto p t ask)
   unfolding walk_ledto
@@ -155,7 +163,7 @@ module _ (bits : ℕ) (request : Request) (seen : Seen) (occasion : Occasion) wh
 
   safe_so : (p : Places) (t : TryState) (addr : Addr) (version : Version) (safe : ℕ) → IsGiven t → IsWalking t → IsSo (safe_loaded p t addr version safe)
   safe_so p t addr version safe given its =
-      either_so (nat_le safe addr.0) (ends p t (answer.Wait reason.Fuzzy)) (copies p t InMemory (is_own_version t version)) (ends_so p t (answer.Wait reason.Fuzzy) given) (copies_so p t InMemory (is_own_version t version) given its)
+      either_so (nat_le safe addr.0) (ends p t (answer.Wait reason.Fuzzy)) (copies p t InMemory (is_surely_own t version)) (ends_so p t (answer.Wait reason.Fuzzy) given) (copies_so p t InMemory (is_surely_own t version) given its)
 
   current_so : (p : Places) (t : TryState) (addr : Addr) (ask : Ask WalkAnswer) → t.step ≡ LoadsCurrent addr → IsGiven t → IsWalking t → IsSo (current_ledto p t addr ask)
   unfolding current_ledto
@@ -207,6 +215,7 @@ module _ (bits : ℕ) (request : Request) (seen : Seen) (occasion : Occasion) wh
   unfolding trying_next
   step_so p room t (Ended its) reply at given walking = made t (Ended its) at given tt
   step_so p room t TakesShared reply at given walking = shared_so p (latch_moved t reply) (latch_next_ask t.latching reply) at given
+  step_so p room t LoadsPhase reply at given walking = phase_so p t (phase_said reply) given
   step_so p room t Walks reply at given walking = walk_so p (walk_moved p t reply) (walk_ask p (walk_next p t.walk reply)) at given (walk_for p request seen t.walk reply walking)
   step_so p room t (LoadsSafe addr version) reply at given walking = safe_so p t addr version reply given walking
   step_so p room t (SwapsValue addr) reply at given walking = takes_so p t _ given

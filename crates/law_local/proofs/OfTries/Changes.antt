@@ -77,17 +77,17 @@ at_append home log request its cell step e knows = (at_reserve home log request 
 
 pub reserve_enabled : (home : ℕ → ℕ) (log : Log) (p : Places) (room : ℕ) (t : TryState) (reply : ℕ) (its : Reply) (addr : Addr) (entry : HistoryEntry) → TryKnows home log t → IsTrueReply home log p t t.step reply → t.step ≡ Appends its
     → t.append.step ≡ appending.Reserves → reserve_next_ask room t.append.reserving reply ≡ Done (answer.Reserved addr) → IsEntryOf t.request.op its entry
-    → ((cell_of t.append.its_words).previous < addr.0) × IsMade home log entry (cell_of t.append.its_words)
+    → ((cell_of t.request.version.0 t.append.its_words).previous < addr.0) × IsMade home log entry (cell_of t.request.version.0 t.append.its_words)
 reserve_enabled home log p room t reply its addr entry knows says at append_at won is = (
-  within_below log (home (cell_of t.append.its_words).key) (cell_of t.append.its_words).previous addr.0 (reserved_above log room t.append.reserving reply addr true_tail won) made.leads,
+  within_below log (home (cell_of t.request.version.0 t.append.its_words).key) (cell_of t.request.version.0 t.append.its_words).previous addr.0 (reserved_above log room t.append.reserving reply addr true_tail won) made.leads,
   made,
 )
   where
     row : TryRow home log t (Appends its)
     row = subst (TryRow home log t) at knows.row
 
-    made : IsMade home log entry (cell_of t.append.its_words)
-    made = at_append home log t.request its (cell_of t.append.its_words) t.append.step append_at row.1 entry is
+    made : IsMade home log entry (cell_of t.request.version.0 t.append.its_words)
+    made = at_append home log t.request its (cell_of t.request.version.0 t.append.its_words) t.append.step append_at row.1 entry is
 
     told : IsTrueReply home log p t (Appends its) reply
     told = subst (λ step. IsTrueReply home log p t step reply) at says

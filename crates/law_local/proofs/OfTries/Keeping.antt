@@ -47,9 +47,10 @@ append_kept home m log log' request its cell (appending.Publishes addr) held gro
 append_kept home m log log' request its cell appending.Invalidates held grows older knows = tt
 
 row_kept : (home : ℕ → ℕ) (m : Map) (log log' : Log) (t : TryState) (step : Trying) → Held home m log → Grows home m log log' → OlderAreFixed log t.request.version.0 → TryRow home log t step → KeepsForTry home log log' t step
-row_kept home m log log' t (try.Appends its) held grows older row = append_kept home m log log' t.request its (cell_of t.append.its_words) t.append.step held grows older row.1
+row_kept home m log log' t (try.Appends its) held grows older row = append_kept home m log log' t.request its (cell_of t.request.version.0 t.append.its_words) t.append.step held grows older row.1
 row_kept home m log log' t (try.Ended its) held grows older row = tt
 row_kept home m log log' t try.TakesShared held grows older row = tt
+row_kept home m log log' t try.LoadsPhase held grows older row = tt
 row_kept home m log log' t try.Walks held grows older row = tt
 row_kept home m log log' t (try.LoadsSafe addr version) held grows older row = tt
 row_kept home m log log' t (try.SwapsValue addr) held grows older row = tt
@@ -83,9 +84,10 @@ same_append home log log' cell (appending.Publishes addr) same = tt
 same_append home log log' cell appending.Invalidates same = tt
 
 pub same_kept : (home : ℕ → ℕ) (log log' : Log) (t : TryState) (step : Trying) → log'.cells ≡ log.cells → KeepsForTry home log log' t step
-same_kept home log log' t (try.Appends its) same = same_append home log log' (cell_of t.append.its_words) t.append.step same
+same_kept home log log' t (try.Appends its) same = same_append home log log' (cell_of t.request.version.0 t.append.its_words) t.append.step same
 same_kept home log log' t (try.Ended its) same = tt
 same_kept home log log' t try.TakesShared same = tt
+same_kept home log log' t try.LoadsPhase same = tt
 same_kept home log log' t try.Walks same = tt
 same_kept home log log' t (try.LoadsSafe addr version) same = tt
 same_kept home log log' t (try.SwapsValue addr) same = tt

@@ -1,8 +1,7 @@
 -- What a record is made of: the words that are written stand for what the operation makes, and a value that doesn't count may be any.
-use Rattle.std.proofs.Common.{◌≡◌, ◌≢◌, ℕ, ◌≤◌, ◌+◌, ◌∙◌, refl, sym, ap, subst, arith, Bool, true, false, Option, Some, None}
+use Rattle.std.proofs.Common.{◌≡◌, ◌≢◌, ℕ, ◌≤◌, ◌+◌, ◌∙◌, refl, sym, ap, arith, Bool, true, false, Option, Some, None}
 use Rattle.std.specs.Prelude.{◌==◌, if◌then◌else◌, min, max, IfSome}
 use Rattle.std.proofs.Math.Nat.{min-le_right}
-use Rattle.fkv_marks.proofs.Shown.{mark_small}
 use Rattle.fkv_map.specs.declared.operations.Op.{Op}
 use Rattle.fkv_map.specs.declared.operations.Op.TheVariants.{Upsert, Delete, Add, Max, Read, Merge}
 use Rattle.fkv_map.specs.Map.{absent_word, greatest_value, IsReserved, merged}
@@ -90,11 +89,11 @@ blind_old op word value blind = record {
 -- ---- a record that is made of an old value
 pub made_so : (home : ℕ → ℕ) (log : Log) (request : Request) (entry word : ℕ) → (IsReserved request.op → ⊥) → IsWithin (entry_addr entry) (log.chains (home (key_in request)))
     → StandsStill log (first_of home log request (entry_addr entry)) request.version.0 → IsOldFor request.op word (value_at (log.cells (first_of home log request (entry_addr entry))))
-    → IsMadeFor home log request.op (reply_from (value_of word) request.op) (cell_of (words_of request entry (value_of word)))
+    → IsMadeFor home log request.op (reply_from (value_of word) request.op) (cell_of request.version.0 (words_of request entry (value_of word)))
 made_so home log request entry word plain begins still its_old = λ its is. record {
   its_key = ap (λ o. (key_of o).0) (sym is.0);
   leads = begins;
-  still = subst (StandsStill log (first_of home log request (entry_addr entry))) (sym (mark_small request.version.0 request.version_fits)) still;
+  still = still;
   its_value = made_word word request.op plain ∙ its_old.same_value ∙ ap (value_applied (value_at (log.cells (first_of home log request (entry_addr entry))))) (sym is.0);
   its_reply = is.1 ∙ its_old.same_reply ∙ ap (reply_from (value_at (log.cells (first_of home log request (entry_addr entry))))) (sym is.0);
 }

@@ -61,44 +61,45 @@ changed_needs home log after p t old found = by_test (found == old)
     by_test false = ends_need home log after p t (answer.Wait reason.Contended)
 
 -- ---- an append
-abbrev pub AppendNeeds : (ℕ → ℕ) → Log → Log → AppendState → Type 0
-AppendNeeds home log after a = KeepsForAppend home log after (cell_of a.its_words) a.step
+-- what is kept for one that makes a record of this version
+abbrev pub AppendNeeds : (ℕ → ℕ) → Log → Log → ℕ → AppendState → Type 0
+AppendNeeds home log after version a = KeepsForAppend home log after (cell_of version a.its_words) a.step
 
-reserved_needs : (home : ℕ → ℕ) (log after : Log) (a : AppendState) (addr : Addr) → AppendNeeds home log after (addr_reserved a addr)
-reserved_needs home log after a addr = by_test (nat_lt a.its_words.header.previous.0 addr.0 && nat_lt addr.0 (2 ^ 48))
+reserved_needs : (home : ℕ → ℕ) (log after : Log) (version : ℕ) (a : AppendState) (addr : Addr) → AppendNeeds home log after version (addr_reserved a addr)
+reserved_needs home log after version a addr = by_test (nat_lt a.its_words.header.previous.0 addr.0 && nat_lt addr.0 (2 ^ 48))
   where
-    by_test : (b : Bool) → AppendNeeds home log after (if b then record a { filling = fill_begun addr a.its_words; step = appending.Fills addr } else append_ended a append.Contended)
+    by_test : (b : Bool) → AppendNeeds home log after version (if b then record a { filling = fill_begun addr a.its_words; step = appending.Fills addr } else append_ended a append.Contended)
     by_test true = tt
     by_test false = tt
 
-taken_needs : (home : ℕ → ℕ) (log after : Log) (p : Places) (room : ℕ) (a : AppendState) (reply : ℕ) (addr : Addr) → a.step ≡ appending.Reserves → reserve_next_ask room a.reserving reply ≡ Done (reserve.Reserved addr) → AppendNeeds home log after (append_next p room a reply)
+taken_needs : (home : ℕ → ℕ) (log after : Log) (version : ℕ) (p : Places) (room : ℕ) (a : AppendState) (reply : ℕ) (addr : Addr) → a.step ≡ appending.Reserves → reserve_next_ask room a.reserving reply ≡ Done (reserve.Reserved addr) → AppendNeeds home log after version (append_next p room a reply)
 unfolding appending_next reserve_ledto
-taken_needs home log after p room a reply addr at won =
-    subst (λ step. AppendNeeds home log after (appending_next p room a step reply)) (sym at)
-    (subst (λ ask. AppendNeeds home log after (reserve_ledto (record a { reserving = reserve_next a.reserving reply }) ask)) (sym won) (reserved_needs home log after (record a { reserving = reserve_next a.reserving reply }) addr))
+taken_needs home log after version p room a reply addr at won =
+    subst (λ step. AppendNeeds home log after version (appending_next p room a step reply)) (sym at)
+    (subst (λ ask. AppendNeeds home log after version (reserve_ledto (record a { reserving = reserve_next a.reserving reply }) ask)) (sym won) (reserved_needs home log after version (record a { reserving = reserve_next a.reserving reply }) addr))
 
-published_needs : (home : ℕ → ℕ) (log after : Log) (a : AppendState) (addr : Addr) (ask : Ask PublishAnswer) → a.step ≡ appending.Publishes addr → AppendNeeds home log after (publish_ledto a addr ask)
+published_needs : (home : ℕ → ℕ) (log after : Log) (version : ℕ) (a : AppendState) (addr : Addr) (ask : Ask PublishAnswer) → a.step ≡ appending.Publishes addr → AppendNeeds home log after version (publish_ledto a addr ask)
 unfolding publish_ledto
-published_needs home log after a addr (Done publish.Won) at = tt
-published_needs home log after a addr (Done publish.Lost) at = tt
-published_needs home log after a addr ask at = subst (KeepsForAppend home log after (cell_of a.its_words)) (sym at) tt
+published_needs home log after version a addr (Done publish.Won) at = tt
+published_needs home log after version a addr (Done publish.Lost) at = tt
+published_needs home log after version a addr ask at = subst (KeepsForAppend home log after (cell_of version a.its_words)) (sym at) tt
 
-publish_needs : (home : ℕ → ℕ) (log after : Log) (p : Places) (room : ℕ) (a : AppendState) (reply : ℕ) (addr : Addr) → a.step ≡ appending.Publishes addr → AppendNeeds home log after (append_next p room a reply)
+publish_needs : (home : ℕ → ℕ) (log after : Log) (version : ℕ) (p : Places) (room : ℕ) (a : AppendState) (reply : ℕ) (addr : Addr) → a.step ≡ appending.Publishes addr → AppendNeeds home log after version (append_next p room a reply)
 unfolding appending_next
-publish_needs home log after p room a reply addr at =
-    subst (λ step. AppendNeeds home log after (appending_next p room a step reply)) (sym at) (published_needs home log after (record a { publishing = publish_next a.publishing reply }) addr (publish_next_ask a.publishing reply) at)
+publish_needs home log after version p room a reply addr at =
+    subst (λ step. AppendNeeds home log after version (appending_next p room a step reply)) (sym at) (published_needs home log after version (record a { publishing = publish_next a.publishing reply }) addr (publish_next_ask a.publishing reply) at)
 
-invalidated_needs : (home : ℕ → ℕ) (log after : Log) (a : AppendState) (ask : Ask (Unit {0})) → a.step ≡ appending.Invalidates → AppendNeeds home log after (invalidate_ledto a ask)
+invalidated_needs : (home : ℕ → ℕ) (log after : Log) (version : ℕ) (a : AppendState) (ask : Ask (Unit {0})) → a.step ≡ appending.Invalidates → AppendNeeds home log after version (invalidate_ledto a ask)
 unfolding invalidate_ledto
-invalidated_needs home log after a (Done told) at = tt
-invalidated_needs home log after a ask at = subst (KeepsForAppend home log after (cell_of a.its_words)) (sym at) tt
+invalidated_needs home log after version a (Done told) at = tt
+invalidated_needs home log after version a ask at = subst (KeepsForAppend home log after (cell_of version a.its_words)) (sym at) tt
 
-invalidate_needs : (home : ℕ → ℕ) (log after : Log) (p : Places) (room : ℕ) (a : AppendState) (reply : ℕ) → a.step ≡ appending.Invalidates → AppendNeeds home log after (append_next p room a reply)
+invalidate_needs : (home : ℕ → ℕ) (log after : Log) (version : ℕ) (p : Places) (room : ℕ) (a : AppendState) (reply : ℕ) → a.step ≡ appending.Invalidates → AppendNeeds home log after version (append_next p room a reply)
 unfolding appending_next
-invalidate_needs home log after p room a reply at =
-    subst (λ step. AppendNeeds home log after (appending_next p room a step reply)) (sym at) (invalidated_needs home log after (record a { invalidating = invalidate_next a.invalidating }) (invalidate_ask p (invalidate_next a.invalidating)) at)
+invalidate_needs home log after version p room a reply at =
+    subst (λ step. AppendNeeds home log after version (appending_next p room a step reply)) (sym at) (invalidated_needs home log after version (record a { invalidating = invalidate_next a.invalidating }) (invalidate_ask p (invalidate_next a.invalidating)) at)
 
-append_needs : (home : ℕ → ℕ) (log after : Log) (p : Places) (t : TryState) (its : Reply) (ask : Ask AppendAnswer) → t.step ≡ try.Appends its → AppendNeeds home log after t.append → Needs home log after (append_ledto p t its ask)
+append_needs : (home : ℕ → ℕ) (log after : Log) (p : Places) (t : TryState) (its : Reply) (ask : Ask AppendAnswer) → t.step ≡ try.Appends its → AppendNeeds home log after t.request.version.0 t.append → Needs home log after (append_ledto p t its ask)
 unfolding append_ledto
 append_needs home log after p t its (Done append.Published) at needs = ends_need home log after p (record t { effect = Some its }) (answer.Done its)
 append_needs home log after p t its (Done append.Full) at needs = ends_need home log after p t (full_at t.occasion answer.LogFull)
@@ -106,7 +107,7 @@ append_needs home log after p t its (Done append.NoRoom) at needs = ends_need ho
 append_needs home log after p t its (Done append.Contended) at needs = ends_need home log after p t (answer.Wait reason.Contended)
 append_needs home log after p t its ask at needs = subst (KeepsForTry home log after t) (sym at) needs
 
-appends_need : (home : ℕ → ℕ) (log after : Log) (p : Places) (room : ℕ) (t : TryState) (reply : ℕ) (its : Reply) → t.step ≡ try.Appends its → AppendNeeds home log after (append_next p room t.append reply) → Needs home log after (try_next p room t reply)
+appends_need : (home : ℕ → ℕ) (log after : Log) (p : Places) (room : ℕ) (t : TryState) (reply : ℕ) (its : Reply) → t.step ≡ try.Appends its → AppendNeeds home log after t.request.version.0 (append_next p room t.append reply) → Needs home log after (try_next p room t reply)
 unfolding trying_next
 appends_need home log after p room t reply its at needs =
     subst (λ step. Needs home log after (trying_next p room (record t { effect = None }) step reply)) (sym at)
@@ -125,9 +126,9 @@ changes_need home log after p room t reply addr old at =
 pub own_needs : (home : ℕ → ℕ) (log after : Log) (p : Places) (room : ℕ) (t : TryState) (reply : ℕ) → ChangesLog room t reply → Needs home log after (try_next p room t reply)
 own_needs home log after p room t reply (Swaps {addr = addr} at) = swaps_need home log after p room t reply addr at
 own_needs home log after p room t reply (Changes {addr = addr} {old = old} at) = changes_need home log after p room t reply addr old at
-own_needs home log after p room t reply (TakesAddress {its = its} {addr = addr} at append_at won) = appends_need home log after p room t reply its at (taken_needs home log after p room t.append reply addr append_at won)
-own_needs home log after p room t reply (Publishes {its = its} {addr = addr} at append_at) = appends_need home log after p room t reply its at (publish_needs home log after p room t.append reply addr append_at)
-own_needs home log after p room t reply (GivesUp {its = its} at append_at) = appends_need home log after p room t reply its at (invalidate_needs home log after p room t.append reply append_at)
+own_needs home log after p room t reply (TakesAddress {its = its} {addr = addr} at append_at won) = appends_need home log after p room t reply its at (taken_needs home log after t.request.version.0 p room t.append reply addr append_at won)
+own_needs home log after p room t reply (Publishes {its = its} {addr = addr} at append_at) = appends_need home log after p room t reply its at (publish_needs home log after t.request.version.0 p room t.append reply addr append_at)
+own_needs home log after p room t reply (GivesUp {its = its} at append_at) = appends_need home log after p room t reply its at (invalidate_needs home log after t.request.version.0 p room t.append reply append_at)
 
 -- ---- and so does the attempt
 abbrev pub AttemptNeeds : (ℕ → ℕ) → Log → Log → AttemptState → Type 0

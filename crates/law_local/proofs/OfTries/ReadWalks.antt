@@ -213,6 +213,7 @@ trying_reads : (home : ℕ → ℕ) (log : Log) (p : Places) (room : ℕ) (readi
 unfolding trying_next trying_ask
 trying_reads home log p room reading t (try.Ended its) reply reads free at row asks says goes = done_not its asks
 trying_reads home log p room reading t try.TakesShared reply reads free at row asks says goes = not_both (is_read t.request.op) reads row
+trying_reads home log p room reading t try.LoadsPhase reply reads free at row asks says goes = not_both (is_read t.request.op) reads row
 trying_reads home log p room reading t try.Walks reply reads free at row asks says goes =
     walk_led_on (key_in t.request) (started home log reading (walk_starts p t.walk t.walk.step reply)) p (record t { effect = None; walk = walk_next p t.walk reply }) (walk_ask p (walk_next p t.walk reply)) reads free at
     (subst (λ (k : Key). WalkReads k.0 (started home log reading (walk_starts p t.walk t.walk.step reply)) (walk_next p t.walk reply) (walk_next p t.walk reply).step) row.0.its_key

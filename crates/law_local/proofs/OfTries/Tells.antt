@@ -206,6 +206,7 @@ row_tells : (home : ℕ → ℕ) (log : Log) (p : Places) (room : ℕ) (t : TryS
 unfolding trying_next trying_ask
 row_tells home log p room t (try.Ended its) reply orderly reads free at row asks says = done_not its asks
 row_tells home log p room t try.TakesShared reply orderly reads free at row asks says = not_both (is_read t.request.op) reads row
+row_tells home log p room t try.LoadsPhase reply orderly reads free at row asks says = not_both (is_read t.request.op) reads row
 row_tells home log p room t try.Walks reply orderly reads free at row asks says =
     walk_led_tells home log p (record t { effect = None; walk = walk_next p t.walk reply }) (walk_ask p (walk_next p t.walk reply)) orderly reads free at
     (record { its_key = kept.key ∙ row.0.its_key; its_head = kept.head ∙ row.0.its_head }) (walk_leads home log p t.walk reply orderly.chains row.1 says) refl
@@ -244,6 +245,7 @@ row_seeks : (home : ℕ → ℕ) (log : Log) (p : Places) (t : TryState) (step :
 unfolding trying_ask
 row_seeks home log p t (try.Ended its) it row e = awaited home log t.request t.seen its it (the_answer its (answer.AwaitsDisk it) e) row
 row_seeks home log p t try.TakesShared it row e = sought_not (latch_ask t.latching) it e
+row_seeks home log p t try.LoadsPhase it row e = cc
 row_seeks home log p t try.Walks it row e = sought_not (walk_ask p t.walk) it e
 row_seeks home log p t (try.LoadsSafe addr version) it row e = cc
 row_seeks home log p t (try.SwapsValue addr) it row e = cc

@@ -7,6 +7,8 @@ use Rattle.fkv_marks.specs.Marks.{mark}
 use Rattle.fkv_map.specs.declared.operations.Reply.{Reply}
 use Rattle.fkv_map.specs.Map.{absent_word}
 use Rattle.fkv_map.specs.Keys.{key_of, reply_from}
+use Rattle.fkv_words.specs.declared.phase_words.PhaseSaid.{PhaseSaid}
+use Rattle.fkv_words.specs.PhaseWords.{phase_said}
 use Rattle.fkv_plane.specs.declared.asks.Ask.{Ask}
 use Rattle.fkv_plane.specs.declared.asks.Ask.TheVariants.{Done}
 use Rattle.fkv_plane.specs.declared.places.Places.{Places}
@@ -36,7 +38,7 @@ use Rattle.fkv_ops.specs.Requests.{is_read, is_blind}
 use Rattle.fkv_ops.specs.Values.{value_of}
 use Rattle.fkv_ops.specs.Walking.{walk_ask, walk_next, walk_on}
 use Rattle.fkv_ops.specs.Appending.{append_ask, append_next}
-use Rattle.fkv_ops.specs.Trying.{TryState, is_wait, with_latch, ended_without, ends, takes_effect, full_at, walks, wants_shared, try_begun, shared_ledto, must_shift, wants_exclusive, appends, copies_from, copies, awaits, held_used, met_nowhere, met_disk, changes, is_own_version, region_met, met_record, walked, has_walked, walk_ledto, current_ledto, told_value, answer_ledto, exclusive_ledto, old_ledto, append_ledto, exclusive_dropped, shared_dropped, trying_next, try_next, new_try}
+use Rattle.fkv_ops.specs.Trying.{TryState, is_wait, with_latch, ended_without, ends, takes_effect, full_at, walks, wants_shared, try_begun, is_marked, is_next_marked, shared_ledto, is_still_in, phase_loaded, must_shift, wants_exclusive, appends, copies_from, copies, awaits, held_used, met_nowhere, met_disk, changes, is_own_version, region_met, met_record, walked, has_walked, walk_ledto, current_ledto, told_value, answer_ledto, exclusive_ledto, old_ledto, append_ledto, exclusive_dropped, shared_dropped, trying_next, try_next, new_try}
 use Rattle.law_local.specs.Tries.Tells.{TryGoesFrom}
 use Rattle.law_local.proofs.OfTries.WalkRows.{same_on}
 
@@ -141,9 +143,17 @@ as_kept t u t' request seen keeps = record { request = keeps.request ∙ request
 walks_kept : (p : Places) (t : TryState) → KeepsRequest t (walks p t)
 walks_kept p t = record { request = refl; seen = refl }
 
+by_choice : (t : TryState) (b : Bool) (x y : TryState) → KeepsRequest t x → KeepsRequest t y → KeepsRequest t (if b then x else y)
+by_choice t true x y first second = first
+by_choice t false x y first second = second
+
+phase_kept : (p : Places) (t : TryState) (said : PhaseSaid) → KeepsRequest t (phase_loaded p t said)
+unfolding phase_loaded
+phase_kept p t said = by_choice t (is_still_in said t.request.version) (walks p t) (ends p t answer.Shift) (record { request = refl; seen = refl }) (as_kept t t (ends p t answer.Shift) refl refl (ends_keeps p t answer.Shift))
+
 shared_kept : (p : Places) (t : TryState) (ask : Ask LatchAnswer) → KeepsRequest t (shared_ledto p t ask)
 unfolding shared_ledto
-shared_kept p t (Done latch.Taken) = record { request = refl; seen = refl }
+shared_kept p t (Done latch.Taken) = by_choice t (is_next_marked t.request.version) (record t { has_shared = true; step = try.LoadsPhase }) (walks p (record t { has_shared = true })) (record { request = refl; seen = refl }) (record { request = refl; seen = refl })
 shared_kept p t (Done its) = as_kept t t (ends p t answer.Shift) refl refl (ends_keeps p t answer.Shift)
 shared_kept p t ask = record { request = refl; seen = refl }
 
@@ -192,19 +202,16 @@ append_kept p t its (Done append.NoRoom) = as_kept t t (ends p t (answer.Wait re
 append_kept p t its (Done append.Contended) = as_kept t t (ends p t (answer.Wait reason.Contended)) refl refl (ends_keeps p t (answer.Wait reason.Contended))
 append_kept p t its ask = record { request = refl; seen = refl }
 
-by_choice : (t : TryState) (b : Bool) (x y : TryState) → KeepsRequest t x → KeepsRequest t y → KeepsRequest t (if b then x else y)
-by_choice t true x y first second = first
-by_choice t false x y first second = second
-
 row_kept : (p : Places) (room : ℕ) (t : TryState) (step : Trying) (reply : ℕ) → KeepsRequest t (trying_next p room (record t { effect = None }) step reply)
 unfolding trying_next
 row_kept p room t (try.Ended its) reply = record { request = refl; seen = refl }
 row_kept p room t try.TakesShared reply = let kept = shared_kept p (record t { effect = None; latching = latch_next t.latching reply }) (latch_next_ask t.latching reply) in record { request = kept.request; seen = kept.seen }
+row_kept p room t try.LoadsPhase reply = let kept = phase_kept p (record t { effect = None }) (phase_said reply) in record { request = kept.request; seen = kept.seen }
 row_kept p room t try.Walks reply = let kept = walk_led_keeps p (record t { effect = None; walk = walk_next p t.walk reply }) (walk_ask p (walk_next p t.walk reply)) in record { request = kept.request; seen = kept.seen }
 row_kept p room t (try.LoadsSafe addr version) reply =
-    by_choice t (nat_le reply addr.0) (ends p (record t { effect = None }) (answer.Wait reason.Fuzzy)) (copies p (record t { effect = None }) InMemory (version.0 == mark t.request.version.0))
+    by_choice t (nat_le reply addr.0) (ends p (record t { effect = None }) (answer.Wait reason.Fuzzy)) (copies p (record t { effect = None }) InMemory (not (is_marked t.request.version) && version.0 == mark t.request.version.0))
     (as_kept t (record t { effect = None }) (ends p (record t { effect = None }) (answer.Wait reason.Fuzzy)) refl refl (ends_keeps p (record t { effect = None }) (answer.Wait reason.Fuzzy)))
-    (as_kept t (record t { effect = None }) (copies p (record t { effect = None }) InMemory (version.0 == mark t.request.version.0)) refl refl (copies_keeps p (record t { effect = None }) InMemory (version.0 == mark t.request.version.0)))
+    (as_kept t (record t { effect = None }) (copies p (record t { effect = None }) InMemory (not (is_marked t.request.version) && version.0 == mark t.request.version.0)) refl refl (copies_keeps p (record t { effect = None }) InMemory (not (is_marked t.request.version) && version.0 == mark t.request.version.0)))
 row_kept p room t (try.SwapsValue addr) reply = let kept = effect_kept p (record t { effect = None }) (reply_from None t.request.op) in record { request = kept.request; seen = kept.seen }
 row_kept p room t (try.LoadsCurrent addr) reply = let kept = current_keeps p (record t { effect = None; walk = walk_next p t.walk reply }) addr (walk_ask p (walk_next p t.walk reply)) in record { request = kept.request; seen = kept.seen }
 row_kept p room t (try.ChangesValue addr old) reply =
@@ -242,6 +249,7 @@ row_goes p room t try.Walks reply at = ap (λ step. (trying_next p room (record 
 row_goes p room t try.LoadsAnswer reply at = ap (λ step. (trying_next p room (record t { effect = None }) step reply).walk.entry) at ∙ (answer_keeps p (record t { effect = None; walk = walk_next p t.walk reply }) (walk_ask p (walk_next p t.walk reply))).entry
 row_goes p room t (try.Ended its) reply at = tt
 row_goes p room t try.TakesShared reply at = tt
+row_goes p room t try.LoadsPhase reply at = tt
 row_goes p room t (try.LoadsSafe addr version) reply at = tt
 row_goes p room t (try.SwapsValue addr) reply at = tt
 row_goes p room t (try.LoadsCurrent addr) reply at = tt

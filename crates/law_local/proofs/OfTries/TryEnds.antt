@@ -4,7 +4,6 @@ use Rattle.std.specs.Prelude.{◌&&◌, not, if◌then◌else◌}
 use Rattle.fkv_base.specs.declared.numbers.Addr.{Addr}
 use Rattle.fkv_base.specs.declared.numbers.Key.{Key}
 use Rattle.fkv_base.specs.declared.numbers.Version.{Version}
-use Rattle.fkv_marks.proofs.Shown.{mark_small}
 use Rattle.fkv_map.specs.Map.{absent_word}
 use Rattle.fkv_plane.specs.declared.places.Places.{Places}
 use Rattle.fkv_latch.specs.declared.latching.LatchTask.TheVariants.{DropShared, DropExclusive, TakeExclusive}
@@ -80,7 +79,7 @@ unfolding appends
 appends_knows home log t old request update begins still its_old = record {
   request = request;
   free = update_free t.request t.has_shared t.has_exclusive update;
-  row = (update, (mark_small t.request.version.0 t.request.version_fits, made_so home log t.request t.walk.entry old request.plain begins still its_old));
+  row = (update, (refl, made_so home log t.request t.walk.entry old request.plain begins still its_old));
 }
 
 -- the record that the walk stands at is the request's first one

@@ -21,7 +21,7 @@ use Rattle.fkv_ops.specs.declared.requests.Seen.{Seen}
 use Rattle.fkv_ops.specs.declared.trying.OldValue.{OldValue}
 use Rattle.fkv_ops.specs.declared.trying.OldValue.TheVariants.{InMemory, Known}
 use Rattle.fkv_ops.specs.declared.trying.Trying.{Trying}
-use Rattle.fkv_ops.specs.declared.trying.Trying.TheVariants.{Ended, TakesShared, Walks, LoadsSafe, SwapsValue, LoadsCurrent, ChangesValue, LoadsAnswer, TakesExclusive, LoadsOld, Appends, DropsExclusive, DropsShared}
+use Rattle.fkv_ops.specs.declared.trying.Trying.TheVariants.{Ended, TakesShared, LoadsPhase, Walks, LoadsSafe, SwapsValue, LoadsCurrent, ChangesValue, LoadsAnswer, TakesExclusive, LoadsOld, Appends, DropsExclusive, DropsShared}
 use Rattle.fkv_ops.specs.Walking.{WalkState}
 use Rattle.fkv_ops.specs.Trying.{TryState}
 use Rattle.law_local.specs.Tries.OnWay.{ComesBelow}
@@ -143,6 +143,7 @@ answer_grows home m log log' request seen its held grows knows = tt
 row_grows : (home : ℕ → ℕ) (m : Map) (log log' : Log) (t : TryState) (step : Trying) → Held home m log → Grows home m log log' → KeepsForTry home log log' t step → TryRow home log t step → TryRow home log' t step
 row_grows home m log log' t (Ended its) held grows keeps row = answer_grows home m log log' t.request t.seen its held grows row
 row_grows home m log log' t TakesShared held grows keeps row = row
+row_grows home m log log' t LoadsPhase held grows keeps row = row
 row_grows home m log log' t Walks held grows keeps row = (row.0, walk_grows home m log log' t.walk held grows row.1)
 row_grows home m log log' t (LoadsSafe addr version) held grows keeps row = (row.0, stands_grows home m log log' t.request t.seen t.walk addr version held grows row.1)
 row_grows home m log log' t (SwapsValue addr) held grows keeps row = (row.0, row.1, may_grows home m log log' t.request t.seen (begin_of t.walk) addr.0 held grows row.2)

@@ -4,6 +4,8 @@ use Rattle.std.specs.Prelude.{◌==◌, ◌&&◌, if◌then◌else◌, nat_lt, �
 use Rattle.fkv_base.specs.declared.numbers.Addr.{Addr}
 use Rattle.fkv_map.specs.declared.operations.Reply.{Reply}
 use Rattle.fkv_map.specs.Keys.{reply_from}
+use Rattle.fkv_words.specs.declared.phase_words.PhaseSaid.{PhaseSaid}
+use Rattle.fkv_words.specs.PhaseWords.{phase_said}
 use Rattle.fkv_plane.specs.declared.asks.Ask.{Ask}
 use Rattle.fkv_plane.specs.declared.asks.Ask.TheVariants.{Done}
 use Rattle.fkv_plane.specs.declared.places.Places.{Places}
@@ -35,14 +37,14 @@ use Rattle.fkv_ops.specs.declared.requests.Request.{Request}
 use Rattle.fkv_ops.specs.declared.requests.Seen.{Seen}
 use Rattle.fkv_ops.specs.declared.trying.OldValue.{OldValue}
 use Rattle.fkv_ops.specs.declared.trying.Trying.{Trying}
-use Rattle.fkv_ops.specs.declared.trying.Trying.TheVariants.{Ended, TakesShared, Walks, LoadsSafe, SwapsValue, LoadsCurrent, ChangesValue, LoadsAnswer, TakesExclusive, LoadsOld, Appends, DropsExclusive, DropsShared}
+use Rattle.fkv_ops.specs.declared.trying.Trying.TheVariants.{Ended, TakesShared, LoadsPhase, Walks, LoadsSafe, SwapsValue, LoadsCurrent, ChangesValue, LoadsAnswer, TakesExclusive, LoadsOld, Appends, DropsExclusive, DropsShared}
 use Rattle.fkv_ops.specs.declared.walking.WalkAnswer.TheVariants as walk
 use Rattle.fkv_ops.specs.declared.walking.Walking.{Walking}
 use Rattle.fkv_ops.specs.declared.walking.Walking.TheVariants as walking
 use Rattle.fkv_ops.specs.Values.{value_of}
 use Rattle.fkv_ops.specs.Walking.{WalkState, walk_ask, walk_next}
 use Rattle.fkv_ops.specs.Appending.{AppendState, append_ended, addr_reserved, reserve_ledto, fill_ledto, publish_ledto, invalidate_ledto, appending_next, append_ask, append_next}
-use Rattle.fkv_ops.specs.Trying.{TryState, ends, takes_effect, shared_ledto, current_ledto, value_changed, told_value, answer_ledto, exclusive_ledto, old_ledto, append_ledto, exclusive_dropped, shared_dropped, trying_next, try_next}
+use Rattle.fkv_ops.specs.Trying.{TryState, ends, takes_effect, walks, is_next_marked, latch_shared, shared_ledto, is_still_in, phase_loaded, current_ledto, value_changed, told_value, answer_ledto, exclusive_ledto, old_ledto, append_ledto, exclusive_dropped, shared_dropped, trying_next, try_next}
 use Rattle.law_local.specs.Tries.OnWay.{IsFoundAt, IsOrderly}
 use Rattle.law_local.specs.Tries.Replies.{IsTrueOfLoad, IsTrueOfWalk, IsTrueReply}
 use Rattle.law_local.specs.Tries.WalkRows.{begin_of, LoadsFrom}
@@ -74,9 +76,24 @@ found_value home log p request seen w addr reply its says =
     value_said home log p w addr reply its.loads says its.found.cell its.found.its ∙ sym (ap value_at its.found.its) ∙ sym (ap (λ a. value_at (log.cells a)) its.found.first)
 
 -- ---- latches
+latch_knows : (home : ℕ → ℕ) (log : Log) (p : Places) (t : TryState) → RequestKnows home log t.request t.seen → IsUpdate t.request → TryKnows home log (latch_shared p t)
+latch_knows home log p t request update = by_mark (is_next_marked t.request.version)
+  where
+    by_mark : (b : Bool) → TryKnows home log (if b then record t { step = LoadsPhase } else walks p t)
+    by_mark true = record { request = request; free = update_free t.request t.has_shared t.has_exclusive update; row = update }
+    by_mark false = walks_knows home log p t request (update_free t.request t.has_shared t.has_exclusive update)
+
+phase_knows : (home : ℕ → ℕ) (log : Log) (p : Places) (t : TryState) (said : PhaseSaid) → RequestKnows home log t.request t.seen → IsUpdate t.request → TryKnows home log (phase_loaded p t said)
+unfolding phase_loaded
+phase_knows home log p t said request update = by_word (is_still_in said t.request.version)
+  where
+    by_word : (b : Bool) → TryKnows home log (if b then walks p t else ends p t answer.Shift)
+    by_word true = walks_knows home log p t request (update_free t.request t.has_shared t.has_exclusive update)
+    by_word false = ends_knows home log p t answer.Shift request (update_free t.request t.has_shared t.has_exclusive update) tt
+
 shared_knows : (home : ℕ → ℕ) (log : Log) (p : Places) (t : TryState) (ask : Ask LatchAnswer) → RequestKnows home log t.request t.seen → IsUpdate t.request → t.step ≡ TakesShared → TryKnows home log (shared_ledto p t ask)
 unfolding shared_ledto
-shared_knows home log p t (Done latch.Taken) request update at = walks_knows home log p (record t { has_shared = true }) request (update_free t.request true t.has_exclusive update)
+shared_knows home log p t (Done latch.Taken) request update at = latch_knows home log p (record t { has_shared = true }) request update
 shared_knows home log p t (Done its) request update at = ends_knows home log p t answer.Shift request (update_free t.request t.has_shared t.has_exclusive update) tt
 shared_knows home log p t ask request update at = record { request = request; free = update_free t.request t.has_shared t.has_exclusive update; row = subst (TryRow home log t) (sym at) update }
 
@@ -110,7 +127,7 @@ changed_knows home log p t old found request update = by_test (found == old)
 -- ---- an append
 -- what the append is to write, and what is known of it
 abbrev pub MakesAt : (ℕ → ℕ) → Log → Request → Reply → AppendState → Type 0
-MakesAt home log request its a = AppendKnows home log request its (cell_of a.its_words) a.step
+MakesAt home log request its a = AppendKnows home log request its (cell_of request.version.0 a.its_words) a.step
 
 ended_append : (home : ℕ → ℕ) (log : Log) (request : Request) (its : Reply) (a : AppendState) (answer : AppendAnswer) → MakesAt home log request its (append_ended a answer)
 ended_append home log request its a answer = tt
@@ -193,6 +210,7 @@ row_leads : (home : ℕ → ℕ) (log : Log) (p : Places) (room : ℕ) (t : TryS
 unfolding trying_next
 row_leads home log p room t (Ended its) reply orderly newest marks request free at row says = record { request = request; free = free; row = subst (TryRow home log (record t { effect = None })) (sym at) row }
 row_leads home log p room t TakesShared reply orderly newest marks request free at row says = shared_knows home log p (record t { effect = None; latching = latch_next t.latching reply }) (latch_next_ask t.latching reply) request row at
+row_leads home log p room t LoadsPhase reply orderly newest marks request free at row says = phase_knows home log p (record t { effect = None }) (phase_said reply) request row
 row_leads home log p room t Walks reply orderly newest marks request free at row says =
     walk_led_knows home log p (record t { effect = None; walk = walk_next p t.walk reply }) (walk_ask p (walk_next p t.walk reply)) orderly (newest at) (marks at) request free at
     (record { its_key = kept.key ∙ row.0.its_key; its_head = kept.head ∙ row.0.its_head }) (walk_leads home log p t.walk reply orderly.chains row.1 says) refl

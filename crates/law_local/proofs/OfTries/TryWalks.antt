@@ -1,6 +1,6 @@
 -- Where the walk's end leads a try.
 use Rattle.std.proofs.Common.{◌≡◌, ℕ, ◌<◌, ◌≤◌, ◌∙◌, refl, inl, inr, arith, sym, ap, subst, Bool, true, false, Option, Some, None}
-use Rattle.std.specs.Prelude.{◌≢◌, ◌==◌, ◌&&◌, nat_lt, nat_le, if◌then◌else◌}
+use Rattle.std.specs.Prelude.{◌≢◌, ◌==◌, ◌&&◌, not, nat_lt, nat_le, if◌then◌else◌}
 use Rattle.fkv_base.specs.declared.numbers.Addr.{Addr}
 use Rattle.fkv_base.specs.declared.numbers.Key.{Key}
 use Rattle.fkv_base.specs.declared.numbers.Version.{Version}
@@ -27,7 +27,7 @@ use Rattle.fkv_ops.specs.declared.walking.WalkAnswer.{WalkAnswer}
 use Rattle.fkv_ops.specs.declared.walking.WalkAnswer.TheVariants as walk
 use Rattle.fkv_ops.specs.Requests.{is_read, is_blind}
 use Rattle.fkv_ops.specs.Walking.{walk_ask, walk_on}
-use Rattle.fkv_ops.specs.Trying.{TryState, ends, must_shift, copies, awaits, held_used, met_nowhere, met_disk, changes, region_met, met_record, walked, has_walked, walk_ledto, safe_loaded}
+use Rattle.fkv_ops.specs.Trying.{TryState, ends, is_marked, must_shift, copies, awaits, held_used, met_nowhere, met_disk, changes, region_met, met_record, walked, has_walked, walk_ledto, safe_loaded}
 use Rattle.law_local.specs.Tries.OnWay.{ComesBelow, FindsNone, IsFoundAt, IsOrderly}
 use Rattle.law_local.specs.Tries.WalkRows.{begin_of, WalkKnows, WalkTells}
 use Rattle.law_local.specs.Tries.HeldRows.{IsValueBelow, GoesOnBelow, HeldKnows}
@@ -144,9 +144,9 @@ changes_knows home log t addr version request update stands own mutable false e 
   );
 }
 
--- where the session may change the record, and its header has the mark of the request's version, the record is of that version
+-- where an update's session may change the record, and its header has the mark of the request's version, the record is of that version
 abbrev Tells : Log → TryState → Addr → Version → Type 0
-Tells log t addr said = t.seen.offsets.read_only.0 ≤ addr.0 → said.0 ≡ mark t.request.version.0 → version_at (log.cells addr.0) ≡ t.request.version.0
+Tells log t addr said = IsUpdate t.request → t.seen.offsets.read_only.0 ≤ addr.0 → said.0 ≡ mark t.request.version.0 → version_at (log.cells addr.0) ≡ t.request.version.0
 
 -- a record of another version than the request's is of an older one, as none is of a later
 older_there : (home : ℕ → ℕ) (log : Log) (request : Request) (from at version : ℕ) → IsOrderly home log → NoneAbove log (home (key_in request)) request.version.0 → IsFoundAt home log (key_in request) from at version → version ≢ request.version.0
@@ -169,7 +169,7 @@ region_knows home log p t addr version orderly newest tells request update stand
     found = found_for home log t.request t.seen t.walk addr version stands
 
     by_version : (b : Bool) → (version.0 == mark t.request.version.0) ≡ b → t.seen.offsets.read_only.0 ≤ addr.0 → TryKnows home log (if b then changes t addr else copies p t InMemory false)
-    by_version true e mutable = changes_knows home log t addr version request update stands (tells mutable (eq_true version.0 (mark t.request.version.0) e)) mutable (is_blind t.request.op) refl
+    by_version true e mutable = changes_knows home log t addr version request update stands (tells update mutable (eq_true version.0 (mark t.request.version.0) e)) mutable (is_blind t.request.op) refl
     by_version false e mutable = copies_knows home log p t InMemory false request update
         (record { addr = addr; version = version; stands = stands; still = inr (older_there home log t.request (begin_of t.walk) addr.0 stands.knows.version orderly newest found other) })
       where
@@ -228,7 +228,7 @@ pub safe_knows : (home : ℕ → ℕ) (log : Log) (p : Places) (t : TryState) (a
     → TryKnows home log (safe_loaded p t addr version safe)
 safe_knows home log p t addr version safe request update stands is_fixed = by_test (nat_le safe addr.0) refl
   where
-    by_test : (b : Bool) → nat_le safe addr.0 ≡ b → TryKnows home log (if b then ends p t (answer.Wait reason.Fuzzy) else copies p t InMemory (version.0 == mark t.request.version.0))
+    by_test : (b : Bool) → nat_le safe addr.0 ≡ b → TryKnows home log (if b then ends p t (answer.Wait reason.Fuzzy) else copies p t InMemory (not (is_marked t.request.version) && version.0 == mark t.request.version.0))
     by_test true e = ends_knows home log p t (answer.Wait reason.Fuzzy) request (update_free t.request t.has_shared t.has_exclusive update) tt
-    by_test false e = copies_knows home log p t InMemory (version.0 == mark t.request.version.0) request update
+    by_test false e = copies_knows home log p t InMemory (not (is_marked t.request.version) && version.0 == mark t.request.version.0) request update
         (record { addr = addr; version = version; stands = stands; still = inl (subst (λ n. addr.0 < n) is_fixed (le_false safe addr.0 e)) })

@@ -91,6 +91,7 @@ row_true : (home : ℕ → ℕ) (log : Log) (p : Places) (words : List ℕ) (t :
 unfolding trying_ask
 row_true home log p words t (try.Ended its) show row searches = tt
 row_true home log p words t try.TakesShared show row searches = tt
+row_true home log p words t try.LoadsPhase show row searches = tt
 row_true home log p words t try.Walks show row searches =
     subst (IsTrueOfWalk home log p t.walk t.walk.step) (sym (passed_reply words (walk_ask p t.walk) answer.Shift))
     (walking_true home log p t.request t.seen words t.walk t.walk.step show row.0 row.1 (subst (WalkSearches home log p t.walk t.walk.step) (passed_reply words (walk_ask p t.walk) answer.Shift) searches))

@@ -7,7 +7,7 @@ use Rattle.fkv_ops.specs.declared.requests.Occasion.TheVariants.{Call as AtCall,
 use Rattle.fkv_ops.specs.declared.requests.Request.{Request}
 use Rattle.fkv_ops.specs.declared.requests.Seen.{Seen}
 use Rattle.fkv_ops.specs.declared.trying.Trying.{Trying}
-use Rattle.fkv_ops.specs.declared.trying.Trying.TheVariants.{Ended, TakesShared, DropsExclusive, DropsShared}
+use Rattle.fkv_ops.specs.declared.trying.Trying.TheVariants.{Ended, TakesShared, LoadsPhase, DropsExclusive, DropsShared}
 use Rattle.fkv_ops.specs.Trying.{TryState}
 use Rattle.fkv_ops.specs.Walking.{WalkState}
 use Rattle.fkv_pending.specs.declared.attempting.Attempting.{Attempting}
@@ -24,6 +24,7 @@ use Rattle.law_local.specs.Tries.TryRows.{IsWalkFor}
 abbrev pub WalksFor : Request → Seen → WalkState → Trying → Type 0
 WalksFor request seen w (Ended its) = ⊤
 WalksFor request seen w TakesShared = ⊤
+WalksFor request seen w LoadsPhase = ⊤
 WalksFor request seen w (DropsExclusive its) = ⊤
 WalksFor request seen w (DropsShared its) = ⊤
 WalksFor request seen w step = IsWalkFor request seen w

@@ -30,7 +30,7 @@ KeepsForAppend home log after cell Reserves = KeepsSource home log after cell
 KeepsForAppend home log after cell step = ⊤
 
 abbrev pub KeepsForTry : (ℕ → ℕ) → Log → Log → TryState → Trying → Type 0
-KeepsForTry home log after t (Appends its) = KeepsForAppend home log after (cell_of t.append.its_words) t.append.step
+KeepsForTry home log after t (Appends its) = KeepsForAppend home log after (cell_of t.request.version.0 t.append.its_words) t.append.step
 KeepsForTry home log after t step = ⊤
 
 -- so it is where all records of older versions than the request's are fixed, as where no commit runs

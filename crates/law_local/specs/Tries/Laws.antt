@@ -83,7 +83,7 @@ TriesLeadOn = (home : ℕ → ℕ) (log : Log) (p : Places) (room : ℕ) (t : Tr
 abbrev pub ReservesAreEnabled : Type 0
 ReservesAreEnabled = (home : ℕ → ℕ) (log : Log) (p : Places) (room : ℕ) (t : TryState) (reply : ℕ) (its : Reply) (addr : Addr) (entry : HistoryEntry) → TryKnows home log t → IsTrueReply home log p t t.step reply → t.step ≡ Appends its
     → t.append.step ≡ Reserves → reserve_next_ask room t.append.reserving reply ≡ Done (Reserved addr) → IsEntryOf t.request.op its entry
-    → ((cell_of t.append.its_words).previous < addr.0) × IsMade home log entry (cell_of t.append.its_words)
+    → ((cell_of t.request.version.0 t.append.its_words).previous < addr.0) × IsMade home log entry (cell_of t.request.version.0 t.append.its_words)
 
 -- a Swap of a value word makes a change that may be made
 abbrev pub SwapsAreEnabled : Type 0

@@ -21,7 +21,7 @@ use Rattle.fkv_ops.specs.declared.requests.Seen.{Seen}
 use Rattle.fkv_ops.specs.declared.trying.OldValue.{OldValue}
 use Rattle.fkv_ops.specs.declared.trying.OldValue.TheVariants.{InMemory, Known}
 use Rattle.fkv_ops.specs.declared.trying.Trying.{Trying}
-use Rattle.fkv_ops.specs.declared.trying.Trying.TheVariants.{Ended, TakesShared, Walks, LoadsSafe, SwapsValue, LoadsCurrent, ChangesValue, LoadsAnswer, TakesExclusive, LoadsOld, Appends, DropsExclusive, DropsShared}
+use Rattle.fkv_ops.specs.declared.trying.Trying.TheVariants.{Ended, TakesShared, LoadsPhase, Walks, LoadsSafe, SwapsValue, LoadsCurrent, ChangesValue, LoadsAnswer, TakesExclusive, LoadsOld, Appends, DropsExclusive, DropsShared}
 use Rattle.fkv_ops.specs.declared.walking.Walking.TheVariants.{HasFound}
 use Rattle.fkv_ops.specs.Requests.{is_read, is_blind}
 use Rattle.fkv_ops.specs.Values.{value_of}
@@ -104,9 +104,9 @@ abbrev pub OldKnows : (ℕ → ℕ) → Log → Request → Seen → WalkState �
 OldKnows home log request seen w InMemory = CopiesStill home log request seen w
 OldKnows home log request seen w (Known word) = KnowsOld home log request (begin_of w) word
 
--- the record that these words are
-abbrev pub cell_of : RecordWords → Cell
-cell_of its = record { key = its.key.0; value = value_of its.value; version = its.header.version.0; previous = its.header.previous.0 }
+-- the record that these words are, of this version: their header has no more than its mark
+abbrev pub cell_of : ℕ → RecordWords → Cell
+cell_of version its = record { key = its.key.0; value = value_of its.value; version = version; previous = its.header.previous.0 }
 
 -- an entry of the history for an operation, with this reply
 abbrev pub IsEntryOf : Op → Reply → HistoryEntry → Type 0
@@ -139,16 +139,17 @@ NoneLaterPast home log p t reply =
     t.step ≡ Walks → (addr : Addr) (version : Version) → walk_ask p (walk_next p t.walk reply) ≡ Done (walked.Found addr version) → must_shift (record t { walk = walk_next p t.walk reply }) ≡ false
     → NoneIsLater home log t.request
 
--- If the reply ends the walk at a record that the session may change in place, and its header has the mark of the request's version, then the
--- record is of that version.
+-- If the reply ends an update's walk at a record that the session may change in place, and its header has the mark of the request's version, then
+-- the record is of that version.
 abbrev pub MarksTell : Log → Places → TryState → ℕ → Type 0
 MarksTell log p t reply =
-    t.step ≡ Walks → (addr : Addr) (said : Version) → walk_ask p (walk_next p t.walk reply) ≡ Done (walked.Found addr said) → t.seen.offsets.read_only.0 ≤ addr.0 → said.0 ≡ mark t.request.version.0
+    t.step ≡ Walks → (addr : Addr) (said : Version) → walk_ask p (walk_next p t.walk reply) ≡ Done (walked.Found addr said) → IsUpdate t.request → t.seen.offsets.read_only.0 ≤ addr.0 → said.0 ≡ mark t.request.version.0
     → version_at (log.cells addr.0) ≡ t.request.version.0
 
 abbrev pub TryRow : (ℕ → ℕ) → Log → TryState → Trying → Type 0
 TryRow home log t (Ended its) = AnswerKnows home log t.request t.seen its
 TryRow home log t TakesShared = IsUpdate t.request
+TryRow home log t LoadsPhase = IsUpdate t.request
 TryRow home log t Walks = IsWalkFor t.request t.seen t.walk × WalkKnows home log t.walk
 TryRow home log t (LoadsSafe addr version) = IsUpdate t.request × StandsAt home log t.request t.seen t.walk addr version
 TryRow home log t (SwapsValue addr) = IsUpdate t.request × (is_blind t.request.op ≡ true) × MayChange home log t.request t.seen (begin_of t.walk) addr.0
@@ -157,7 +158,7 @@ TryRow home log t (ChangesValue addr old) = IsUpdate t.request × MayChange home
 TryRow home log t LoadsAnswer = AnswersFrom home log t.request t.seen t.walk
 TryRow home log t (TakesExclusive old) = IsUpdate t.request × OldKnows home log t.request t.seen t.walk old
 TryRow home log t LoadsOld = IsUpdate t.request × LoadsStill home log t.request t.seen t.walk
-TryRow home log t (Appends its) = IsUpdate t.request × AppendKnows home log t.request its (cell_of t.append.its_words) t.append.step
+TryRow home log t (Appends its) = IsUpdate t.request × AppendKnows home log t.request its (cell_of t.request.version.0 t.append.its_words) t.append.step
 TryRow home log t (DropsExclusive its) = IsUpdate t.request × AnswerKnows home log t.request t.seen its
 TryRow home log t (DropsShared its) = IsUpdate t.request × AnswerKnows home log t.request t.seen its
 

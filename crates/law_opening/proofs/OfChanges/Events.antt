@@ -4,7 +4,6 @@ use Rattle.std.specs.Prelude.{⊤, ◌==◌, if◌then◌else◌, Some}
 use Rattle.law_refine.specs.Below.fkv_log.ReserveAnswer.{ReserveAnswer}
 use Rattle.law_refine.specs.Below.fkv_log.ReserveAnswer.TheVariants.{Reserved}
 use Rattle.fkv_map.specs.Keys.{reply_from}
-use Rattle.fkv_map.specs.declared.history.HistoryEntry.{HistoryEntry}
 use Rattle.fkv_map.specs.declared.operations.Op.{Op}
 use Rattle.fkv_map.specs.declared.operations.Op.TheVariants.{Read}
 use Rattle.law_refine.specs.Below.fkv_ops.Appending.{AppendState}
@@ -34,7 +33,7 @@ use Rattle.law_refine.specs.Events.Lines.{read_in_hand, read_waiting}
 use Rattle.law_refine.specs.Below.law_world.GuardSessions.Tries.{is_for_entry}
 use Rattle.law_refine.specs.Below.law_local.Tries.TryRows.{cell_of}
 use Rattle.law_log.specs.Ghosts.{GhostEvent, Log, Reserves, Drops, Changes}
-use Rattle.law_refine.specs.Events.Appends.{append_ghosts, entry_made, reserved_ghosts}
+use Rattle.law_refine.specs.Events.Appends.{append_ghosts, entry_made, reserved_ghosts, NewRecord, new_record}
 use Rattle.law_refine.specs.Events.Sessions.{attempt_ghosts, sitting_ghosts, step_ghosts, ticket_of, tried_ghosts, value_ghosts}
 use Rattle.law_refine.specs.Events.Tries.{try_ghosts}
 use Rattle.law_opening.specs.Changes.Linked.{IsLed}
@@ -57,16 +56,16 @@ both_so low high (event ∷ later) before one other = (one.0, both_so low high l
 
 module _ (low high : ℕ) where
   -- ---- an append
-  reserved_so : (a : AppendState) (entry : HistoryEntry) (ask : Ask ReserveAnswer) → a.its_words.header.previous.0 < high → AllSo low high (reserved_ghosts a entry ask)
-  reserved_so a entry (Done (Reserved addr)) below = by_test (is_for_entry a addr)
+  reserved_so : (a : AppendState) (made : NewRecord) (ask : Ask ReserveAnswer) → a.its_words.header.previous.0 < high → AllSo low high (reserved_ghosts a made ask)
+  reserved_so a made (Done (Reserved addr)) below = by_test (is_for_entry a addr)
     where
-      by_test : (b : Bool) → AllSo low high (if b then Reserves addr.0 entry (cell_of a.its_words) ∷ [] else Drops addr.0 ∷ Reserves addr.0 entry (cell_of a.its_words) ∷ [])
+      by_test : (b : Bool) → AllSo low high (if b then Reserves addr.0 made.entry (cell_of made.version a.its_words) ∷ [] else Drops addr.0 ∷ Reserves addr.0 made.entry (cell_of made.version a.its_words) ∷ [])
       by_test true = (below, tt)
       by_test false = (tt, (below, tt))
-  reserved_so a entry ask below = tt
+  reserved_so a made ask below = tt
 
-  append_so : (room : ℕ) (a : AppendState) (entry : HistoryEntry) (step : Appending) (reply : ℕ) → a.its_words.header.previous.0 < high → AllSo low high (append_ghosts room a entry step reply)
-  append_so room a entry step reply below = append_all (AllSo low high) tt (λ addr. (tt, tt)) (λ addr. (tt, tt)) room a entry step reply (λ ask. reserved_so a entry ask below)
+  append_so : (room : ℕ) (a : AppendState) (made : NewRecord) (step : Appending) (reply : ℕ) → a.its_words.header.previous.0 < high → AllSo low high (append_ghosts room a made step reply)
+  append_so room a made step reply below = append_all (AllSo low high) tt (λ addr. (tt, tt)) (λ addr. (tt, tt)) room a made step reply (λ ask. reserved_so a made ask below)
 
   -- ---- a try
   module _ (log : Log) (led : (a : ℕ) → IsLed log a → a < high) where
@@ -79,7 +78,7 @@ module _ (low high : ℕ) where
         by_test : (b : Bool) → AllSo low high (if b then Changes addr.0 (entry_made session pending (reply_from (value_of old) t.request.op)) ∷ [] else [])
         by_test true = (above addr.0 refl, tt)
         by_test false = tt
-    try_so p room session reader pending t (Appends its) reply above so = append_so room t.append (entry_made session pending its) t.append.step reply (led (made_previous t) so)
+    try_so p room session reader pending t (Appends its) reply above so = append_so room t.append (new_record session pending its) t.append.step reply (led (made_previous t) so)
     try_so p room session reader pending t step reply above so = tt
 
     -- ---- an attempt

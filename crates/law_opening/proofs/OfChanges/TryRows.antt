@@ -6,6 +6,8 @@ use Rattle.fkv_base.specs.declared.numbers.Version.{Version}
 use Rattle.fkv_map.specs.Keys.{key_of, reply_from}
 use Rattle.fkv_map.specs.Map.{absent_word}
 use Rattle.fkv_map.specs.declared.operations.Reply.{Reply}
+use Rattle.fkv_words.specs.declared.phase_words.PhaseSaid.{PhaseSaid}
+use Rattle.fkv_words.specs.PhaseWords.{phase_said}
 use Rattle.fkv_plane.specs.declared.asks.Ask.{Ask}
 use Rattle.fkv_plane.specs.declared.asks.Ask.TheVariants.{Done}
 use Rattle.fkv_plane.specs.declared.places.Places.{Places}
@@ -27,7 +29,7 @@ use Rattle.law_refine.specs.Below.fkv_log.ReserveAnswer.{ReserveAnswer}
 use Rattle.law_refine.specs.Below.fkv_log.ReserveAnswer.TheVariants as reserve
 use Rattle.law_refine.specs.Below.fkv_ops.Appending.{AppendState, addr_reserved, append_ask, append_ended, append_next, appending_next, fill_ledto, invalidate_ledto, publish_ledto, reserve_ledto}
 use Rattle.law_refine.specs.Below.fkv_ops.Requests.{is_blind, is_read}
-use Rattle.law_refine.specs.Below.fkv_ops.Trying.{TryState, answer_ledto, append_ledto, awaits, changes, copies, copies_from, current_ledto, ended_without, ends, appends, exclusive_dropped, exclusive_ledto, full_at, has_walked, held_used, is_own_version, is_wait, met_disk, met_nowhere, met_record, must_shift, new_try, old_ledto, region_met, safe_loaded, shared_dropped, shared_ledto, takes_effect, told_value, try_begun, try_next, trying_next, value_changed, walk_ledto, walked, walks, wants_exclusive, wants_shared, with_latch}
+use Rattle.law_refine.specs.Below.fkv_ops.Trying.{TryState, answer_ledto, append_ledto, awaits, changes, copies, copies_from, current_ledto, ended_without, ends, appends, exclusive_dropped, exclusive_ledto, full_at, has_walked, held_used, is_own_version, is_wait, met_disk, met_nowhere, met_record, must_shift, new_try, old_ledto, region_met, safe_loaded, shared_dropped, shared_ledto, takes_effect, told_value, try_begun, try_next, trying_next, value_changed, walk_ledto, walked, walks, wants_exclusive, wants_shared, with_latch, is_next_marked, latch_shared, is_still_in, phase_loaded, is_surely_own}
 use Rattle.law_refine.specs.Below.fkv_ops.Values.{value_of}
 use Rattle.law_refine.specs.Below.fkv_ops.Walking.{WalkState, walk_ask, walk_next, walk_on, walk_rested}
 use Rattle.law_refine.specs.Below.fkv_ops.Reason.TheVariants as reason
@@ -45,7 +47,7 @@ use Rattle.law_refine.specs.Below.fkv_ops.Seen.{Seen}
 use Rattle.law_refine.specs.Below.fkv_ops.OldValue.{OldValue}
 use Rattle.law_refine.specs.Below.fkv_ops.OldValue.TheVariants.{InMemory, Known}
 use Rattle.law_refine.specs.Below.fkv_ops.TheTrying.{Trying}
-use Rattle.law_refine.specs.Below.fkv_ops.TheTrying.TheVariants.{Ended, TakesShared, Walks, LoadsSafe, SwapsValue, LoadsCurrent, ChangesValue, LoadsAnswer, TakesExclusive, LoadsOld, Appends, DropsExclusive, DropsShared}
+use Rattle.law_refine.specs.Below.fkv_ops.TheTrying.TheVariants.{Ended, TakesShared, LoadsPhase, Walks, LoadsSafe, SwapsValue, LoadsCurrent, ChangesValue, LoadsAnswer, TakesExclusive, LoadsOld, Appends, DropsExclusive, DropsShared}
 use Rattle.law_refine.specs.Below.fkv_ops.WalkAnswer.{WalkAnswer}
 use Rattle.law_refine.specs.Below.fkv_ops.WalkAnswer.TheVariants as walk
 use Rattle.law_log.specs.Ghosts.{Log}
@@ -236,9 +238,9 @@ module _ (log : Log) (p : Places) where
   safe_so : (t : TryState) (addr : Addr) (version : Version) (safe : ℕ) → EntrySo t → IsFound t.walk.step → TryKnown log (safe_loaded p t addr version safe)
   safe_so t addr version safe entry found = by_test (nat_le safe addr.0)
     where
-      by_test : (b : Bool) → TryKnown log (if b then ends p t (answer.Wait reason.Fuzzy) else copies p t InMemory (is_own_version t version))
+      by_test : (b : Bool) → TryKnown log (if b then ends p t (answer.Wait reason.Fuzzy) else copies p t InMemory (is_surely_own t version))
       by_test true = ends_so t (answer.Wait reason.Fuzzy) entry
-      by_test false = copies_so t InMemory (is_own_version t version) entry found
+      by_test false = copies_so t InMemory (is_surely_own t version) entry found
 
   current_so : (t : TryState) (addr : Addr) (ask : Ask WalkAnswer) → t.step ≡ LoadsCurrent addr → EntrySo t → IsPast t.walk.step → IsAt log t.walk.head.0 addr.0 → TryKnown log (current_ledto p t addr ask)
   unfolding current_ledto
@@ -280,9 +282,24 @@ module _ (log : Log) (p : Places) where
   append_so t its ask at entry so = (entry, subst (TrySo log t.walk (made_previous t)) (sym at) so)
 
   -- ---- latches
+  latch_so : (t : TryState) → EntrySo t → TryKnown log (latch_shared p t)
+  latch_so t entry = by_mark (is_next_marked t.request.version)
+    where
+      by_mark : (b : Bool) → TryKnown log (if b then record t { step = LoadsPhase } else walks p t)
+      by_mark true = (entry, tt)
+      by_mark false = (inl refl, tt)
+
+  phase_so : (t : TryState) (said : PhaseSaid) → EntrySo t → TryKnown log (phase_loaded p t said)
+  unfolding phase_loaded
+  phase_so t said entry = by_word (is_still_in said t.request.version)
+    where
+      by_word : (b : Bool) → TryKnown log (if b then walks p t else ends p t answer.Shift)
+      by_word true = (inl refl, tt)
+      by_word false = ends_so t answer.Shift entry
+
   shared_so : (t : TryState) (ask : Ask LatchAnswer) → t.step ≡ TakesShared → EntrySo t → TryKnown log (shared_ledto p t ask)
   unfolding shared_ledto
-  shared_so t (Done latch.Taken) at entry = (inl refl, tt)
+  shared_so t (Done latch.Taken) at entry = latch_so (record t { has_shared = true }) entry
   shared_so t (Done its) at entry = ends_so t answer.Shift entry
   shared_so t ask at entry = (entry, subst (TrySo log t.walk (made_previous t)) (sym at) tt)
 
@@ -301,6 +318,7 @@ module _ (log : Log) (p : Places) where
   unfolding trying_next
   row_so room t (Ended its) reply at entry so told = (entry, subst (TrySo log t.walk (made_previous t)) (sym at) so)
   row_so room t TakesShared reply at entry so told = shared_so (record t { effect = None; latching = latch_next t.latching reply }) (latch_next_ask t.latching reply) at entry
+  row_so room t LoadsPhase reply at entry so told = phase_so (record t { effect = None }) (phase_said reply) entry
   row_so room t Walks reply at entry so told =
       let its = walk_so log p t.walk reply (entry, so) told in
       walk_led_so (record t { effect = None; walk = walk_next p t.walk reply }) (walk_ask p (walk_next p t.walk reply)) at its.0 its.1 refl

@@ -1,8 +1,9 @@
 -- What memory has of the log as an opened store's life begins.
-use Rattle.std.proofs.Common.{◌≡◌, ◌∙◌, inl, inr, ap, subst, refl, sym, ℕ, ◌+◌, ◌*◌, ◌/◌, ◌%◌, ◌^◌, ◌<◌, ◌≤◌, Bool, true, false, cond, arith, List, []}
+use Rattle.std.proofs.Common.{◌≡◌, ◌∙◌, inl, inr, ap, subst, refl, ℕ, ◌+◌, ◌*◌, ◌/◌, ◌%◌, ◌^◌, ◌<◌, ◌≤◌, Bool, true, false, cond, arith, List, []}
 use Rattle.std.specs.Prelude.{◌==◌}
 use Rattle.std.proofs.lemmas.Bool.{cases_lt}
-use Rattle.fkv_marks.proofs.Shown.{mark_small}
+use Rattle.fkv_marks.specs.Marks.{mark}
+use Rattle.fkv_marks.proofs.Shown.{mark_fits, mark_some}
 use Rattle.fkv_core.specs.Openings.{IsOpeningWorld, beginning}
 use Rattle.fkv_core.proofs.Shown.{framed}
 use Rattle.fkv_plane.specs.Places.{record_number}
@@ -68,11 +69,9 @@ module _ (bytes : List ℕ) (o : Opened) (n : Now) (world : IsOpeningWorld o n) 
   shows_cell : (a : ℕ) → IsStoreOf bytes o → IsOpened n o.tail.0 → o.warm.0 ≤ a → a < o.tail.0 → 0 < o.number.0 → ShowsCell (stands_in (beginning n bytes) o.tail.0 [] a) (cell_at bytes o a)
   unfolding cell_at
   shows_cell a store guarded above below some =
-      let few = o.few_commits in
       record {
         header = ap header_said (stands_framed a 0 rec.Header guarded above below refl (omega arith))
-            ∙ header_says (warm_word o a 0) (record_word bytes o.shape a 0 % 2 ^ 48) o.number.0 (omega arith) some (omega (arith, few)) (store.warm.header a above below)
-            ∙ ap (λ (n : ℕ). Says (record { 0 = record_word bytes o.shape a 0 % 2 ^ 48 }) (record { 0 = n })) (sym (mark_small o.number.0 (omega (arith, few))));
+            ∙ header_says (warm_word o a 0) (record_word bytes o.shape a 0 % 2 ^ 48) (mark o.number.0) (omega arith) (mark_some o.number.0 some) (mark_fits o.number.0) (store.warm.header a above below);
         key = stands_framed a 1 rec.Key guarded above below refl (omega arith) ∙ store.warm.key a above below;
         value = ap value_of (stands_framed a 2 rec.Value guarded above below refl (omega arith) ∙ store.warm.value a above below);
       }

@@ -54,7 +54,7 @@ maintain_rested = record {
 pub keeper_of : Opened → KeeperState
 keeper_of o = record {
   maintain = maintain_rested;
-  start = record { kind = Full; lost = 0; defer = defer_rested; step = starting.Ended start.Idle };
+  start = record { asked = record { class = o.shape.class; kind = Full; lost = 0; checkpoint = record { 0 = 0 } }; defer = defer_rested; step = starting.Ended start.Idle };
   enter = record { number = record { 0 = 1 }; defer = defer_rested; step = entering.Ended enter.Idle };
   copy = None;
   seek = record { sessions = o.shape.sessions; number = record { 0 = 1 }; floor = []; points = []; defer = defer_rested; step = seeking.Ended seek.Idle };
@@ -81,6 +81,7 @@ keeper_opens o = record {
   its_places = places_fit o.shape;
   newest = refl;
   used = refl;
+  class = refl;
   in_hand = refl;
   its_sessions = refl;
   sought = refl;

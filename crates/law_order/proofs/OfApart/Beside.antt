@@ -191,14 +191,14 @@ module _ (given : Given) (life : BegunLife) (apart : OpensApart life) (before : 
 
     -- and nobody copies that one into a later version
     pub spares : (at : ℕ) → try_changes t.step ≡ Some at → (number : ℕ) (other : SessionState) → slice_get N.sessions number ≡ Some other → Makes other
-        → source_of H L (cell_of other.attempt.trial.append.its_words) ≡ at → version_at (L.cells at) < (cell_of other.attempt.trial.append.its_words).version → ⊥
+        → source_of H L (cell_of other.attempt.trial.request.version.0 other.attempt.trial.append.its_words) ≡ at → version_at (L.cells at) < (cell_of other.attempt.trial.request.version.0 other.attempt.trial.append.its_words).version → ⊥
     spares at changes number other got makes source older =
-        none_makes own.takes own.update number other got makes (sym (ap H its_key) ∙ ap H (found_key (cell_of other.attempt.trial.append.its_words) (begin_of t.walk) at own.is source)) later
+        none_makes own.takes own.update number other got makes (sym (ap H its_key) ∙ ap H (found_key (cell_of other.attempt.trial.request.version.0 other.attempt.trial.append.its_words) (begin_of t.walk) at own.is source)) later
       where
         own : ChangesOwn at
         own = changes_own at changes
 
-        its_key : (cell_of other.attempt.trial.append.its_words).key ≡ key_in other.attempt.pending.request
+        its_key : (cell_of other.attempt.trial.request.version.0 other.attempt.trial.append.its_words).key ≡ key_in other.attempt.pending.request
         its_key = makes_key given life apart before number other got (known number other got) (all_apart number other got) (held given life apart before enabled).chains makes
 
         later : t.request.version.0 < other.attempt.pending.request.version.0

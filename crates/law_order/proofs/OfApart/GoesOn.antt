@@ -47,7 +47,7 @@ use Rattle.law_order.specs.Known.Told.{AreToldTruly, reply_in}
 use Rattle.law_order.proofs.OfApart.Along.{PublishesApart, takes_along}
 use Rattle.law_order.proofs.OfApart.Heart.{Sharer, became, making_of, publishes_apart, publishes_own}
 use Rattle.law_order.proofs.OfApart.Moments.{attempt_left, waiting_left}
-use Rattle.law_order.proofs.OfApart.Newest.{held, marks, none_said, passes, tells, versions_fit}
+use Rattle.law_order.proofs.OfApart.Newest.{held, marks, none_said, passes, phase_tells, tells, versions_near}
 use Rattle.law_order.proofs.OfApart.Sharers.{attempts_held, waits_held}
 use Rattle.law_commit.specs.Below.law_refine.Events.Effects.{Stepped, mover_step, no_step, step_at}
 use Rattle.law_commit.specs.Below.law_refine.Events.GhostEvents.{ghost_events, life_ghosts, mapped, serials_in}
@@ -234,10 +234,11 @@ module _ (given : Given) (life : BegunLife) (apart : OpensApart life) (before : 
       facts = record {
         orderly = orderly H life.map L is_held;
         falls = is_held.falls;
-        fit = versions_fit given life apart before enabled_so;
+        near = λ attempts tries. versions_near given life apart before enabled_so session s was attempts tries (known session s was) (all_apart session s was);
         attempt = λ attempts. (known session s was).attempted attempts;
         says = λ attempts. told session s was attempts;
         tells = λ attempts tries. tells given life apart before enabled_so session s was attempts tries (known session s was) (all_apart session s was);
+        phase = λ attempts tries. phase_tells given life apart before enabled_so session s was attempts tries (known session s was) (all_apart session s was);
         leads = λ attempts tries. try_leads H L N.places (room_of K) s.attempt.trial reply (orderly H life.map L is_held) (passes_so attempts tries) (marks_so attempts tries) (row_of attempts tries).knows (says_so attempts tries);
         waiting = waiting_on;
         trying = trying_on;

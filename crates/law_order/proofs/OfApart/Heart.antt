@@ -3,7 +3,6 @@ use Rattle.std.proofs.Common.{◌≡◌, inl, inr, ℕ, ◌^◌, ◌<◌, refl, 
 use Rattle.std.specs.Prelude.{◌==◌, ◌&&◌, slice_get}
 use Rattle.std.proofs.lemmas.Bool.Decides.{nat_tests}
 use Rattle.fkv_base.specs.declared.numbers.Key.{Key}
-use Rattle.fkv_base.specs.declared.numbers.Version.{Version}
 use Rattle.fkv_index.specs.declared.homes.Home.{Home}
 use Rattle.fkv_index.specs.Slots.{home_of}
 use Rattle.fkv_map.specs.declared.history.HistoryEntry.{HistoryEntry}
@@ -59,21 +58,21 @@ use Rattle.law_commit.specs.Below.law_refine.Events.Effects.{PublishesIt, mover_
 use Rattle.law_commit.specs.Below.law_refine.Events.GhostEvents.{home_in, life_ghosts}
 use Rattle.law_commit.specs.Below.law_refine.Events.Reservations.{Reservation, append_reserves, attempt_reserves, invalidate_reserves, try_reserves}
 use Rattle.law_commit.specs.Below.law_refine.Events.Reserved.{reserved_by, sitting_reserves}
-use Rattle.law_commit.specs.Below.law_refine.Events.Appends.{entry_made}
+use Rattle.law_commit.specs.Below.law_refine.Events.Appends.{NewRecord, new_record}
 use Rattle.law_commit.proofs.Below.law_refine.OfEvents.RequestNames.{IsAttemptSo, StepIsSo, TriesAt, life_so}
 use Rattle.law_commit.proofs.Below.law_refine.OfEvents.ReservedLife.{life_reserved}
 use Rattle.law_commit.proofs.Below.law_refine.OfEvents.TryAppends.{IsAppendOf, KnowsAt}
 use Rattle.law_commit.proofs.Below.law_refine.OfSeen.There.{was_there}
 
 -- ---- who has reserved an address makes a new record
-made_by : (a : AppendState) (entry : HistoryEntry) (step : Appending) (its : Reservation) → append_reserves a entry step ≡ Some its → its.cell ≡ cell_of a.its_words
-made_by a entry (appending.Ended told) its e = none_some its e
-made_by a entry appending.Reserves its e = none_some its e
-made_by a entry (appending.Fills addr) its e = ap (λ (r : Reservation). r.cell) (sym (some_same _ its e))
-made_by a entry (appending.Publishes addr) its e = ap (λ (r : Reservation). r.cell) (sym (some_same _ its e))
-made_by a entry appending.Invalidates its e = by_step a.invalidating e
+made_by : (a : AppendState) (made : NewRecord) (step : Appending) (its : Reservation) → append_reserves a made step ≡ Some its → its.cell ≡ cell_of made.version a.its_words
+made_by a made (appending.Ended told) its e = none_some its e
+made_by a made appending.Reserves its e = none_some its e
+made_by a made (appending.Fills addr) its e = ap (λ (r : Reservation). r.cell) (sym (some_same _ its e))
+made_by a made (appending.Publishes addr) its e = ap (λ (r : Reservation). r.cell) (sym (some_same _ its e))
+made_by a made appending.Invalidates its e = by_step a.invalidating e
   where
-    by_step : (step : Invalidating) → invalidate_reserves a entry step ≡ Some its → its.cell ≡ cell_of a.its_words
+    by_step : (step : Invalidating) → invalidate_reserves a made step ≡ Some its → its.cell ≡ cell_of made.version a.its_words
     by_step invalidating.AtRest e = none_some its e
     by_step (invalidating.StoresHeader addr header) e = ap (λ (r : Reservation). r.cell) (sym (some_same _ its e))
 
@@ -85,10 +84,10 @@ pub record Makes (s : SessionState) : Type 0 where
 
 pub record Making (s : SessionState) (its : Reservation) : Type 0 where
   pub makes : Makes s
-  pub its_cell : its.cell ≡ cell_of s.attempt.trial.append.its_words
+  pub its_cell : its.cell ≡ cell_of s.attempt.pending.request.version.0 s.attempt.trial.append.its_words
 
 try_making : (number : ℕ) (s : SessionState) (step : Trying) (its : Reservation) → is_attempting s.step ≡ true → s.attempt.step ≡ Tries → s.attempt.trial.step ≡ step → try_reserves number s.attempt.pending s.attempt.trial step ≡ Some its → Making s its
-try_making number s (Appends reply) its attempts tries at e = record { makes = record { attempts = attempts; tries = tries; reply = reply; appends = at }; its_cell = made_by s.attempt.trial.append (entry_made number s.attempt.pending reply) s.attempt.trial.append.step its e }
+try_making number s (Appends reply) its attempts tries at e = record { makes = record { attempts = attempts; tries = tries; reply = reply; appends = at }; its_cell = made_by s.attempt.trial.append (new_record number s.attempt.pending reply) s.attempt.trial.append.step its e }
 try_making number s step its attempts tries at e = none_some its e
 
 attempt_making : (number : ℕ) (s : SessionState) (step : Attempting) (its : Reservation) → is_attempting s.step ≡ true → s.attempt.step ≡ step → attempt_reserves number s.attempt step ≡ Some its → Making s its
@@ -213,17 +212,17 @@ module _ (given : Given) (life : BegunLife) (apart : OpensApart life) (before : 
                     (own.at, in_chain, omega (arith, version, older))
               ]
 
-      -- the record is of its request's key and version
+      -- the record is of its request's key, and has the mark of its version
       words_so : IsAppendOf request t.append
       words_so =
           let so : TriesAt s.attempt.pending t Tries = subst (TriesAt s.attempt.pending t) making.tries (attempts_so s.attempt s.step making.attempts (life_so life.opening life.start before number s life.begins.store.now found).sits).tries_so in
           subst (KnowsAt request t) making.appends so.of_request.knows
 
-      pub makes_key : (cell_of t.append.its_words).key ≡ key_in request
+      pub makes_key : (cell_of t.request.version.0 t.append.its_words).key ≡ key_in request
       makes_key = ap (λ (k : Key). k.0) words_so.same.its_key
 
-      pub makes_version : (cell_of t.append.its_words).version ≡ request.version.0
-      makes_version = ap (λ (v : Version). v.0) words_so.same.its_version
+      pub makes_version : (cell_of t.request.version.0 t.append.its_words).version ≡ request.version.0
+      makes_version = ap (λ (r : Request). r.version.0) row.its_request
 
     -- what it has reserved an address for
     module _ (its : Reservation) (reserved : reserved_by number s ≡ Some its) where
@@ -234,7 +233,7 @@ module _ (given : Given) (life : BegunLife) (apart : OpensApart life) (before : 
       key_so = ap (λ (c : Cell). H c.key) making.its_cell ∙ ap H (makes_key making.makes)
 
       pub version_so : its.cell.version ≡ s.attempt.pending.request.version.0
-      version_so = ap (λ (c : Cell). c.version) making.its_cell ∙ makes_version making.makes
+      version_so = ap (λ (c : Cell). c.version) making.its_cell
 
     -- what it publishes is what it has reserved an address for
     cell_so : (its : Reservation) (entry : HistoryEntry) (cell : Cell) → PublishesIt (mover_step N number (Some s)) its → L.cells its.addr ≡ Reserved entry cell → cell ≡ its.cell

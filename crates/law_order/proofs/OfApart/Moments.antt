@@ -193,6 +193,10 @@ module _ (floors : FloorAlwaysStands) (left : NoneIsLeft) (opening : World) (sta
   pub said : phase_version (run opening events).now.words ≡ said_by number stands.stage
   said = ap version_said stands.staged.word ∙ said_so stands.number stands.stage stands.staged.fits
 
+  -- which is that of the commit that is next, or the one behind it
+  pub said_next : phase_version (run opening events).now.words ≤ number + 1
+  said_next = let is = said in let most = said_most number stands.stage in omega (arith, is, most)
+
   none_gone : (session : ℕ) (first its : SessionState) → HasBecome opening events session first its → HasNoneUpto gone its
   none_gone session first its became =
       let is = staged_rank (run opening events).now stands.number stands.stage stands.staged in
@@ -226,6 +230,10 @@ module _ (floors : FloorAlwaysStands) (left : NoneIsLeft) (opening : World) (sta
 
     pub attempt_left : is_read its.attempt.pending.request.op ≡ false → gone < its.attempt.pending.request.version.0
     attempt_left update = attempt_so (IsLater gone) its its.step attempts (none_gone session first its became).attempted update
+
+    -- so it is of the version of the commit that is next, or of a later one
+    pub attempt_next : is_read its.attempt.pending.request.op ≡ false → number ≤ its.attempt.pending.request.version.0
+    attempt_next update = let left_over = attempt_left update in let more = gone_more number stands.stage some in omega (arith, left_over, more)
 
     requests : RequestsFrom (phase_version opening.now.words) its
     requests = life_requests opening start events session first its quiet.guarded quiet.seen.rests became

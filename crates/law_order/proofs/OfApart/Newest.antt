@@ -1,16 +1,17 @@
 -- What the log and the words tell a session's try: so none that has passed its walk has a later version at its home.
-use Rattle.std.proofs.Common.{◌≡◌, ℕ, ◌+◌, ◌%◌, ◌/◌, ◌^◌, ◌<◌, ◌≤◌, refl, sym, ap, ◌∙◌, subst, arith, eqb-true, Bool, true, false, List, Option, Some, None}
+use Rattle.std.proofs.Common.{◌≡◌, ℕ, ◌+◌, ◌%◌, ◌/◌, ◌<◌, ◌≤◌, refl, sym, ap, ◌∙◌, subst, arith, eqb-true, Bool, true, false, List, Option, Some, None}
 use Rattle.std.specs.Prelude.{◌==◌, nat_le, nat_lt, slice_get, if◌then◌else◌}
 use Rattle.std.proofs.lemmas.Bool.Decides.{nat_tests}
 use Rattle.fkv_base.specs.declared.numbers.Version.{Version}
 use Rattle.fkv_base.specs.declared.phases.Phase.{Phase}
+use Rattle.fkv_base.specs.declared.phases.Phase.TheVariants.{InProgress, Prepare, Rest, WaitFlush, WaitPending}
 use Rattle.fkv_plane.specs.Places.{shared_place}
 use Rattle.fkv_plane.specs.Asked.{word_at}
 use Rattle.fkv_plane.specs.declared.places.SharedWord.TheVariants as one
+use Rattle.fkv_plane.specs.Passing.{passed}
 use Rattle.fkv_words.specs.PhaseWords.{phase_said}
 use Rattle.fkv_words.specs.declared.phase_words.PhaseSaid.{PhaseSaid}
 use Rattle.fkv_words.specs.declared.phase_words.PhaseSaid.TheVariants.{Says, Spoiled}
-use Rattle.fkv_words.proofs.Shown.{said_version}
 use Rattle.fkv_index.specs.declared.finding.FindAnswer.{FindAnswer}
 use Rattle.fkv_index.specs.declared.finding.FindStep.{FindStep}
 use Rattle.fkv_index.specs.declared.finding.FindStep.TheVariants as find
@@ -29,23 +30,24 @@ use Rattle.fkv_map.specs.declared.operations.Op.TheVariants as operation
 use Rattle.fkv_map.specs.Keys.{key_of}
 use Rattle.law_commit.specs.Below.fkv_ops.Request.{Request}
 use Rattle.law_commit.specs.Below.fkv_ops.Seen.{Seen}
-use Rattle.law_commit.specs.Below.fkv_ops.TheTrying.TheVariants.{Walks}
+use Rattle.law_commit.specs.Below.fkv_ops.TheTrying.TheVariants.{LoadsPhase, Walks}
 use Rattle.law_commit.specs.Below.fkv_ops.TheWalking.TheVariants.{Finds}
 use Rattle.law_commit.specs.Below.fkv_ops.Requests.{is_read, purpose_of}
-use Rattle.law_commit.specs.Below.fkv_ops.Trying.{TryState, is_moving_on, is_prepare}
+use Rattle.law_commit.specs.Below.fkv_ops.Trying.{TryState, is_moving_on, is_prepare, is_still_in, trying_ask}
 use Rattle.law_commit.specs.Below.fkv_pending.TheAttempting.TheVariants.{Tries}
+use Rattle.law_commit.specs.Below.fkv_pending.Attempting.{attempting_ask}
 use Rattle.fkv_plane.specs.Asked.{reply_to}
 use Rattle.fkv_plane.proofs.Shown.{passed_reply}
 use Rattle.law_commit.specs.Below.fkv_session.Told.TheVariants.{Slept}
-use Rattle.fkv_plane.specs.declared.asks.Ask.TheVariants.{Done}
+use Rattle.fkv_plane.specs.declared.asks.Ask.TheVariants.{Done, Load}
 use Rattle.law_commit.specs.Below.fkv_session.Sitting.{Sitting}
 use Rattle.law_commit.specs.Below.fkv_session.Sitting.TheVariants.{Attempts, Polls}
-use Rattle.law_commit.specs.Below.fkv_session.Sessions.{SessionState}
+use Rattle.law_commit.specs.Below.fkv_session.Sessions.{Seat, SessionState, sitting_ask}
 use Rattle.law_commit.specs.Below.fkv_world.Opened.{HasBecome}
 use Rattle.law_commit.specs.Below.fkv_world.Runs.{run}
-use Rattle.law_commit.specs.Below.fkv_world.World.{Event, Now}
+use Rattle.law_commit.specs.Below.fkv_world.World.{Event, Now, seat_at}
 use Rattle.law_commit.proofs.Below.fkv_world.Shown.{shape_stays}
-use Rattle.law_apart.specs.Apart.Rows.{AttemptApart, IsLater, SearchTells, TellsApart, TellsSharer, TryApart, VersionsFit, has_linked, is_linking, is_lost}
+use Rattle.law_apart.specs.Apart.Rows.{AttemptApart, IsLater, SearchTells, TellsApart, TellsPhase, TellsSharer, TryApart, VersionsNear, has_linked, is_linking, is_lost}
 use Rattle.law_apart.proofs.OfApart.Links.{full_links}
 use Rattle.law_apart.proofs.OfApart.Tries.{marks_told, sharers_pass}
 use Rattle.law_opening.proofs.OfChanges.OfSessions.Attempting.{attempting_is}
@@ -80,7 +82,8 @@ use Rattle.law_order.specs.Known.Begins.{BegunLife, home_of_world}
 use Rattle.law_order.specs.Known.Knows.{SessionKnows}
 use Rattle.law_order.specs.Known.Told.{reply_in}
 use Rattle.law_order.proofs.OfApart.Heart.{became, seen_in}
-use Rattle.law_order.proofs.OfApart.Moments.{attempt_newest, attempt_prepared, attempt_upto, awake}
+use Rattle.law_order.proofs.OfApart.Moments.{attempt_newest, attempt_next, attempt_prepared, attempt_upto, awake, number, said_next}
+use Rattle.law_order.proofs.OfApart.Recent.{recent}
 use Rattle.law_order.proofs.OfTruth.Frames.{published_below}
 use Rattle.law_commit.specs.Below.law_refine.Index.Finders.{Search, Searches, SessionWork, session_part}
 use Rattle.law_commit.specs.Below.law_refine.Index.Finders as finders
@@ -92,6 +95,7 @@ use Rattle.law_commit.specs.Below.law_refine.Events.Reserved.{tail_at}
 use Rattle.law_commit.specs.Below.law_refine.Heads.Searches.{IsWorkAt, home_attempted}
 use Rattle.law_commit.proofs.Below.law_refine.OfEvents.Fixed.{ghost_fixed}
 use Rattle.law_commit.proofs.Below.law_refine.OfHeads.AtHome.{life_at_home}
+use Rattle.law_commit.proofs.Below.law_refine.OfRecords.FrameOwners.{sees_safely}
 use Rattle.law_commit.proofs.Below.law_refine.OfRecords.Frames.{finds_framed}
 use Rattle.law_commit.proofs.Below.law_refine.OfSeen.Lives.{life_head_fixed}
 
@@ -129,13 +133,21 @@ sitting_work s (Attempts has_shifted) attempts tries walks finds = rw (tries, wa
 sitting_work s (Polls index) attempts tries walks finds = rw (tries, walks, finds) refl
 sitting_work s step attempts tries walks finds = cc
 
--- the phase word says a version of 13 bits
-said_small : (word : ℕ) → version_said (phase_said word) < 2 ^ 13
-said_small word = by (phase_said word) refl
-  where
-    by : (said : PhaseSaid) → phase_said word ≡ said → version_said said < 2 ^ 13
-    by Spoiled e = omega arith
-    by (Says its version) e = let fits = (said_version word its version e).1 in omega (arith, fits)
+-- ---- the phase word, where a try loads it behind its share
+pub asks_phase : (k : Seat) (s : SessionState) (step : Sitting) → is_attempting step ≡ true → s.attempt.step ≡ Tries → s.attempt.trial.step ≡ LoadsPhase → sitting_ask k s step ≡ Load (shared_place one.Phase)
+unfolding sitting_ask attempting_ask trying_ask passed
+asks_phase k s (Attempts has_shifted) attempts tries loads = rw (tries, loads) refl
+asks_phase k s (Polls index) attempts tries loads = rw (tries, loads) refl
+asks_phase k s step attempts tries loads = cc
+
+-- if it says prepare of this version, it says none above
+still_said : (said : PhaseSaid) (version : Version) → is_still_in said version ≡ true → version_said said ≤ version.0
+still_said Spoiled version still = cc
+still_said (Says Prepare its) version still = let same : its.0 ≡ version.0 = eqb-true its.0 version.0 still in omega (arith, same)
+still_said (Says Rest its) version still = cc
+still_said (Says InProgress its) version still = cc
+still_said (Says WaitPending its) version still = cc
+still_said (Says WaitFlush its) version still = cc
 
 module _ (given : Given) (life : BegunLife) (apart : OpensApart life) (before : List Event) (enabled : AreEnabled (home_of_world life.opening) life.ghosts (mapped life.opening before)) where
   abbrev N : Now
@@ -163,10 +175,6 @@ module _ (given : Given) (life : BegunLife) (apart : OpensApart life) (before : 
       by_cell (Reserved entry cell) its = omega arith
       by_cell (Dropped cell) its = omega arith
 
-  -- so as yet each takes 13 bits
-  pub versions_fit : VersionsFit L
-  versions_fit a = let low = version_low a in let small = said_small (word_at N.words (shared_place one.Phase)) in omega (arith, low, small)
-
   pub none_said : (h w : ℕ) → phase_version N.words ≤ w → NoneAbove L h w
   none_said h w high a is_in = let low = version_low a in omega (arith, low, high)
 
@@ -188,6 +196,29 @@ module _ (given : Given) (life : BegunLife) (apart : OpensApart life) (before : 
 
     pub shares : SharesTrying s.seen t t.step
     shares = subst (SharesAttempting s.seen s.attempt) tries (attempt_share s s.step attempts (tries_share life.opening life.start before session became_so.0 s life.begins.store.now became_so.1))
+
+    -- ---- records are of the version of an update, or of one of those beside it
+    pub versions_near : VersionsNear L t
+    versions_near update = record {
+      below = λ a. (let low = version_low a in let most = said_next given.floors given.left life.opening life.start before apart.quiet in omega (arith, low, most, next, request));
+      above = λ a cell mutable its.
+          (let safe = (sees_safely life.opening life.start before session s life.begins.store.now is_there (attempting_is s.step attempts)).read_only in
+          let seen : s.seen.offsets.read_only.0 ≤ a = subst (λ (x : Seen). x.offsets.read_only.0 ≤ a) same_seen mutable in
+          let own = recent given life apart before a cell.version (omega (arith, safe, seen)) (ap made_in its) in
+          let upto = attempt_upto given.floors given.left life.opening life.start before apart.quiet session became_so.0 s became_so.1 attempts updates in
+          let ahead = given.ahead life.opening life.start before session became_so.0 s became_so.1 apart.quiet.guarded apart.quiet.seen.rests in
+          let most = said_next given.floors given.left life.opening life.start before apart.quiet in
+          omega (arith, own, upto, ahead, most, request));
+    }
+      where
+        request : t.request.version.0 ≡ s.attempt.pending.request.version.0
+        request = ap (λ (r : Request). r.version.0) row.its_request
+
+        updates : is_read s.attempt.pending.request.op ≡ false
+        updates = subst (λ (r : Request). is_read r.op ≡ false) row.its_request update
+
+        next : number given.floors given.left life.opening life.start before apart.quiet ≤ s.attempt.pending.request.version.0
+        next = attempt_next given.floors given.left life.opening life.start before apart.quiet session became_so.0 s became_so.1 attempts updates
 
     -- ---- one that doesn't share its latch
     pub unshared_said : SharesSo s.seen t → t.has_shared ≡ false → is_read t.request.op ≡ false → phase_version N.words ≤ s.attempt.pending.request.version.0
@@ -324,14 +355,19 @@ module _ (given : Given) (life : BegunLife) (apart : OpensApart life) (before : 
         by_op true read = let clash : true ≡ false = sym has ∙ (row.knows.free read).0 in cc
         by_op false update = record { above = above prepares update; in_ring = in_ring; search = search walks }
 
+    pub phase_tells : TellsPhase H L t (reply_in N session s)
+    phase_tells loads has still update =
+        let word : reply_in N session s ≡ word_at N.words (shared_place one.Phase) = ap (reply_to N.words) (asks_phase (seat_at N session) s s.step attempts tries loads) in
+        none_said (H (key_in t.request)) t.request.version.0 (still_said (phase_said (word_at N.words (shared_place one.Phase))) t.request.version (subst (λ (w : ℕ). is_still_in (phase_said w) t.request.version ≡ true) word still))
+
     -- ---- so one that passes its walk has none later
     pub passes : IsTrueReply H L N.places t t.step (reply_in N session s) → NoneLaterPast H L N.places t (reply_in N session s)
     passes says at addr version ends past update = by_share t.has_shared refl
       where
         by_share : (b : Bool) → t.has_shared ≡ b → NoneAbove L (H (key_in t.request)) t.request.version.0
-        by_share true e = sharers_pass H L N.places t (reply_in N session s) (orderly H life.map L held) (held.falls (H (key_in t.request))) versions_fit tells row.knows says trial_apart e at addr version ends past update
+        by_share true e = sharers_pass H L N.places t (reply_in N session s) (orderly H life.map L held) (held.falls (H (key_in t.request))) versions_near tells row.knows says trial_apart e at addr version ends past update
         by_share false e = unshared_none (subst (SharesTrying s.seen t) at shares) e update
 
     -- and a record that it may change is of the version whose mark its header has
     pub marks : IsTrueReply H L N.places t t.step (reply_in N session s) → MarksTell L N.places t (reply_in N session s)
-    marks says = marks_told H L N.places t (reply_in N session s) (orderly H life.map L held) versions_fit row.knows says
+    marks says = marks_told H L N.places t (reply_in N session s) (orderly H life.map L held) versions_near row.knows says

@@ -52,7 +52,7 @@ use Rattle.law_commit.specs.Below.law_local.Tries.Replies.{IsTrueReply}
 use Rattle.law_commit.specs.Below.law_local.Tries.TryRows.{IsEntryOf, TryKnows, cell_of}
 use Rattle.law_commit.proofs.Below.law_local.OfTries.Changes.{cas_enabled, reserve_enabled, swap_enabled}
 use Rattle.law_commit.specs.Below.fkv_world.Past.{Traced}
-use Rattle.law_commit.specs.Below.law_refine.Events.Appends.{append_ghosts, entry_made, invalidate_ghosts, publish_ghosts, reserved_ghosts}
+use Rattle.law_commit.specs.Below.law_refine.Events.Appends.{append_ghosts, entry_made, invalidate_ghosts, publish_ghosts, reserved_ghosts, NewRecord, new_record}
 use Rattle.law_commit.specs.Below.law_world.GuardSessions.InPlace.{attempt_changes, sitting_changes, try_changes}
 use Rattle.law_commit.specs.Below.law_world.GuardSessions.Tries.{is_for_entry}
 use Rattle.law_commit.specs.Below.law_refine.Events.Lines.{read_in_hand, read_waiting}
@@ -61,20 +61,20 @@ use Rattle.law_commit.specs.Below.law_refine.Events.Tries.{find_ghosts, found_gh
 use Rattle.law_order.proofs.OfEnabled.Ready.{AreTakesEnabled, AllTakeUnborn, IsReady, ready_behind}
 
 -- ---- an append: the address that it takes has nothing, and its record is made as it has to be
-reserved_enabled : (home : ℕ → ℕ) (g : Ghosts) (a : AppendState) (entry : HistoryEntry) (ask : Ask ReserveAnswer)
-    → ((addr : Addr) → ask ≡ Done (Reserved addr) → ((cell_of a.its_words).previous < addr.0) × IsMade home g.log entry (cell_of a.its_words))
-    → AllTakeUnborn g.log (reserved_ghosts a entry ask) → AreEnabled home g (reserved_ghosts a entry ask)
+reserved_enabled : (home : ℕ → ℕ) (g : Ghosts) (a : AppendState) (made : NewRecord) (ask : Ask ReserveAnswer)
+    → ((addr : Addr) → ask ≡ Done (Reserved addr) → ((cell_of made.version a.its_words).previous < addr.0) × IsMade home g.log made.entry (cell_of made.version a.its_words))
+    → AllTakeUnborn g.log (reserved_ghosts a made ask) → AreEnabled home g (reserved_ghosts a made ask)
 unfolding AreEnabled ghost_run
-reserved_enabled home g a entry (Done (Reserved addr)) made unborn = by_test (is_for_entry a addr) unborn
+reserved_enabled home g a made (Done (Reserved addr)) is_made unborn = by_test (is_for_entry a addr) unborn
   where
-    its : ((cell_of a.its_words).previous < addr.0) × IsMade home g.log entry (cell_of a.its_words)
-    its = made addr refl
+    its : ((cell_of made.version a.its_words).previous < addr.0) × IsMade home g.log made.entry (cell_of made.version a.its_words)
+    its = is_made addr refl
 
-    by_test : (c : Bool) → AllTakeUnborn g.log (if c then Reserves addr.0 entry (cell_of a.its_words) ∷ [] else Drops addr.0 ∷ Reserves addr.0 entry (cell_of a.its_words) ∷ [])
-        → AreEnabled home g (if c then Reserves addr.0 entry (cell_of a.its_words) ∷ [] else Drops addr.0 ∷ Reserves addr.0 entry (cell_of a.its_words) ∷ [])
+    by_test : (c : Bool) → AllTakeUnborn g.log (if c then Reserves addr.0 made.entry (cell_of made.version a.its_words) ∷ [] else Drops addr.0 ∷ Reserves addr.0 made.entry (cell_of made.version a.its_words) ∷ [])
+        → AreEnabled home g (if c then Reserves addr.0 made.entry (cell_of made.version a.its_words) ∷ [] else Drops addr.0 ∷ Reserves addr.0 made.entry (cell_of made.version a.its_words) ∷ [])
     by_test true free = (tt, (free.0, its.0, its.1))
     by_test false free = ((tt, (free.1.0, its.0, its.1)), tt)
-reserved_enabled home g a entry ask made unborn = tt
+reserved_enabled home g a made ask is_made unborn = tt
 
 publish_enabled : (home : ℕ → ℕ) (g : Ghosts) (addr : ℕ) (ask : Ask PublishAnswer) → AreTakesEnabled home g (publish_ghosts addr ask) → AreEnabled home g (publish_ghosts addr ask)
 unfolding AreEnabled ghost_run
@@ -86,14 +86,15 @@ unfolding AreEnabled
 invalidate_enabled home g invalidating.AtRest = tt
 invalidate_enabled home g (invalidating.StoresHeader addr header) = (tt, tt)
 
-append_enabled : (home : ℕ → ℕ) (g : Ghosts) (p : Places) (room : ℕ) (t : TryState) (its : Reply) (entry : HistoryEntry) (step : Appending) (reply : ℕ) → TryKnows home g.log t → IsTrueReply home g.log p t t.step reply
-    → t.step ≡ Appends its → IsEntryOf t.request.op its entry → t.append.step ≡ step → IsReady home g (append_ghosts room t.append entry step reply) → AreEnabled home g (append_ghosts room t.append entry step reply)
+append_enabled : (home : ℕ → ℕ) (g : Ghosts) (p : Places) (room : ℕ) (t : TryState) (its : Reply) (made : NewRecord) (step : Appending) (reply : ℕ) → TryKnows home g.log t → IsTrueReply home g.log p t t.step reply
+    → t.step ≡ Appends its → IsEntryOf t.request.op its made.entry → t.request.version.0 ≡ made.version → t.append.step ≡ step → IsReady home g (append_ghosts room t.append made step reply) → AreEnabled home g (append_ghosts room t.append made step reply)
 unfolding AreEnabled
-append_enabled home g p room t its entry appending.Reserves reply knows says at is append_at ready =
-    reserved_enabled home g t.append entry (reserve_next_ask room t.append.reserving reply) (λ addr won. reserve_enabled home g.log p room t reply its addr entry knows says at append_at won is) ready.unborn
-append_enabled home g p room t its entry (appending.Publishes addr) reply knows says at is append_at ready = publish_enabled home g addr.0 (publish_next_ask t.append.publishing reply) ready.takes
-append_enabled home g p room t its entry appending.Invalidates reply knows says at is append_at ready = invalidate_enabled home g t.append.invalidating
-append_enabled home g p room t its entry step reply knows says at is append_at ready = tt
+append_enabled home g p room t its made appending.Reserves reply knows says at is version append_at ready =
+    reserved_enabled home g t.append made (reserve_next_ask room t.append.reserving reply)
+    (λ addr won. subst (λ (v : ℕ). ((cell_of v t.append.its_words).previous < addr.0) × IsMade home g.log made.entry (cell_of v t.append.its_words)) version (reserve_enabled home g.log p room t reply its addr made.entry knows says at append_at won is)) ready.unborn
+append_enabled home g p room t its made (appending.Publishes addr) reply knows says at is version append_at ready = publish_enabled home g addr.0 (publish_next_ask t.append.publishing reply) ready.takes
+append_enabled home g p room t its made appending.Invalidates reply knows says at is version append_at ready = invalidate_enabled home g t.append.invalidating
+append_enabled home g p room t its made step reply knows says at is version append_at ready = tt
 
 -- ---- a search
 found_enabled : (home : ℕ → ℕ) (g : Ghosts) (reader : ℕ) (its : Found) → AreEnabled home g (found_ghosts reader its)
@@ -144,7 +145,7 @@ module _ (home : ℕ → ℕ) (g : Ghosts) (p : Places) (room session reader : �
             (cas_enabled home g.log p t addr old reply (entry_made session pending (reply_from (value_of old) t.request.op)) knows says at (eqb-true reply old won) (its_entry (reply_from (value_of old) t.request.op)) (alone addr.0 (ap try_changes at))) its.takes.0,
       )
       by_test false won its = tt
-  try_enabled (Appends its) reply says at ready = append_enabled home g p room t its (entry_made session pending its) t.append.step reply knows says at (its_entry its) refl ready
+  try_enabled (Appends its) reply says at ready = append_enabled home g p room t its (new_record session pending its) t.append.step reply knows says at (its_entry its) (ap (λ (r : Request). r.version.0) same) refl ready
   try_enabled step reply says at ready = tt
 
 -- ---- an attempt

@@ -20,7 +20,7 @@ use Rattle.law_commit.specs.Below.fkv_keeper.KeeperTold.TheVariants.{CommitRefus
 use Rattle.law_commit.specs.Below.fkv_keeper.TheKeeping.{Keeping}
 use Rattle.law_commit.specs.Below.fkv_keeper.TheKeeping.TheVariants.{Ended, Starts, Maintains, LoadsPhase, Enters, Copies, Seeks, Waits, Writes, Finishes}
 use Rattle.law_commit.specs.Below.fkv_keeper.Checkpoint.{Checkpoint}
-use Rattle.law_commit.specs.Below.fkv_keeper.Keeping.{Finality, KeeperState, checkpoint_used, ended, finish_ledto, finished, keeping_called, keeping_given, keeping_next, triples_written, turned, wait_ledto, write_ledto, writes_begun}
+use Rattle.law_commit.specs.Below.fkv_keeper.Keeping.{Finality, KeeperState, checkpoint_used, ended, finish_ledto, finished, keeping_called, keeping_given, keeping_next, triples_written, turned, wait_ledto, write_ledto, writes_begun, asked_for}
 use Rattle.law_commit.specs.Below.fkv_keeper.KeeperAsks.{keeping_calls}
 use Rattle.law_commit.specs.Below.fkv_keeper.KeeperRun.{BeginsCommit, BeginsTurn, Calls, Gets, KeeperEvent, Replies, Writing, keeper_happens, writing_after}
 use Rattle.law_commit.specs.Below.fkv_keeper.LastCommits.{is_gate_open}
@@ -196,7 +196,7 @@ module _ (shape : Shape) (opened : List ℕ) (first : BegunCommit) (Good : Begun
   turn_on s told was its w calls begun false e is = works told s.last was its w calls begun is
 
   commit_on : (s : KeeperState) (kind : CommitKind) (told : KeeperTold) (was : Bool) (its : Standing) (w : Writing) (calls : List Call) (begun : List BegunCommit) (broken : Bool) → s.is_broken ≡ broken → EndedAt told broken was s.last its w calls begun
-      → (let a = if broken then ended s (CommitRefused fault.Broken) else record s { start = start_begun s.start kind (length s.lost); step = Starts } in Holds (is_writing_after a.step was) a its w calls begun)
+      → (let a = if broken then ended s (CommitRefused fault.Broken) else record s { start = start_begun s.start (asked_for s kind); step = Starts } in Holds (is_writing_after a.step was) a its w calls begun)
   commit_on s kind told was its w calls begun true e is = refuses_commit told fault.Broken s was its w calls begun e is
   commit_on s kind told was its w calls begun false e is = works told s.last was its w calls begun is
 

@@ -1,16 +1,22 @@
 -- Each commit whose writes begin in a life fits it.
-use Rattle.std.proofs.Common.{◌≡◌, inl, inr, ℕ, ◌<◌, ◌≤◌, arith, refl, sym, ap, subst, Bool, List, [], ◌∷◌, length}
+use Rattle.std.proofs.Common.{◌≡◌, inl, inr, ℕ, ◌<◌, ◌≤◌, ◌∙◌, arith, refl, sym, ap, subst, Bool, List, [], ◌∷◌, length}
 use Rattle.std.specs.Prelude.{Option, Some, None}
+use Rattle.fkv_base.specs.Limits.{last_of}
+use Rattle.fkv_base.specs.declared.classes.StoreClass.{StoreClass}
+use Rattle.fkv_base.specs.declared.classes.StoreClass.TheVariants.{Specified, Living}
 use Rattle.fkv_base.specs.declared.commits.CommitKind.{CommitKind}
 use Rattle.fkv_base.specs.declared.commits.CommitKind.TheVariants.{Full, Log}
 use Rattle.fkv_base.specs.declared.shapes.Shape.{Shape}
+use Rattle.fkv_marks.specs.Window.{InWindow}
 use Rattle.law_commit.specs.Below.fkv_commit.Commit.{Commit}
+use Rattle.law_commit.proofs.Below.fkv_commit.Shown.{last_low}
+use Rattle.law_commit.proofs.Below.fkv_keeper.Shown.{run_class}
 use Rattle.law_commit.specs.Below.fkv_keeper.CheckpointLaws.{IsBehindWait}
 use Rattle.law_opening.specs.Below.fkv_core.Openings.{IsOpeningWorld, beginning}
 use Rattle.law_commit.specs.Below.fkv_flush.GuardLevels.{Rises, levels_of}
 use Rattle.law_commit.specs.Below.fkv_keeper.Keeping.{Finality, KeeperState, lost_left}
 use Rattle.law_commit.specs.Below.fkv_keeper.KeeperRun.{IsOpened, KeeperEvent, keeper_run}
-use Rattle.law_commit.specs.Below.fkv_keeper.SlotLaws.{CommitHasRoom}
+use Rattle.law_commit.specs.Below.fkv_keeper.SlotLaws.{CommitHasRoom, HasRoom}
 use Rattle.law_commit.specs.Below.fkv_keeper.TheKeeping.{Keeping}
 use Rattle.law_commit.specs.Below.fkv_keeper.TheKeeping.TheVariants.{Waits, Writes, Finishes}
 use Rattle.law_opening.specs.Below.fkv_opening.TheOpened.{Opened}
@@ -34,7 +40,7 @@ use Rattle.law_order.proofs.OfImages.EndsFlushed.{Ends, EndsAt}
 use Rattle.law_order.proofs.OfImages.AreaFits.{begun_fits}
 use Rattle.law_order.proofs.OfImages.LifeNamed.{AllOfLife}
 use Rattle.law_order.proofs.OfImages.LifeTails.{IsBelow, IsBelowNow, life_always, life_tails, tail_of}
-use Rattle.law_order.proofs.OfImages.LostHeld.{HandIsNewer, HoldsLost, left_held, run_held, run_uses}
+use Rattle.law_order.proofs.OfImages.LostHeld.{HandIsNewer, HoldsLost, UsesBy, left_held, run_held, run_uses}
 use Rattle.law_order.proofs.OfImages.NamedNow.{AllGood}
 use Rattle.law_order.proofs.OfImages.WordsRead.{Always, always_map}
 use Rattle.law_order.proofs.OfImages.Tails.{AtTail, Below, Bounds, LastBelow, TakenAbove, UsedBelow}
@@ -46,6 +52,7 @@ of_plain o n flushed c is = record {
   few = is.few;
   newer = is.newer;
   no_newer = is.no_newer;
+  in_window = is.in_window;
   some = is.some;
   upwards = is.upwards;
   later = is.later;
@@ -83,11 +90,21 @@ used_newer t s step c at behind found = absurd behind
 hand_newer : (base least : ℕ) (s : KeeperState) → IsBelow base least s → HandIsNewer least s
 hand_newer base least s below = λ c found behind. (let newer = used_newer below.bounds s s.step c below.is behind found in let same = below.its_least in omega (arith, newer, same))
 
+-- a commit lies in the window of the checkpoint that it uses: a full one has made that itself
+full_window : (class : StoreClass) (checkpoint number : ℕ) → number < last_of class → checkpoint ≡ number → InWindow class checkpoint number
+full_window Specified checkpoint number low own = omega (arith, low)
+full_window Living checkpoint number low own = omega (arith, own)
+
+window_of : (class : StoreClass) (a : KeeperState) (c : Commit) (kind : CommitKind) → c.kind ≡ kind → a.start.asked.class ≡ class → HasRoom a c → UsesBy kind a c → InWindow class a.used.number.0 c.number.0
+window_of class a c Full is same room uses = full_window class a.used.number.0 c.number.0 (subst (λ (x : StoreClass). c.number.0 < last_of x) same room.follows) uses
+window_of class a c Log is same room uses =
+    subst (λ (x : Checkpoint). InWindow class x.number.0 c.number.0) (sym uses) (subst (λ (x : StoreClass). InWindow x a.last.checkpoint.number.0 c.number.0) same (room.in_window is))
+
 -- of the commit that is being written, by the tails that were loaded for it
 module _ (o : Opened) (n : Now) (flushed : ℕ) (shape : Shape) (p : Places) where
-  fits_so : (a : KeeperState) (c : Commit) → a.step ≡ Writes → a.commit ≡ Some c → IsBelow o.tail.0 o.number.0 a → Ends flushed a → CommitHasRoom a → (c.kind ≡ Full → a.used.triples ≤ most_triples n.shape) → n.keeper.last.checkpoint.number.0 ≤ o.number.0
+  fits_so : (a : KeeperState) (c : Commit) → a.step ≡ Writes → a.commit ≡ Some c → IsBelow o.tail.0 o.number.0 a → Ends flushed a → CommitHasRoom a → (c.kind ≡ Full → a.used.triples ≤ most_triples n.shape) → InWindow n.shape.class a.used.number.0 c.number.0 → n.keeper.last.checkpoint.number.0 ≤ o.number.0
       → NamesItsLost o n (commit_opening a c) → FitsLife o n flushed (commit_opening a c)
-  fits_so a c writes found below ends room area older lost =
+  fits_so a c writes found below ends room area window older lost =
       let t : Bounds = below.bounds in
       let at : Below t a.has_points a.last a.commit × UsedBelow t a.used a.commit = subst (λ (k : Keeping). AtTail t a k) writes below.is in
       let used : UsedBelow t a.used (Some c) = subst (λ (x : Option Commit). UsedBelow t a.used x) found at.1 in
@@ -98,9 +115,10 @@ module _ (o : Opened) (n : Now) (flushed : ℕ) (shape : Shape) (p : Places) whe
       let low = used.4 in
       let more = used.5 in
       record {
-        few = has.follows;
+        few = last_low a.start.asked.class c.number.0 has.follows;
         newer = omega (arith, least, more);
         no_newer = used.2;
+        in_window = window;
         some = used.0;
         upwards = used.3;
         later = omega (arith, base, low);
@@ -110,14 +128,14 @@ module _ (o : Opened) (n : Now) (flushed : ℕ) (shape : Shape) (p : Places) whe
         as_opened = λ used. (let names = lost_as_opened o n (commit_opening a c) older lost used in names.lost);
       }
 
-  pub all_fit : (opening : KeeperState) → opening ≡ n.keeper → n.keeper.last.checkpoint.number.0 ≤ o.number.0 → IsOpened opening → ((events : List KeeperEvent) → CommitHasRoom (keeper_run shape p opening events))
+  pub all_fit : (opening : KeeperState) → opening ≡ n.keeper → opening.start.asked.class ≡ n.shape.class → n.keeper.last.checkpoint.number.0 ≤ o.number.0 → IsOpened opening → ((events : List KeeperEvent) → CommitHasRoom (keeper_run shape p opening events))
       → ((event : KeeperEvent) (before : List KeeperEvent) (c : Commit) → (keeper_run shape p opening before).step ≡ Waits → (keeper_run shape p opening (event ∷ before)).step ≡ Writes → (keeper_run shape p opening (event ∷ before)).commit ≡ Some c
       → c.kind ≡ Full → (keeper_run shape p opening (event ∷ before)).used.triples ≤ most_triples n.shape)
       → (events : List KeeperEvent) → Always (λ (s : KeeperState). IsBelow o.tail.0 o.number.0 s) shape p opening events → Always (λ (s : KeeperState). Ends flushed s) shape p opening events
       → AllGood shape p opening (FitsLife o n flushed) events
   unfolding Always
-  all_fit opening same older opened room area [] below ends = tt
-  all_fit opening same older opened room area (event ∷ before) below ends = (
+  all_fit opening same class older opened room area [] below ends = tt
+  all_fit opening same class older opened room area (event ∷ before) below ends = (
     λ c waits writes found.
         (let a : KeeperState = keeper_run shape p opening (event ∷ before) in
         let behind : IsBehindWait a.step = subst IsBehindWait (sym writes) tt in
@@ -125,10 +143,11 @@ module _ (o : Opened) (n : Now) (flushed : ℕ) (shape : Shape) (p : Places) whe
         always_map (λ (x : KeeperState). IsBelow o.tail.0 o.number.0 x) (HandIsNewer o.number.0) shape p opening (event ∷ before) (λ x at. hand_newer o.tail.0 o.number.0 x at) below in
         let held : HoldsLost o.number.0 n.keeper.lost n.keeper.last.checkpoint a.lost a.last.checkpoint =
         subst (λ (x : KeeperState). HoldsLost o.number.0 x.lost x.last.checkpoint a.lost a.last.checkpoint) same (run_held shape p o.number.0 opening (event ∷ before) opened newer) in
-        let left = left_held o.number.0 n.keeper.lost n.keeper.last.checkpoint c.kind a c held (run_uses shape p opening (event ∷ before) c opened behind found) (hand_newer o.tail.0 o.number.0 a below.0 c found behind) in
+        let uses : UsesBy c.kind a c = run_uses shape p opening (event ∷ before) c opened behind found in
+        let left = left_held o.number.0 n.keeper.lost n.keeper.last.checkpoint c.kind a c held uses (hand_newer o.tail.0 o.number.0 a below.0 c found behind) in
         let has = room (event ∷ before) c found in
-        fits_so a c writes found below.0 ends.0 (room (event ∷ before)) (area event before c waits writes found) older (lost_named o n a c (few_left c.kind a.lost has.lost) left)),
-    all_fit opening same older opened room area before below.1 ends.1,
+        fits_so a c writes found below.0 ends.0 (room (event ∷ before)) (area event before c waits writes found) (window_of n.shape.class a c c.kind refl (run_class shape p opening (event ∷ before) ∙ class) has uses) older (lost_named o n a c (few_left c.kind a.lost has.lost) left)),
+    all_fit opening same class older opened room area before below.1 ends.1,
   )
 
 -- ---- in a life
@@ -164,6 +183,6 @@ life_fits o n bytes events its life room rises =
     let told = life.told in
     let opened : IsOpened n.keeper = told.is_opened in
     let tails = life_tails opening o.tail.0 o.number.0 events (opens_below o n bytes its) (λ before event. (rises before event).tail) life.in_turn in
-    all_fit o n (flushed_so_far n bytes events) n.shape n.places n.keeper refl (opened_older o n its) opened (λ past. room n.shape n.places n.keeper past opened)
+    all_fit o n (flushed_so_far n bytes events) n.shape n.places n.keeper refl (its.its_keeper.class ∙ ap (λ (x : Shape). x.class) (sym its.its_shape)) (opened_older o n its) opened (λ past. room n.shape n.places n.keeper past opened)
     (λ event before c waits writes found. begun_fits n.shape n.places n.keeper event before c opened told.buckets told.overflow waits writes found)
     (keeper_events opening events) tails.always (life_always opening events opened (λ before event. (rises before event).flushed))

@@ -45,7 +45,6 @@ shows_words from image a words cell there is key value fits = record {
   leads = is.leads;
   low = (let same = is.its_mark in let under = mark_low cell.version in omega (arith, same, under));
   same = λ high. is.its_mark;
-  fits = λ high. is.fits;
 }
 
 -- the bytes of a record go by what eight bytes hold of each of its words
@@ -98,7 +97,6 @@ shows_counted from was image a cell low shape same its =
       leads = sym (ap (λ (c : Cell). c.previous) cell_is);
       low = omega (arith, old, version);
       same = λ high. absurd (omega (arith, low, high));
-      fits = λ high. absurd (omega (arith, low, high));
     }
 
 -- ---- what stood before the opening

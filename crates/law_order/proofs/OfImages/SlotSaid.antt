@@ -11,7 +11,6 @@ use Rattle.fkv_base.specs.declared.numbers.Serial.{Serial}
 use Rattle.fkv_base.specs.declared.numbers.Version.{Version}
 use Rattle.fkv_base.specs.declared.shapes.Shape.{Shape}
 use Rattle.fkv_base.proofs.Shown.{ring_between, slots_few}
-use Rattle.fkv_marks.proofs.Shown.{window_small}
 use Rattle.law_commit.specs.Below.fkv_keeper.LastCommits.{area_number, point_written, points_written, slot_said}
 use Rattle.law_commit.specs.Below.fkv_keeper.Area.{Area}
 use Rattle.law_commit.specs.Below.fkv_keeper.Area.TheVariants as area
@@ -144,7 +143,7 @@ module _ (o : Opened) (n : Now) (flushed : ℕ) (c : BegunCommit) (fits : FitsLi
   suits_so opened = record {
     number = record { few = fits.few; parity = refl };
     log = record { some = fits.some; upwards = fits.upwards; on_disk = end_on_disk };
-    checkpoint = record { few = fit; area = low_area c.parts.checkpoint.area; own_area = λ first. absurd (third_only first); no_newer = fits.no_newer; in_window = window_small n.shape.class c.parts.checkpoint.number.0 c.number.0 fits.few };
+    checkpoint = record { few = fit; area = low_area c.parts.checkpoint.area; own_area = λ first. absurd (third_only first); no_newer = fits.no_newer; in_window = fits.in_window };
     sessions = many n.shape c.points;
     lost = lost_so opened fits.lost;
   }

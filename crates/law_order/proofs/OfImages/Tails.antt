@@ -1,7 +1,7 @@
 -- Where a commit's scan begins and its log ends: both are tails that the keeper has loaded, and the tail never falls.
 use Rattle.std.proofs.Common.{◌≡◌, ℕ, ◌+◌, ◌<◌, ◌≤◌, ◌∙◌, arith, refl, sym, ap, subst, Bool, true, false, List, [], ◌∷◌, ◌++◌, length}
 use Rattle.std.specs.Prelude.{⊤, ◌==◌, max, nat_le, nat_lt, if◌then◌else◌, Option, Some, None, ◌||◌, not}
-use Rattle.fkv_base.specs.Limits.{last_version}
+use Rattle.fkv_base.specs.Limits.{last_of}
 use Rattle.fkv_base.specs.declared.commits.CommitKind.{CommitKind}
 use Rattle.fkv_base.specs.declared.commits.CommitKind.TheVariants.{Full, Log}
 use Rattle.fkv_base.specs.declared.faults.Fault.TheVariants as fault
@@ -135,7 +135,7 @@ starts_either t true a b one other = one
 starts_either t false a b one other = other
 
 found_below : (t : Bounds) (m : StartState) (said : PhaseSaid) → StartsBelow t (phase_found m said).step
-found_below t m (Says phase.Rest number) = starts_either t (nat_le last_version number.0) _ _ tt (starts_either t (is_lost_full m.kind m.lost) _ _ tt tt)
+found_below t m (Says phase.Rest number) = starts_either t (nat_le (last_of m.asked.class) number.0) _ _ tt (starts_either t (is_lost_full m.asked number.0) _ _ tt tt)
 found_below t m said = tt
 
 sought_below : (t : Bounds) (number : Version) (m : StartState) (ask : Ask DeferAnswer) → StartsBelow t m.step → StartsBelow t (seek_led number m ask).step

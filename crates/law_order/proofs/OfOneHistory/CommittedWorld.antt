@@ -1,6 +1,7 @@
 -- The world of the life with two commits is one with which a new store opens: that of the worked lives, with a keeper of which all is known that a commit needs.
 use Rattle.std.proofs.Common.{◌≡◌, ℕ, List, [], ◌∷◌, true, false, refl, sym, ap}
 use Rattle.std.specs.Prelude.{None}
+use Rattle.fkv_base.specs.declared.classes.StoreClass.TheVariants.{Specified}
 use Rattle.fkv_base.specs.declared.numbers.Addr.{Addr}
 use Rattle.fkv_base.specs.declared.numbers.Serial.{Serial}
 use Rattle.fkv_base.specs.declared.numbers.Version.{Version}
@@ -18,7 +19,7 @@ use Rattle.fkv_record.specs.Points.{serial_numbers}
 use Rattle.law_commit.specs.Below.fkv_session.Sessions.{SessionState}
 use Rattle.law_commit.specs.Below.fkv_world.World.{Now}
 use Rattle.law_order.proofs.OfOneHistory.WorkedShape.{places, shape}
-use Rattle.law_order.proofs.OfOneHistory.WorkedWorld.{world_opens, worked_now}
+use Rattle.law_order.proofs.OfOneHistory.WorkedWorld.{its_class, world_opens, worked_now}
 
 -- ---- its keeper
 abbrev pub new_checkpoint : Checkpoint
@@ -29,6 +30,7 @@ new_finality = record { number = record { 0 = 0 }; points = record { 0 = 0 } ∷
 
 abbrev pub new_keeper : KeeperState → KeeperState
 new_keeper k = record k {
+  start = record k.start { asked = record k.start.asked { class = Specified } };
   copy = None;
   seek = record k.seek { sessions = 2 };
   finish = record k.finish { sessions = 2 };
@@ -101,6 +103,7 @@ module _ (o : Opened) (new : IsNewStore shape o) where
         its_places = there.its_places;
         newest = sym finality_is;
         used = sym checkpoint_is;
+        class = its_class o new;
         in_hand = sym new.lost;
         its_sessions = two_sessions;
         sought = two_sessions;

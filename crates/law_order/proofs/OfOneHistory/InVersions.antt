@@ -1,7 +1,6 @@
 -- What a session changes in place is a published record of the version of the request that it attempts.
 use Rattle.std.proofs.Common.{◌≡◌, ℕ, ◌∙◌, refl, sym, ap, subst, Bool, true, false, List, [], ◌∷◌, ◌++◌}
 use Rattle.std.specs.Prelude.{◌==◌, ⊤, map, if◌then◌else◌, Option, Some, None, slice_get}
-use Rattle.fkv_map.specs.declared.history.HistoryEntry.{HistoryEntry}
 use Rattle.fkv_map.specs.declared.operations.Op.{Op}
 use Rattle.fkv_map.specs.declared.operations.Op.TheVariants.{Read}
 use Rattle.fkv_plane.specs.declared.asks.Ask.{Ask}
@@ -41,7 +40,7 @@ use Rattle.law_log.specs.Chains.{Logged, Published}
 use Rattle.law_log.specs.Ghosts.{Changes, Drops, Fixes, GhostEvent, Log, Reserves, Tells}
 use Rattle.law_log.specs.Trace.{TraceLine}
 use Rattle.law_order.specs.Known.Knows.{AllKnow, SessionKnows}
-use Rattle.law_commit.specs.Below.law_refine.Events.Appends.{append_ghosts, entry_made, reserved_ghosts}
+use Rattle.law_commit.specs.Below.law_refine.Events.Appends.{append_ghosts, reserved_ghosts, NewRecord, new_record}
 use Rattle.law_commit.specs.Below.law_refine.Events.Effects.{mover_step, step_at}
 use Rattle.law_commit.specs.Below.law_refine.Events.GhostEvents.{fixed_ghosts, ghost_events, moved_ghosts, own_ghosts, safe_at, traced_by}
 use Rattle.law_commit.specs.Below.law_refine.Events.Lines.{lines_added, read_in_hand, read_waiting}
@@ -74,13 +73,13 @@ module _ (version : ℕ) (log : Log) where
   either false one other none its = its
 
   -- ---- an append changes nothing in place
-  reserved_so : (a : AppendState) (entry : HistoryEntry) (ask : Ask ReserveAnswer) → AllChangeSo version log (reserved_ghosts a entry ask)
-  reserved_so a entry (Done (Reserved addr)) = either (is_for_entry a addr) (Reserves addr.0 entry (cell_of a.its_words) ∷ []) (Drops addr.0 ∷ Reserves addr.0 entry (cell_of a.its_words) ∷ []) (tt, tt) (tt, (tt, tt))
-  reserved_so a entry (Done other) = tt
-  reserved_so a entry ask = tt
+  reserved_so : (a : AppendState) (made : NewRecord) (ask : Ask ReserveAnswer) → AllChangeSo version log (reserved_ghosts a made ask)
+  reserved_so a made (Done (Reserved addr)) = either (is_for_entry a addr) (Reserves addr.0 made.entry (cell_of made.version a.its_words) ∷ []) (Drops addr.0 ∷ Reserves addr.0 made.entry (cell_of made.version a.its_words) ∷ []) (tt, tt) (tt, (tt, tt))
+  reserved_so a made (Done other) = tt
+  reserved_so a made ask = tt
 
-  append_so : (room : ℕ) (a : AppendState) (entry : HistoryEntry) (step : Appending) (reply : ℕ) → AllChangeSo version log (append_ghosts room a entry step reply)
-  append_so room a entry step reply = append_all (AllChangeSo version log) tt (λ addr. (tt, tt)) (λ addr. (tt, tt)) room a entry step reply (λ ask. reserved_so a entry ask)
+  append_so : (room : ℕ) (a : AppendState) (made : NewRecord) (step : Appending) (reply : ℕ) → AllChangeSo version log (append_ghosts room a made step reply)
+  append_so room a made step reply = append_all (AllChangeSo version log) tt (λ addr. (tt, tt)) (λ addr. (tt, tt)) room a made step reply (λ ask. reserved_so a made ask)
 
   -- ---- nor does a search
   search_so : (p : Places) (op : Op) (reader : ℕ) (w : WalkState) (reply : ℕ) → AllChangeSo version log (search_ghosts p op reader w reply)
@@ -113,7 +112,7 @@ try_so home log p room session reader pending t (SwapsValue addr) reply same row
 try_so home log p room session reader pending t (ChangesValue addr old) reply same row =
     either pending.request.version.0 log (reply == old) _ []
     (found_there home log (key_in t.request) (begin_of t.walk) addr.0 t.request.version.0 pending.request.version.0 row.1.found (ap (λ (r : Request). r.version.0) same), tt) tt
-try_so home log p room session reader pending t (Appends its) reply same row = append_so pending.request.version.0 log room t.append (entry_made session pending its) t.append.step reply
+try_so home log p room session reader pending t (Appends its) reply same row = append_so pending.request.version.0 log room t.append (new_record session pending its) t.append.step reply
 try_so home log p room session reader pending t step reply same row = tt
 
 tried_so : (home : ℕ → ℕ) (log : Log) (k : Seat) (reader : ℕ) (a : AttemptState) (step : Attempting) (reply : ℕ) → AttemptRow home log a step → AllChangeSo a.pending.request.version.0 log (tried_ghosts k reader a step reply)

@@ -2,9 +2,11 @@
 use Rattle.std.proofs.Common.{◌≡◌, ℕ, zero, suc, ◌+◌, ◌*◌, ◌/◌, ◌%◌, ◌^◌, ◌<◌, List, [], ◌∷◌, ◌++◌, length, refl, sym, ◌∙◌, ap, subst, arith}
 use Rattle.std.specs.Prelude.{Some, if◌then◌else◌, min, nat_eq, replicate, slice_get, slice_index, slice_index_or}
 use Rattle.std.proofs.lemmas.List.Sorted.{IsPermutation-refl}
+use Rattle.fkv_base.specs.declared.classes.StoreClass.TheVariants.{Specified}
 use Rattle.fkv_base.specs.declared.numbers.Addr.{Addr}
 use Rattle.fkv_base.specs.declared.phases.Phase.TheVariants.{Rest}
 use Rattle.fkv_base.specs.declared.shapes.Shape.{Shape}
+use Rattle.fkv_marks.specs.Marks.{mark}
 use Rattle.law_opening.specs.Below.fkv_core.OpeningWords.{AreWordsOfOpened, frames_of, laid_round, ring_words, warm_place, words_before_frames, words_of_sessions, words_once}
 use Rattle.law_opening.specs.Below.fkv_core.Openings.{IsOpeningSession, IsOpeningWorld, newest_commit}
 use Rattle.law_opening.specs.Below.fkv_creating.Created.{IsNewStore}
@@ -39,13 +41,13 @@ once_of number tail warm limit = 1 ∷ 0 ∷ phase_spelled (number + 1) (phase_n
 
 own_of : ℕ → ℕ → List ℕ
 own_of number point =
-    1 ∷ (if nat_eq (number % 2) 0 then point + number * 2 ^ 48 else 0) ∷ (if nat_eq (number % 2) 1 then point + number * 2 ^ 48 else 0) ∷ 0 ∷ point ∷ 0 ∷ 0 ∷ 0 ∷ 0 ∷ 0 ∷ [] ++ replicate 6 0
+    1 ∷ (if nat_eq (number % 2) 0 then point + mark number * 2 ^ 48 else 0) ∷ (if nat_eq (number % 2) 1 then point + mark number * 2 ^ 48 else 0) ∷ 0 ∷ point ∷ 0 ∷ 0 ∷ 0 ∷ 0 ∷ 0 ∷ [] ++ replicate 6 0
 
 all_of : ℕ → ℕ → ℕ → ℕ → ℕ → ℕ → List ℕ
 all_of number tail warm limit point other = once_of number tail warm limit ++ ([] ++ own_of number point ++ own_of number other) ++ replicate 8 0 ++ replicate 24 0
 
 all_first : all_of 0 1 1 8 0 0 ≡ first_words
-unfolding all_of once_of own_of
+unfolding all_of once_of own_of mark
 all_first = refl
 
 same_all : (number tail warm limit point other : ℕ) → number ≡ 0 → tail ≡ 1 → warm ≡ 1 → limit ≡ 8 → point ≡ 0 → other ≡ 0 → all_of number tail warm limit point other ≡ all_of 0 1 1 8 0 0
@@ -139,6 +141,10 @@ module _ (o : Opened) (new : IsNewStore shape o) where
   sessions_open one other (suc zero) s found = let same : first_session other ≡ s = cc in subst (λ (its : SessionState). IsOpeningSession o 1 its) same (session_opens other 1)
   sessions_open one other (suc (suc more)) s found = absurd (cc)
 
+  pub its_class : Specified ≡ o.shape.class
+  unfolding shape
+  its_class = ap (λ (s : Shape). s.class) (sym new.its_shape)
+
   keeper_opens : (n : Now) → IsOpeningWorld o n → IsNewKeeper o.shape (newest_commit o) o.lost.items (record { shape = shape; places = places; state = resting_keeper n.keeper })
   keeper_opens n its =
       let was = its.its_keeper in
@@ -147,6 +153,7 @@ module _ (o : Opened) (new : IsNewStore shape o) where
         its_places = subst (λ (s : Shape). ArePlacesOfStore s places) (sym new.its_shape) places_fit;
         newest = was.newest;
         used = was.used;
+        class = its_class;
         in_hand = sym new.lost;
         its_sessions = was.its_sessions;
         sought = was.sought;

@@ -28,7 +28,7 @@ use Rattle.law_commit.specs.Below.fkv_ops.TheWalking.{Walking}
 use Rattle.law_commit.specs.Below.fkv_ops.TheWalking.TheVariants.{Ended, Finds, HasFound, LoadsValue, Meets}
 use Rattle.law_commit.specs.Below.fkv_ops.HeaderWords.{header_said}
 use Rattle.law_commit.specs.Below.fkv_ops.Requests.{is_read}
-use Rattle.law_commit.specs.Below.fkv_ops.Trying.{TryState, answer_ledto, ends, has_walked, is_prepare, is_above, must_shift, told_value, try_ask, try_next, trying_ask, trying_next, walk_ledto, walked}
+use Rattle.law_commit.specs.Below.fkv_ops.Trying.{TryState, answer_ledto, ends, has_walked, is_prepare, is_above, must_shift, told_value, try_ask, try_next, trying_ask, trying_next, walk_ledto, walked, is_next_marked, walks}
 use Rattle.law_commit.specs.Below.fkv_ops.Values.{value_of}
 use Rattle.law_commit.specs.Below.fkv_ops.Walking.{WalkState, find_ledto, first_met, load_ledto, reached, record_met, slot_found, walk_ask, walk_next, walking_ask, walking_next}
 use Rattle.fkv_plane.specs.declared.asks.Ask.{Ask}
@@ -244,18 +244,18 @@ module _ (p : Places) where
   walked_met t its reads shared alone met = absurd met
 
   -- a read doesn't shift
-  never_shifts : (has prepare read above : Bool) → read ≡ true → (has && (prepare && not read && above)) ≡ false
-  never_shifts true true true above e = refl
-  never_shifts true false read above e = refl
-  never_shifts false prepare read above e = refl
-  never_shifts true true false above e = cc
+  never_shifts : (has prepare read marked above : Bool) → read ≡ true → (has && (prepare && not read && not marked && above)) ≡ false
+  never_shifts true true true marked above e = refl
+  never_shifts true false read marked above e = refl
+  never_shifts false prepare read marked above e = refl
+  never_shifts true true false marked above e = cc
 
   led_met : (t : TryState) (ask : Ask WalkAnswer) → t.step ≡ try.Walks → is_read t.request.op ≡ true → t.has_shared ≡ false → t.has_exclusive ≡ false → ((its : WalkAnswer) → ask ≡ Done its → IsWalkMet its) → EndsMet (walk_ledto p t ask)
   unfolding walk_ledto
   led_met t (Done its) at reads shared alone met = by_shift (has_walked its && must_shift (record t { spare = t.walk.spare })) refl
     where
       by_shift : (b : Bool) → (has_walked its && must_shift (record t { spare = t.walk.spare })) ≡ b → EndsMet (if b then ends p (record t { spare = t.walk.spare }) answer.Shift else walked p (record t { spare = t.walk.spare }) its)
-      by_shift true e = clash (sym e ∙ never_shifts (has_walked its) (is_prepare t.seen.phase) (is_read t.request.op) (is_above t.walk.first t.request.version) reads)
+      by_shift true e = clash (sym e ∙ never_shifts (has_walked its) (is_prepare t.seen.phase) (is_read t.request.op) (is_next_marked t.request.version) (is_above t.walk.first t.request.version) reads)
       by_shift false e = walked_met (record t { spare = t.walk.spare }) its reads shared alone (met its refl)
   led_met t ask at reads shared alone met = λ its e. (let over : try.Walks ≡ try.Ended its = sym at ∙ e in cc)
 
@@ -285,6 +285,7 @@ module _ (p : Places) where
       subst (λ ask. EndsMet (answer_ledto p (record t { effect = None; walk = walk_next p t.walk reply }) ask)) (sym (loads_value p t.walk row.addr reply row.its.loads))
       (answer_met (record t { effect = None; walk = walk_next p t.walk reply }) reply shared alone)
   row_met home log room t try.TakesShared reply orderly at reads shared alone row says going walks = not_both (is_read t.request.op) reads row
+  row_met home log room t try.LoadsPhase reply orderly at reads shared alone row says going walks = not_both (is_read t.request.op) reads row
   row_met home log room t (try.LoadsSafe addr version) reply orderly at reads shared alone row says going walks = not_both (is_read t.request.op) reads row.0
   row_met home log room t (try.SwapsValue addr) reply orderly at reads shared alone row says going walks = not_both (is_read t.request.op) reads row.0
   row_met home log room t (try.LoadsCurrent addr) reply orderly at reads shared alone row says going walks = not_both (is_read t.request.op) reads row.0

@@ -102,6 +102,7 @@ trying_so : (home : ℕ → ℕ) (log : Log) (p : Places) (room : ℕ) (t : TryS
 unfolding trying_next trying_ask
 trying_so home log p room t (try.Ended its) reply at read row asks = done_not its asks
 trying_so home log p room t try.TakesShared reply at read row asks = not_both (is_read t.request.op) read row
+trying_so home log p room t try.LoadsPhase reply at read row asks = not_both (is_read t.request.op) read row
 trying_so home log p room t try.Walks reply at read row asks = walk_so p (record t { effect = None; walk = walk_next p t.walk reply }) (walk_ask p (walk_next p t.walk reply)) at read
 trying_so home log p room t (try.LoadsSafe addr version) reply at read row asks = not_both (is_read t.request.op) read row.0
 trying_so home log p room t (try.SwapsValue addr) reply at read row asks = not_both (is_read t.request.op) read row.0
@@ -125,6 +126,7 @@ unfolding trying_ask
 told_end p t (try.Ended end) its so e = let same : end ≡ its = cc in subst IsReadEnd same so
 told_end p t try.TakesShared its so e = passed_end _ answer.Shift its tt e
 told_end p t try.Walks its so e = passed_end _ answer.Shift its tt e
+told_end p t try.LoadsPhase its so e = cc
 told_end p t (try.LoadsSafe addr version) its so e = cc
 told_end p t (try.SwapsValue addr) its so e = cc
 told_end p t (try.LoadsCurrent addr) its so e = passed_end _ answer.Shift its tt e

@@ -1,7 +1,6 @@
 -- What a session's step leaves of the reads in the log: that of another number stays, and its own goes on as its attempt does.
 use Rattle.std.proofs.Common.{◌≡◌, ◌≢◌, ℕ, ◌∙◌, refl, sym, ap, subst, inl, inr, Bool, true, false, List, [], ◌∷◌, ◌++◌}
 use Rattle.std.specs.Prelude.{⊤, ◌==◌, if◌then◌else◌, Option}
-use Rattle.fkv_map.specs.declared.history.HistoryEntry.{HistoryEntry}
 use Rattle.fkv_map.specs.declared.operations.Op.{Op}
 use Rattle.fkv_map.specs.declared.operations.Op.TheVariants.{Read}
 use Rattle.law_log.specs.Ghosts.{Ghosts, GhostEvent, Tells, FindsEntry, TakesValue, Log, Reading, found, took, set_at, ghosts_after, ghost_run}
@@ -34,7 +33,7 @@ use Rattle.law_commit.specs.Below.fkv_session.Sessions.{Seat, bits_of, room_of}
 use Rattle.law_commit.specs.Below.law_local.Tries.AttemptRows.{AttemptRow}
 use Rattle.law_commit.specs.Below.law_local.Tries.ReadRows.{HasRead, finds_start, search_starts, walk_starts, try_starts, attempt_starts, tells_value, started, valued, reading_after}
 use Rattle.law_commit.specs.Below.law_local.Tries.TryRows.{TryRow}
-use Rattle.law_commit.specs.Below.law_refine.Events.Appends.{reserved_ghosts, append_ghosts}
+use Rattle.law_commit.specs.Below.law_refine.Events.Appends.{reserved_ghosts, append_ghosts, NewRecord}
 use Rattle.law_commit.specs.Below.law_world.GuardSessions.Tries.{is_for_entry}
 use Rattle.law_commit.specs.Below.law_refine.Events.Sessions.{value_ghosts, tried_ghosts, attempt_ghosts}
 use Rattle.law_commit.specs.Below.law_refine.Events.Tries.{found_ghosts, find_ghosts, walk_ghosts, search_ghosts, try_ghosts}
@@ -98,12 +97,12 @@ either : (Such : ℕ → Type 0) (c : Bool) (xs ys : List GhostEvent) → AllTou
 either Such true xs ys one other = one
 either Such false xs ys one other = other
 
-reserved_touch : (Such : ℕ → Type 0) (a : AppendState) (entry : HistoryEntry) (ask : Ask ReserveAnswer) → AllTouch Such (reserved_ghosts a entry ask)
-reserved_touch Such a entry (Done (Reserved addr)) = either Such (is_for_entry a addr) _ _ (tt, tt) (tt, (tt, tt))
-reserved_touch Such a entry ask = tt
+reserved_touch : (Such : ℕ → Type 0) (a : AppendState) (made : NewRecord) (ask : Ask ReserveAnswer) → AllTouch Such (reserved_ghosts a made ask)
+reserved_touch Such a made (Done (Reserved addr)) = either Such (is_for_entry a addr) _ _ (tt, tt) (tt, (tt, tt))
+reserved_touch Such a made ask = tt
 
-append_touch : (Such : ℕ → Type 0) (room : ℕ) (a : AppendState) (entry : HistoryEntry) (step : Appending) (reply : ℕ) → AllTouch Such (append_ghosts room a entry step reply)
-append_touch Such room a entry step reply = append_all (AllTouch Such) tt (λ addr. (tt, tt)) (λ addr. (tt, tt)) room a entry step reply (λ ask. reserved_touch Such a entry ask)
+append_touch : (Such : ℕ → Type 0) (room : ℕ) (a : AppendState) (made : NewRecord) (step : Appending) (reply : ℕ) → AllTouch Such (append_ghosts room a made step reply)
+append_touch Such room a made step reply = append_all (AllTouch Such) tt (λ addr. (tt, tt)) (λ addr. (tt, tt)) room a made step reply (λ ask. reserved_touch Such a made ask)
 
 search_touch : (p : Places) (op : Op) (reader : ℕ) (w : WalkState) (reply : ℕ) → AllTouch (IsItsRead op reader) (search_ghosts p op reader w reply)
 search_touch p (Read key) reader w reply = search_all (AllTouch (IsItsRead (Read key) reader)) tt reader ((refl, refl), tt) p (Read key) w reply

@@ -1,7 +1,6 @@
 -- What a step changes in place is what its session is about to change.
 use Rattle.std.proofs.Common.{◌≡◌, ℕ, refl, Bool, true, false, List, [], ◌∷◌, ◌++◌}
 use Rattle.std.specs.Prelude.{⊤, map, ◌==◌, if◌then◌else◌, Option, Some, None, slice_get}
-use Rattle.fkv_map.specs.declared.history.HistoryEntry.{HistoryEntry}
 use Rattle.fkv_map.specs.declared.operations.Op.{Op}
 use Rattle.fkv_map.specs.declared.operations.Op.TheVariants.{Read}
 use Rattle.fkv_map.specs.Keys.{reply_from}
@@ -36,7 +35,7 @@ use Rattle.law_commit.specs.Below.law_world.GuardSessions.Tries.{is_for_entry}
 use Rattle.law_commit.specs.Below.law_local.Tries.TryRows.{cell_of}
 use Rattle.law_log.specs.Ghosts.{GhostEvent, Changes, Drops, Fixes, Reserves, Tells}
 use Rattle.law_log.specs.Trace.{TraceLine}
-use Rattle.law_commit.specs.Below.law_refine.Events.Appends.{append_ghosts, entry_made, reserved_ghosts}
+use Rattle.law_commit.specs.Below.law_refine.Events.Appends.{append_ghosts, entry_made, reserved_ghosts, NewRecord, new_record}
 use Rattle.law_commit.specs.Below.law_refine.Events.GhostEvents.{fixed_ghosts, ghost_events, moved_ghosts, own_ghosts, safe_at, traced_by}
 use Rattle.law_commit.specs.Below.law_refine.Events.Lines.{lines_added, read_in_hand, read_waiting}
 use Rattle.law_commit.specs.Below.law_refine.Events.Sessions.{attempt_ghosts, sitting_ghosts, step_ghosts, ticket_of, tried_ghosts, value_ghosts}
@@ -53,16 +52,16 @@ AllChange P [] = ⊤
 AllChange P (event ∷ before) = ChangesSo P event × AllChange P before
 
 -- ---- an append
-reserved_change : (P : ℕ → Type 0) (a : AppendState) (entry : HistoryEntry) (ask : Ask ReserveAnswer) → AllChange P (reserved_ghosts a entry ask)
-reserved_change P a entry (Done (Reserved addr)) = by_test (is_for_entry a addr)
+reserved_change : (P : ℕ → Type 0) (a : AppendState) (made : NewRecord) (ask : Ask ReserveAnswer) → AllChange P (reserved_ghosts a made ask)
+reserved_change P a made (Done (Reserved addr)) = by_test (is_for_entry a addr)
   where
-    by_test : (c : Bool) → AllChange P (if c then Reserves addr.0 entry (cell_of a.its_words) ∷ [] else Drops addr.0 ∷ Reserves addr.0 entry (cell_of a.its_words) ∷ [])
+    by_test : (c : Bool) → AllChange P (if c then Reserves addr.0 made.entry (cell_of made.version a.its_words) ∷ [] else Drops addr.0 ∷ Reserves addr.0 made.entry (cell_of made.version a.its_words) ∷ [])
     by_test true = (tt, tt)
     by_test false = (tt, (tt, tt))
-reserved_change P a entry ask = tt
+reserved_change P a made ask = tt
 
-append_change : (P : ℕ → Type 0) (room : ℕ) (a : AppendState) (entry : HistoryEntry) (step : Appending) (reply : ℕ) → AllChange P (append_ghosts room a entry step reply)
-append_change P room a entry step reply = append_all (AllChange P) tt (λ addr. (tt, tt)) (λ addr. (tt, tt)) room a entry step reply (λ ask. reserved_change P a entry ask)
+append_change : (P : ℕ → Type 0) (room : ℕ) (a : AppendState) (made : NewRecord) (step : Appending) (reply : ℕ) → AllChange P (append_ghosts room a made step reply)
+append_change P room a made step reply = append_all (AllChange P) tt (λ addr. (tt, tt)) (λ addr. (tt, tt)) room a made step reply (λ ask. reserved_change P a made ask)
 
 -- ---- a search
 search_change : (P : ℕ → Type 0) (p : Places) (op : Op) (reader : ℕ) (w : WalkState) (reply : ℕ) → AllChange P (search_ghosts p op reader w reply)
@@ -77,7 +76,7 @@ try_change p room session reader pending t (ChangesValue addr old) reply = by_te
     by_test : (c : Bool) → AllChange (λ at. try_changes (ChangesValue addr old) ≡ Some at) (if c then Changes addr.0 (entry_made session pending (reply_from (value_of old) t.request.op)) ∷ [] else [])
     by_test true = (refl, tt)
     by_test false = tt
-try_change p room session reader pending t (Appends its) reply = append_change (λ at. try_changes (Appends its) ≡ Some at) room t.append (entry_made session pending its) t.append.step reply
+try_change p room session reader pending t (Appends its) reply = append_change (λ at. try_changes (Appends its) ≡ Some at) room t.append (new_record session pending its) t.append.step reply
 try_change p room session reader pending t step reply = tt
 
 value_change : (P : ℕ → Type 0) (op : Op) (reader : ℕ) (ask : Ask TryAnswer) (rest : List GhostEvent) → AllChange P rest → AllChange P (value_ghosts op reader ask ++ rest)

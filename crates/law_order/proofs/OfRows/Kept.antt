@@ -23,7 +23,7 @@ use Rattle.law_commit.specs.Below.law_refine.Events.Effects.{is_quiet}
 
 -- ---- the record that a try copies, where it is about to reserve an address for the copy
 abbrev pub copied : (ℕ → ℕ) → Log → AttemptState → ℕ
-copied home log a = source_of home log (cell_of a.trial.append.its_words)
+copied home log a = source_of home log (cell_of a.trial.request.version.0 a.trial.append.its_words)
 
 pub record Copies (a : AttemptState) : Type 0 where
   pub reply : Reply
@@ -35,15 +35,15 @@ append_keeps : (home : ℕ → ℕ) (log after : Log) (cell : Cell) (step : Appe
 append_keeps home log after cell appending.Reserves keeps = keeps refl
 append_keeps home log after cell step keeps = tt
 
-try_keeps : (home : ℕ → ℕ) (log after : Log) (t : TryState) (step : Trying) → ((reply : Reply) → step ≡ Appends reply → t.append.step ≡ appending.Reserves → KeepsSource home log after (cell_of t.append.its_words)) → KeepsForTry home log after t step
-try_keeps home log after t (Appends reply) keeps = append_keeps home log after (cell_of t.append.its_words) t.append.step (keeps reply refl)
+try_keeps : (home : ℕ → ℕ) (log after : Log) (t : TryState) (step : Trying) → ((reply : Reply) → step ≡ Appends reply → t.append.step ≡ appending.Reserves → KeepsSource home log after (cell_of t.request.version.0 t.append.its_words)) → KeepsForTry home log after t step
+try_keeps home log after t (Appends reply) keeps = append_keeps home log after (cell_of t.request.version.0 t.append.its_words) t.append.step (keeps reply refl)
 try_keeps home log after t step keeps = tt
 
 step_keeps : (home : ℕ → ℕ) (log after : Log) (a : AttemptState) (step : Attempting) → (step ≡ Tries → KeepsForTry home log after a.trial a.trial.step) → KeepsForAttempt home log after a step
 step_keeps home log after a Tries keeps = keeps refl
 step_keeps home log after a step keeps = tt
 
-pub keeps_by : (home : ℕ → ℕ) (log after : Log) (a : AttemptState) → (Copies a → KeepsSource home log after (cell_of a.trial.append.its_words)) → KeepsForAttempt home log after a a.step
+pub keeps_by : (home : ℕ → ℕ) (log after : Log) (a : AttemptState) → (Copies a → KeepsSource home log after (cell_of a.trial.request.version.0 a.trial.append.its_words)) → KeepsForAttempt home log after a a.step
 keeps_by home log after a keeps =
     step_keeps home log after a a.step (λ tries. try_keeps home log after a.trial a.trial.step (λ reply appends reserves. keeps (record { reply = reply; tries = tries; appends = appends; reserves = reserves })))
 
@@ -96,4 +96,4 @@ source_stays home m g event cell held grows none enabled older = by_first (sourc
 pub still_keeps : (home : ℕ → ℕ) (m : Map) (g : Ghosts) (event : GhostEvent) (a : AttemptState) → Held home m g.log → Grows home m g.log (log_after home g.log event) → IsNoChange event → IsEnabled home g event
     → KeepsForAttempt home g.log (log_after home g.log event) a a.step
 still_keeps home m g event a held grows none enabled =
-    keeps_by home g.log (log_after home g.log event) a (λ copies. source_stays home m g event (cell_of a.trial.append.its_words) held grows none enabled)
+    keeps_by home g.log (log_after home g.log event) a (λ copies. source_stays home m g event (cell_of a.trial.request.version.0 a.trial.append.its_words) held grows none enabled)

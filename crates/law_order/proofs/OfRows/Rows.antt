@@ -120,7 +120,7 @@ module _ (life : BegunLife) (before : List Event) (event : Event)
       changing : (by.state.attempt.step ≡ Tries) × (try_changes by.state.attempt.trial.step ≡ Some at)
       changing = sitting_tries by.state by.state.step at by.changes
 
-      source_kept : Copies s.attempt → KeepsSource H L (log_after H L (Changes at entry)) (cell_of s.attempt.trial.append.its_words)
+      source_kept : Copies s.attempt → KeepsSource H L (log_after H L (Changes at entry)) (cell_of s.attempt.trial.request.version.0 s.attempt.trial.append.its_words)
       source_kept copies older = ap value_at (changed_else L at entry (copied H L s.attempt) apart_so)
         where
           makes : Makes s
@@ -129,7 +129,7 @@ module _ (life : BegunLife) (before : List Event) (event : Event)
           apart_so : copied H L s.attempt ≢ at
           apart_so same =
               spares given life opens before enabled_so all_know all_apart by.number by.state by.got (sitting_attempts by.state by.state.step at by.changes) changing.0 at changing.1 session s was makes same
-              (subst (λ (x : ℕ). version_at (L.cells x) < (cell_of s.attempt.trial.append.its_words).version) same older)
+              (subst (λ (x : ℕ). version_at (L.cells x) < (cell_of s.attempt.trial.request.version.0 s.attempt.trial.append.its_words).version) same older)
 
   module _ (session : ℕ) (s after : SessionState) (was : slice_get N.sessions session ≡ Some s) (is_now : slice_get (run life.opening (event ∷ before)).now.sessions session ≡ Some after) where
     abbrev K : Seat

@@ -1,14 +1,13 @@
 -- The cut words, the owing words and the durable words of an opened store: they show the points of its newest commit, and that nothing is owed.
 use Rattle.std.proofs.Common.{◌≡◌, ◌∙◌, ap, sym, refl, subst, arith, ℕ, ◌+◌, ◌-◌, ◌*◌, ◌%◌, ◌^◌, ◌<◌, ◌≤◌, Bool, true, false, length, inl, inr}
-use Rattle.std.specs.Prelude.{◌==◌, if◌then◌else◌, min, nat_eq, Some, slice_get}
+use Rattle.std.specs.Prelude.{◌==◌, if◌then◌else◌, nat_eq, Some, slice_get}
 use Rattle.std.proofs.Math.Nat.{min-eq_left}
 use Rattle.std.proofs.lemmas.Bool.Decides.{nat_tests}
 use Rattle.std.proofs.lemmas.List.{get_or-map}
 use Rattle.std.proofs.lemmas.Option.{slice_get-get_or, slice_get_within}
-use Rattle.fkv_base.specs.Limits.{last_serial, last_version}
+use Rattle.fkv_base.specs.Limits.{last_serial}
 use Rattle.fkv_base.specs.declared.numbers.Serial.{Serial}
 use Rattle.fkv_marks.specs.Marks.{mark}
-use Rattle.fkv_marks.proofs.Shown.{mark_small}
 use Rattle.law_commit.specs.Below.fkv_commit.Cuts.{serial_said}
 use Rattle.law_commit.specs.Below.fkv_commit.Finishing as finishing
 use Rattle.law_opening.specs.Below.fkv_core.OpeningPlaces.{StandAsTold, StandOfSession}
@@ -31,18 +30,15 @@ module _ (o : Opened) (n : Now) (its : IsOpeningWorld o n) (told : StandAsTold o
   stands session there = told.sessions session (words_told o session there) there (are_told o session there)
 
   -- the cut word of the commit's parity
-  cut_there : (session : ℕ) → session < o.shape.sessions → word_at n.words (session_place session (cut_of o.number.0)) ≡ point_of o session + o.number.0 * 2 ^ 48
+  cut_there : (session : ℕ) → session < o.shape.sessions → word_at n.words (session_place session (cut_of o.number.0)) ≡ point_of o session + mark o.number.0 * 2 ^ 48
   cut_there session there = by_parity (o.number.0 % 2 == 0) refl
     where
-      by_parity : (even : Bool) → (o.number.0 % 2 == 0) ≡ even → word_at n.words (session_place session (if even then own.EvenCut else own.OddCut)) ≡ point_of o session + o.number.0 * 2 ^ 48
+      by_parity : (even : Bool) → (o.number.0 % 2 == 0) ≡ even → word_at n.words (session_place session (if even then own.EvenCut else own.OddCut)) ≡ point_of o session + mark o.number.0 * 2 ^ 48
       by_parity true e = let yes : nat_eq (o.number.0 % 2) 0 ≡ true = grind (arith, nat_tests, e) in (stands session there).even_cut ∙ rw yes refl
       by_parity false e = let yes : nat_eq (o.number.0 % 2) 1 ≡ true = grind (arith, nat_tests, e) in (stands session there).odd_cut ∙ rw yes refl
 
-  cut_so : (serial version : ℕ) → serial ≤ last_serial → version ≤ last_version → cut_at serial version ≡ serial + version * 2 ^ 48
-  cut_so serial version small few =
-      let a : min serial last_serial ≡ serial = min-eq_left small in
-      let b : mark version ≡ version = mark_small version (omega (arith, few)) in
-      omega (arith, a, b)
+  cut_so : (serial version : ℕ) → serial ≤ last_serial → cut_at serial version ≡ serial + mark version * 2 ^ 48
+  cut_so serial version small = ap (λ (n : ℕ). n + mark version * 2 ^ 48) (min-eq_left small)
 
   -- neither cut word shows more than the point
   low : (is_its : Bool) (point number serial word : ℕ) → point ≤ serial → serial ≤ last_serial → word ≡ (if is_its then point else 0) + (if is_its then number else 0) * 2 ^ 48 → serial_said word ≤ serial
@@ -51,9 +47,9 @@ module _ (o : Opened) (n : Now) (its : IsOpeningWorld o n) (told : StandAsTold o
 
   none_above : (session serial : ℕ) → session < o.shape.sessions → serial ≡ point_of o session → serial ≤ last_serial → (place : ℕ) → IsCutPlace session place → serial_said (word_at n.words place) ≤ serial
   none_above session serial there same small place (inl even) =
-      low (nat_eq (o.number.0 % 2) 0) (point_of o session) o.number.0 serial (word_at n.words place) (omega (arith, same)) small (ap (λ (at : ℕ). word_at n.words at) even ∙ (stands session there).even_cut)
+      low (nat_eq (o.number.0 % 2) 0) (point_of o session) (mark o.number.0) serial (word_at n.words place) (omega (arith, same)) small (ap (λ (at : ℕ). word_at n.words at) even ∙ (stands session there).even_cut)
   none_above session serial there same small place (inr odd) =
-      low (nat_eq (o.number.0 % 2) 1) (point_of o session) o.number.0 serial (word_at n.words place) (omega (arith, same)) small (ap (λ (at : ℕ). word_at n.words at) odd ∙ (stands session there).odd_cut)
+      low (nat_eq (o.number.0 % 2) 1) (point_of o session) (mark o.number.0) serial (word_at n.words place) (omega (arith, same)) small (ap (λ (at : ℕ). word_at n.words at) odd ∙ (stands session there).odd_cut)
 
   session_shows : (session : ℕ) (s : SessionState) → slice_get n.sessions session ≡ Some s → ShowsCut (seat_at n session) s (λ place. word_at n.words place)
   session_shows session s found =
@@ -65,11 +61,11 @@ module _ (o : Opened) (n : Now) (its : IsOpeningWorld o n) (told : StandAsTold o
       let there : session < o.shape.sessions = omega (arith, many, within) in
       let number : o.number.0 ≡ s.seen.version.0 - 1 = omega (arith, saw) in
       let serial = sits.serial in
-      let said : cut_at s.serial o.number.0 ≡ s.serial + o.number.0 * 2 ^ 48 = cut_so s.serial o.number.0 sits.opened.serial_fits (omega (arith, few)) in
+      let said : cut_at s.serial o.number.0 ≡ s.serial + mark o.number.0 * 2 ^ 48 = cut_so s.serial o.number.0 sits.opened.serial_fits in
       record {
         version = (omega (arith, saw), omega (arith, saw, few));
         cut = subst (λ (version : ℕ). word_at n.words (session_place session (cut_of version)) ≡ cut_at s.serial version) number
-            (cut_there session there ∙ (ap (λ (x : ℕ). x + o.number.0 * 2 ^ 48) (sym serial) ∙ sym said));
+            (cut_there session there ∙ (ap (λ (x : ℕ). x + mark o.number.0 * 2 ^ 48) (sym serial) ∙ sym said));
         serials = λ place is_cut. none_above session s.serial there serial sits.opened.serial_fits place is_cut;
         owing = (stands session there).owing;
       }

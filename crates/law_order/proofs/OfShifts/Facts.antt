@@ -1,6 +1,6 @@
 -- Where a try in prepare would shift, the phase word has come further. So a second attempt isn't in prepare, and one of a poll has come with its share.
 use Rattle.std.proofs.Common.{◌≡◌, ℕ, ◌+◌, ◌*◌, ◌^◌, ◌<◌, ◌≤◌, ◌∙◌, refl, sym, ap, subst, arith, List, Bool, true, false, inl, inr}
-use Rattle.std.specs.Prelude.{◌&&◌, Option, Some, None, not, slice_get}
+use Rattle.std.specs.Prelude.{◌==◌, ◌&&◌, Option, Some, None, not, slice_get}
 use Rattle.std.proofs.lemmas.Bool.Decides.{nat_tests}
 use Rattle.fkv_base.specs.declared.numbers.Version.{Version}
 use Rattle.fkv_base.specs.declared.phases.Phase.{Phase}
@@ -22,12 +22,12 @@ use Rattle.law_commit.specs.Below.fkv_ops.Occasion.TheVariants.{Call as AtCall, 
 use Rattle.law_commit.specs.Below.fkv_ops.Request.{Request}
 use Rattle.law_commit.specs.Below.fkv_ops.Seen.{Seen}
 use Rattle.law_commit.specs.Below.fkv_ops.TheTrying.{Trying}
-use Rattle.law_commit.specs.Below.fkv_ops.TheTrying.TheVariants.{TakesShared, Walks}
+use Rattle.law_commit.specs.Below.fkv_ops.TheTrying.TheVariants.{LoadsPhase, TakesShared, Walks}
 use Rattle.law_commit.specs.Below.fkv_ops.WalkAnswer.TheVariants as walked
 use Rattle.law_commit.specs.Below.fkv_ops.TheWalking.{Walking}
 use Rattle.law_commit.specs.Below.fkv_ops.TheWalking.TheVariants.{Ended, Finds, HasFound, LoadsValue, Meets}
 use Rattle.law_commit.specs.Below.fkv_ops.Requests.{is_read}
-use Rattle.law_commit.specs.Below.fkv_ops.Trying.{TryState, is_above, is_prepare, must_shift, trying_ask}
+use Rattle.law_commit.specs.Below.fkv_ops.Trying.{TryState, is_above, is_next_marked, is_prepare, is_still_in, must_shift, trying_ask}
 use Rattle.law_commit.specs.Below.fkv_ops.Walking.{WalkState, walk_next}
 use Rattle.law_commit.specs.Below.fkv_pending.TheAttempting.{Attempting}
 use Rattle.law_commit.specs.Below.fkv_pending.TheAttempting.TheVariants.{Tries}
@@ -85,18 +85,19 @@ use Rattle.law_order.specs.Known.Knows.{AllKnowBehind}
 use Rattle.law_order.specs.Known.Told.{AreToldTruly, reply_in}
 use Rattle.law_order.proofs.OfApart.Heart.{became, try_in}
 use Rattle.law_order.proofs.OfApart.Moments.{attempt_prepared, awake}
-use Rattle.law_order.proofs.OfApart.Newest.{held, same_seen, shares, tells, trial_apart, version_low, versions_fit}
+use Rattle.law_order.proofs.OfApart.Newest.{asks_phase, held, same_seen, shares, tells, trial_apart, version_low}
 use Rattle.law_order.proofs.OfShifts.Catches.{HasPassed, SaysElse, loads_next}
 use Rattle.law_order.proofs.OfShifts.Sessions.{Come, RepliesSo}
 use Rattle.law_order.proofs.OfShifts.Tries.{ShiftsBy}
 use Rattle.law_commit.specs.Below.law_refine.Events.GhostEvents.{life_ghosts, mapped}
 
 -- ---- what a test says
-shift_so : (prepare read above : Bool) → (prepare && not read && above) ≡ true → (prepare ≡ true) × (read ≡ false) × (above ≡ true)
-shift_so true false true e = (refl, refl, refl)
-shift_so true false false e = cc
-shift_so true true above e = cc
-shift_so false read above e = cc
+shift_so : (prepare read marked above : Bool) → (prepare && not read && not marked && above) ≡ true → (prepare ≡ true) × (read ≡ false) × (above ≡ true) × (marked ≡ false)
+shift_so true false false true e = (refl, refl, refl, refl)
+shift_so true false false false e = cc
+shift_so true false true above e = cc
+shift_so true true marked above e = cc
+shift_so false read marked above e = cc
 
 clash : {X : Type 0} (b : Bool) → b ≡ true → b ≡ false → X
 clash true e f = cc
@@ -119,6 +120,15 @@ met_first home log request seen w LoadsValue first version is some apart = absur
 rank_past : (said : PhaseSaid) (own : ℕ) → own < version_said said → 5 * own + 1 < rank_said said
 rank_past Spoiled own later = absurd (omega (arith, later))
 rank_past (Says phase version) own later = let high = rank_high phase version.0 in omega (arith, high, later)
+
+-- a word that has come to prepare of this version, and says it no more, has come further
+rank_else : (said : PhaseSaid) (version : Version) (own : ℕ) → is_still_in said version ≡ false → version.0 ≡ own → 5 * own + 1 ≤ rank_said said → 5 * own + 1 < rank_said said
+rank_else Spoiled version own other is low = absurd (omega (arith, low))
+rank_else (Says Prepare its) version own other is low = let off : (its.0 == own) ≡ false = subst (λ (n : ℕ). (its.0 == n) ≡ false) is other in grind (arith, nat_tests, off, low)
+rank_else (Says Rest its) version own other is low = omega (arith, low)
+rank_else (Says InProgress its) version own other is low = omega (arith, low)
+rank_else (Says WaitPending its) version own other is low = omega (arith, low)
+rank_else (Says WaitFlush its) version own other is low = omega (arith, low)
 
 phase_else : (phase : Phase) (version own : ℕ) → 5 * own + 1 < rank phase version → rank phase version ≤ 5 * own + 4 → is_prepare phase ≡ false
 phase_else Prepare version own high low = absurd (omega (arith, high, low))
@@ -232,18 +242,19 @@ module _ (given : Given) (life : BegunLife) (apart : OpensApart life) (before : 
         in_chain : MetIn L (L.chains (H (key_in t.request))) (Some version) → version.0 ≤ phase_version N.words
         in_chain met = version_said_by met.at version met.met
 
-    later_so : (first : Option Version) → (walk_next N.places t.walk reply).first ≡ first → is_above first t.request.version ≡ true → t.step ≡ Walks → t.has_shared ≡ true → t.request.version.0 < phase_version N.words
-    later_so None is above at has = cc
-    later_so (Some version) is above at has =
+    later_so : is_next_marked t.request.version ≡ false → (first : Option Version) → (walk_next N.places t.walk reply).first ≡ first → is_above first t.request.version ≡ true → t.step ≡ Walks → t.has_shared ≡ true → t.request.version.0 < phase_version N.words
+    later_so unmarked None is above at has = cc
+    later_so unmarked (Some version) is above at has =
         let up = first_said at has version is in
         let high : mark t.request.version.0 < version.0 = grind (arith, nat_tests, above) in
-        let own = mark_small t.request.version.0 t.request.version_fits in
+        let few : t.request.version.0 < 8191 = grind (arith, nat_tests, unmarked) in
+        let own = mark_small t.request.version.0 (omega (arith, few)) in
         omega (arith, up, high, own)
 
     walk_passes : t.step ≡ Walks → must_shift (record t { walk = walk_next N.places t.walk reply }) ≡ true → HasPassed top s.seen
     walk_passes at must =
-        let so = shift_so (is_prepare t.seen.phase) (is_read t.request.op) (is_above (walk_next N.places t.walk reply).first t.request.version) must in
-        let later = later_so (walk_next N.places t.walk reply).first refl so.2 at (shared at so.0 so.1) in
+        let so = shift_so (is_prepare t.seen.phase) (is_read t.request.op) (is_next_marked t.request.version) (is_above (walk_next N.places t.walk reply).first t.request.version) must in
+        let later = later_so so.3 (walk_next N.places t.walk reply).first refl so.2 at (shared at so.0 so.1) in
         let updates : is_read s.attempt.pending.request.op ≡ false = subst (λ (r : Request). is_read r.op ≡ false) row.its_request so.1 in
         let own = attempt_prepared given.floors given.left life.opening life.start before apart.quiet session became_so.0 s became_so.1 attempts updates (prepares_so so.0) in
         let request = ap (λ (r : Request). r.version.0) row.its_request in
@@ -251,9 +262,42 @@ module _ (given : Given) (life : BegunLife) (apart : OpensApart life) (before : 
 
     walk_never : t.step ≡ Walks → must_shift (record t { walk = walk_next N.places t.walk reply }) ≡ true → (is_prepare s.seen.phase ≡ true → is_read t.request.op ≡ false → t.request.has_latch ≡ true) → ⊥
     walk_never at must came =
-        let so = shift_so (is_prepare t.seen.phase) (is_read t.request.op) (is_above (walk_next N.places t.walk reply).first t.request.version) must in
-        let stays = came_stays H L N.places t reply (versions_fit given life apart before enabled) row.knows its_apart at (shared at so.0 so.1) (came (prepares_so so.0) so.1) in
+        let so = shift_so (is_prepare t.seen.phase) (is_read t.request.op) (is_next_marked t.request.version) (is_above (walk_next N.places t.walk reply).first t.request.version) must in
+        let stays = came_stays H L N.places t reply row.knows its_apart at (shared at so.0 so.1) (came (prepares_so so.0) so.1) in
         clash (must_shift (record t { walk = walk_next N.places t.walk reply })) must stays
+
+    -- ---- where the phase word is loaded behind the share
+    phase_row : t.step ≡ LoadsPhase → LatchRow t LoadsPhase
+    phase_row at = subst (LatchRow t) at its_apart.latch
+
+    phase_update : t.step ≡ LoadsPhase → is_read t.request.op ≡ false
+    phase_update at = subst (TryRow H L t) at row.knows.row
+
+    phase_loads : t.step ≡ LoadsPhase → reply ≡ word_at N.words (shared_place one.Phase)
+    phase_loads at = ap (reply_to N.words) (asks_phase (seat_at N session) s s.step attempts tries at)
+
+    -- what the session has seen is no further than the word
+    word_high : is_prepare s.seen.phase ≡ true → 5 * s.seen.version.0 + 1 ≤ rank_said (phase_said (word_at N.words (shared_place one.Phase)))
+    word_high prepares =
+        let stands : FloorStands life.opening before = given.floors life.opening life.start before apart.quiet.guarded apart.quiet.opened apart.quiet.seen in
+        let live = awake given.floors given.left life.opening life.start before apart.quiet session became_so.0 s became_so.1 attempts in
+        let low = (stands.floor session became_so.0 s became_so.1 live).low in
+        let saw = view_seen life.opening before session became_so.0 s became_so.1 in
+        let view : View = (sight_of life.opening before session).view in
+        let same : rank_of view ≡ 5 * s.seen.version.0 + 1 =
+        prepare_rank view.phase view.version.0 (subst (λ (p : Phase). is_prepare p ≡ true) saw.phase prepares) ∙ ap (λ (v : Version). 5 * v.0 + 1) (sym saw.version) in
+        let word = staged_rank N stands.number stands.stage stands.staged in
+        omega (arith, low, same, word)
+
+    phase_passes : t.step ≡ LoadsPhase → is_still_in (phase_said reply) t.request.version ≡ false → HasPassed top s.seen
+    phase_passes at other =
+        let prepares = prepares_so (phase_row at).0 in
+        let updates : is_read s.attempt.pending.request.op ≡ false = subst (λ (r : Request). is_read r.op ≡ false) row.its_request (phase_update at) in
+        let own = attempt_prepared given.floors given.left life.opening life.start before apart.quiet session became_so.0 s became_so.1 attempts updates prepares in
+        let request : t.request.version.0 ≡ s.attempt.pending.request.version.0 = ap (λ (r : Request). r.version.0) row.its_request in (
+          prepares,
+          rank_else (phase_said (word_at N.words (shared_place one.Phase))) t.request.version s.seen.version.0 (subst (λ (w : ℕ). is_still_in (phase_said w) t.request.version ≡ false) (phase_loads at) other) (request ∙ own) (word_high prepares),
+        )
 
     -- ---- where a share meets bit 63
     takes_row : t.step ≡ TakesShared → LatchRow t TakesShared
@@ -314,11 +358,13 @@ module _ (given : Given) (life : BegunLife) (apart : OpensApart life) (before : 
   replies_so = record {
     first = λ at tries. record {
       latch = λ takes adds bit. latch_passes (attempting_at (Attempts false) at refl) tries takes adds bit;
+      phase = λ loads other. phase_passes (attempting_at (Attempts false) at refl) tries loads other;
       walk = λ walks its ends must. walk_passes (attempting_at (Attempts false) at refl) tries walks must;
       full = λ call. tt;
     };
     second = λ at tries other. record {
       latch = λ takes adds bit. clash (is_prepare s.seen.phase) (prepares_so (attempting_at (Attempts true) at refl) tries (takes_row (attempting_at (Attempts true) at refl) tries takes).0) other;
+      phase = λ loads says. clash (is_prepare s.seen.phase) (prepares_so (attempting_at (Attempts true) at refl) tries (phase_row (attempting_at (Attempts true) at refl) tries loads).0) other;
       walk = λ walks its ends must. walk_never (attempting_at (Attempts true) at refl) tries walks must (λ prepares update. clash (is_prepare s.seen.phase) prepares other);
       full = λ call. tt;
     };
@@ -334,6 +380,7 @@ module _ (given : Given) (life : BegunLife) (apart : OpensApart life) (before : 
           (λ prepares update. subst (λ (r : Request). r.has_latch ≡ true) (sym same) (come prepares (subst (λ (r : Request). is_read r.op ≡ false) same update))) in
           record {
             latch = λ takes adds bit. (let its = takes_row attempts tries takes in clash t.request.has_latch (came (prepares_so attempts tries its.0) (takes_update attempts tries takes)) its.2);
+            phase = λ loads says. (let its = phase_row attempts tries loads in clash t.request.has_latch (came (prepares_so attempts tries its.0) (phase_update attempts tries loads)) its.2);
             walk = λ walks its ends must. walk_never attempts tries walks must came;
             full = λ call. never_call (sym (in_poll i at).goes.its_occasion ∙ (sym (try_in given life apart before session s found attempts tries).its_occasion ∙ call));
           }

@@ -83,6 +83,7 @@ try_on X Y F p t (trying.DropsExclusive its) on so = shift_on X Y F its on so
 try_on X Y F p t (trying.DropsShared its) on so = shift_on X Y F its on so
 try_on X Y F p t trying.TakesShared on (inl adds) = inl adds
 try_on X Y F p t trying.TakesShared on (inr x) = inr (on x)
+try_on X Y F p t trying.LoadsPhase on so = tt
 try_on X Y F p t trying.Walks on so = so
 try_on X Y F p t (trying.LoadsSafe addr version) on so = tt
 try_on X Y F p t (trying.SwapsValue addr) on so = tt

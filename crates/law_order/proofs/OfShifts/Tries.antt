@@ -26,14 +26,16 @@ use Rattle.law_commit.specs.Below.fkv_ops.Seen.{Seen}
 use Rattle.law_commit.specs.Below.fkv_ops.OldValue.{OldValue}
 use Rattle.law_commit.specs.Below.fkv_ops.OldValue.TheVariants.{InMemory, Known}
 use Rattle.law_commit.specs.Below.fkv_ops.TheTrying.{Trying}
-use Rattle.law_commit.specs.Below.fkv_ops.TheTrying.TheVariants.{Appends, ChangesValue, DropsExclusive, DropsShared, Ended, LoadsAnswer, LoadsCurrent, LoadsOld, LoadsSafe, SwapsValue, TakesExclusive, TakesShared, Walks}
+use Rattle.law_commit.specs.Below.fkv_ops.TheTrying.TheVariants.{Appends, ChangesValue, DropsExclusive, DropsShared, Ended, LoadsAnswer, LoadsCurrent, LoadsOld, LoadsPhase, LoadsSafe, SwapsValue, TakesExclusive, TakesShared, Walks}
 use Rattle.law_commit.specs.Below.fkv_ops.WalkAnswer.{WalkAnswer}
 use Rattle.law_commit.specs.Below.fkv_ops.WalkAnswer.TheVariants as walk
 use Rattle.law_commit.specs.Below.fkv_ops.Appending.{append_ask, append_next}
 use Rattle.law_commit.specs.Below.fkv_ops.Requests.{is_blind, is_read}
-use Rattle.law_commit.specs.Below.fkv_ops.Trying.{TryState, answer_ledto, append_ledto, appends, awaits, changes, copies, copies_from, current_ledto, ended_without, ends, exclusive_dropped, exclusive_ledto, full_at, has_walked, held_used, is_own_version, is_wait, met_disk, met_nowhere, met_record, must_shift, new_try, old_ledto, region_met, shared_dropped, shared_ledto, takes_effect, told_value, try_begun, try_next, trying_next, walk_ledto, walked, walks, wants_exclusive, wants_shared, with_latch}
+use Rattle.law_commit.specs.Below.fkv_ops.Trying.{TryState, answer_ledto, append_ledto, appends, awaits, changes, copies, copies_from, current_ledto, ended_without, ends, exclusive_dropped, exclusive_ledto, full_at, has_walked, held_used, is_own_version, is_wait, met_disk, met_nowhere, met_record, must_shift, new_try, old_ledto, region_met, shared_dropped, shared_ledto, takes_effect, told_value, try_begun, try_next, trying_next, walk_ledto, walked, walks, wants_exclusive, wants_shared, with_latch, is_next_marked, is_still_in, phase_loaded, is_surely_own}
 use Rattle.law_commit.specs.Below.fkv_ops.Values.{value_of}
 use Rattle.law_commit.specs.Below.fkv_ops.Walking.{walk_ask, walk_next, walk_on}
+use Rattle.fkv_words.specs.declared.phase_words.PhaseSaid.{PhaseSaid}
+use Rattle.fkv_words.specs.PhaseWords.{phase_said}
 use Rattle.fkv_plane.specs.declared.asks.Ask.{Ask}
 use Rattle.fkv_plane.specs.declared.asks.Ask.TheVariants.{Done}
 use Rattle.fkv_plane.specs.declared.places.Places.{Places}
@@ -145,13 +147,21 @@ module _ (X F : Type 0) (p : Places) where
 
   met_row : (t : TryState) (ask : Ask LatchAnswer) → t.step ≡ TakesShared → X → Row (shared_ledto p t ask)
   unfolding shared_ledto
-  met_row t (Done latch.Taken) at x = tt
+  met_row t (Done latch.Taken) at x = either (is_next_marked t.request.version) (record t { has_shared = true; step = LoadsPhase }) (walks p (record t { has_shared = true })) tt tt
   met_row t (Done its) at x = ends_row t answer.Shift x
   met_row t ask at x = still t TakesShared at (inr x)
 
   taken_row : (t : TryState) → Row (shared_ledto p t (Done latch.Taken))
   unfolding shared_ledto
-  taken_row t = tt
+  taken_row t = either (is_next_marked t.request.version) (record t { has_shared = true; step = LoadsPhase }) (walks p (record t { has_shared = true })) tt tt
+
+  phase_row : (t : TryState) (said : PhaseSaid) → (is_still_in said t.request.version ≡ false → X) → Row (phase_loaded p t said)
+  unfolding phase_loaded
+  phase_row t said other = by_word (is_still_in said t.request.version) refl
+    where
+      by_word : (b : Bool) → is_still_in said t.request.version ≡ b → Row (if b then walks p t else ends p t answer.Shift)
+      by_word true e = tt
+      by_word false e = ends_row t answer.Shift (other e)
 
   exclusive_row : (t : TryState) (old : OldValue) (ask : Ask LatchAnswer) → t.step ≡ TakesExclusive old → Row (exclusive_ledto p t old ask)
   unfolding exclusive_ledto
@@ -203,9 +213,11 @@ module _ (X F : Type 0) (p : Places) where
   append_row t its ask at full = still t (Appends its) at tt
 
 -- ---- each reply
--- What is known of the places that lead to one: where a share meets bit 63, where a walk ends that met a later version, and at a call.
+-- What is known of the places that lead to one: where a share meets bit 63, where the phase word says something else, where a walk ends that met a later
+-- version, and at a call.
 pub record ShiftsBy (X F : Type 0) (p : Places) (t : TryState) (reply : ℕ) : Type 0 where
   pub latch : t.step ≡ TakesShared → t.latching ≡ AddsShare (bucket_place p t.home.bucket 7) → is_exclusive reply ≡ true → X
+  pub phase : t.step ≡ LoadsPhase → is_still_in (phase_said reply) t.request.version ≡ false → X
   pub walk : t.step ≡ Walks → (its : WalkAnswer) → walk_ask p (walk_next p t.walk reply) ≡ Done its → must_shift (record t { walk = walk_next p t.walk reply }) ≡ true → X
   pub full : t.occasion ≡ Call → F
 
@@ -228,9 +240,10 @@ module _ (X F : Type 0) (p : Places) (room : ℕ) (t : TryState) (reply : ℕ) (
   unfolding trying_next
   row_on (Ended its) at row = still X F p quiet (Ended its) at row
   row_on TakesShared at row = shared_row at row
+  row_on LoadsPhase at row = phase_row X F p quiet (phase_said reply) (shifts.phase at)
   row_on Walks at row = led_row X F p (record t { effect = None; walk = walk_next p t.walk reply }) (walk_ask p (walk_next p t.walk reply)) at (walk_none p t.walk reply row) shifts.full (λ its e must. shifts.walk at its e must)
   row_on (LoadsSafe addr version) at row =
-      either X F p (nat_le reply addr.0) (ends p quiet (answer.Wait reason.Fuzzy)) (copies p quiet InMemory (is_own_version t version)) (ends_row X F p quiet (answer.Wait reason.Fuzzy) tt) (copies_row X F p quiet InMemory (is_own_version t version))
+      either X F p (nat_le reply addr.0) (ends p quiet (answer.Wait reason.Fuzzy)) (copies p quiet InMemory (is_surely_own t version)) (ends_row X F p quiet (answer.Wait reason.Fuzzy) tt) (copies_row X F p quiet InMemory (is_surely_own t version))
   row_on (SwapsValue addr) at row = effect_row X F p quiet (reply_from None t.request.op)
   row_on (LoadsCurrent addr) at row = current_row X F p (record t { effect = None; walk = walk_next p t.walk reply }) addr (walk_ask p (walk_next p t.walk reply)) at
   row_on (ChangesValue addr old) at row =

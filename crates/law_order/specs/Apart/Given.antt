@@ -1,6 +1,8 @@
--- What the laws of phases, latches and ends of versions say of a life's sessions.
+-- What the laws of phases, latches, ends of versions and ends of commits say of a life.
+use Rattle.law_commit.specs.Decided.Below.{IsLaterFromEnd, OfEachBegun}
+use Rattle.law_commit.specs.Decided.Ended.{CommitsHaveEnded}
 use Rattle.law_commit.specs.Floor.Stands.{FloorAlwaysStands, PaperHasFloor, PaperIsSound}
-use Rattle.law_commit.specs.Laws.Pasts.{ItsVersionIsNotAhead}
+use Rattle.law_commit.specs.Laws.Pasts.{BegunAreAsKept, ItsVersionIsNotAhead}
 use Rattle.law_commit.specs.Laws.Phases.{SafeIsBelowViews}
 use Rattle.law_commit.specs.Quiet.{LatchesAtItsVersion, NoneIsLeft}
 use Rattle.law_commit.specs.Shares.Alone.{BitIsPastPrepare}
@@ -20,3 +22,6 @@ pub record Given : Type 0 where
   pub ahead : ItsVersionIsNotAhead
   pub beside : StandsBesideNone
   pub safe : SafeIsBelowViews
+  pub begun : BegunAreAsKept
+  pub ended : CommitsHaveEnded
+  pub later : OfEachBegun IsLaterFromEnd

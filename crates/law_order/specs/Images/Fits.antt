@@ -4,6 +4,7 @@ use Rattle.fkv_base.specs.Limits.{last_version}
 use Rattle.fkv_base.specs.declared.commits.CommitKind.TheVariants.{Full}
 use Rattle.law_commit.specs.Below.fkv_keeper.LastCommits.{slot_place}
 use Rattle.law_commit.specs.Below.fkv_manifest.Newest.{slot_in}
+use Rattle.fkv_marks.specs.Window.{InWindow}
 use Rattle.law_opening.specs.Below.fkv_opening.TheOpened.{Opened}
 use Rattle.fkv_record.specs.Lost.{max_lost}
 use Rattle.fkv_record.specs.Places.{most_triples}
@@ -28,13 +29,14 @@ pub record NamesNone (o : Opened) (c : BegunCommit) : Type 0 where
 abbrev pub NamesItsLost : Opened → Now → BegunCommit → Type 0
 NamesItsLost o n c = NamesNone o c ⊎ NamesLost n c
 
--- A commit of a life is newer than the opening's, and not of the last version. Its checkpoint is its own or an older one. Its log ends at or above the opened
+-- A commit of a life is newer than the opening's, and not of the last version. Its checkpoint is its own or an older one, and it lies in the window of that. Its log ends at or above the opened
 -- tail and the address where the scan begins, and at or below the address up to which the log is flushed. A checkpoint that it has made has room. If it uses
 -- the checkpoint with which the store was opened, it names the lost ranges of then.
 pub record FitsLife (o : Opened) (n : Now) (flushed : ℕ) (c : BegunCommit) : Type 0 where
   pub few : c.number.0 < last_version
   pub newer : o.number.0 < c.number.0
   pub no_newer : c.parts.checkpoint.number.0 ≤ c.number.0
+  pub in_window : InWindow n.shape.class c.parts.checkpoint.number.0 c.number.0
   pub some : 1 ≤ c.parts.checkpoint.first.0
   pub upwards : c.parts.checkpoint.first.0 ≤ c.parts.end.0
   pub later : o.tail.0 ≤ c.parts.end.0

@@ -1,5 +1,5 @@
 -- What an image shows of the records of a log.
-use Rattle.std.specs.Prelude.{◌≡◌, ◌⊎◌, ℕ, ◌+◌, ◌^◌, ◌<◌, ◌≤◌, true, false}
+use Rattle.std.specs.Prelude.{◌≡◌, ◌⊎◌, ℕ, ◌+◌, ◌<◌, ◌≤◌, true, false}
 use Rattle.fkv_marks.specs.Marks.{mark}
 use Rattle.fkv_ops.specs.Values.{value_of}
 use Rattle.law_log.specs.Chains.{Cell, Logged, Unborn, Published, Dropped, VersionsFall}
@@ -11,7 +11,7 @@ use Rattle.fkv_scan.specs.Log.{record_home}
 use Rattle.fkv_scan.specs.Records.{Stands, losses_of}
 
 -- The image has a published record at its address: valid, with its key, its value and what it leads to. From an address on its header says the mark of the
--- record's version, which takes no more bits as yet. Below that it says no later one, since all that a store was opened with counts as of the opening's
+-- record's version. Below that it says no later one, since all that a store was opened with counts as of the opening's
 -- version.
 pub record ShowsCell (from : ℕ) (image : scan.Log) (a : ℕ) (cell : Cell) : Type 0 where
   pub held : Record
@@ -22,7 +22,6 @@ pub record ShowsCell (from : ℕ) (image : scan.Log) (a : ℕ) (cell : Cell) : T
   pub leads : (let x = held in x.header.previous.0 ≡ cell.previous)
   pub low : (let x = held in x.header.version.0 ≤ cell.version)
   pub same : from ≤ a → (let x = held in x.header.version.0 ≡ mark cell.version)
-  pub fits : from ≤ a → cell.version < 2 ^ 13
 
 -- It has one that was given up: with the invalid bit, leading below itself, and with the mark of its version. That is the version after the commit's at most.
 pub record ShowsDropped (image : scan.Log) (a : ℕ) (cell : Cell) : Type 0 where

@@ -2,7 +2,7 @@
 use Rattle.std.proofs.Common.{◌≡◌, ◌≢◌, ℕ, ◌+◌, ◌<◌, refl, sym, subst, arith, List, [], ◌∷◌, ◌++◌, length, Bool, true, false}
 use Rattle.std.specs.Prelude.{not, if◌then◌else◌, ◌==◌, nat_lt, nat_le, max, ⊤}
 use Rattle.std.proofs.lemmas.Bool.Decides.{nat_tests}
-use Rattle.fkv_base.specs.Limits.{last_version}
+use Rattle.fkv_base.specs.Limits.{last_of}
 use Rattle.fkv_base.specs.declared.faults.Fault.TheVariants as fault
 use Rattle.fkv_base.specs.declared.numbers.Addr.{Addr}
 use Rattle.fkv_base.specs.declared.numbers.Serial.{Serial}
@@ -37,6 +37,7 @@ use Rattle.law_world.specs.Below.fkv_commit.Entering.{EnterState, entering_ask, 
 use Rattle.law_world.specs.Below.fkv_commit.Finishing.{FinishState, durable_from, finish_begun, finishing_ask, finish_ask, finishing_next, finish_next}
 use Rattle.law_world.specs.Below.fkv_commit.Seeking as seeks
 use Rattle.law_world.specs.Below.fkv_commit.Seeking.{SeekState, owing_from, seek_begun, seeking_ask, seek_ask, points_from, point_taken, with_point, slot_led, cut_met, other_met, seeking_next, seek_next}
+use Rattle.law_world.specs.Below.fkv_keeper.Keeping.{KeeperState, asked_for}
 use Rattle.law_world.specs.Below.fkv_commit.Starting as starts
 use Rattle.law_world.specs.Below.fkv_commit.Starting.{StartState, start_begun, is_lost_full, starting_ask, start_ask, refused, phase_found, starting_next, start_next}
 use Rattle.law_world.specs.Below.fkv_commit.Waiting.{WaitState, waiting_ask, wait_ask}
@@ -79,8 +80,8 @@ start_either false a b one other = other
 
 found_spares : (s : StartState) (said : PhaseSaid) → IsStartSparing (phase_found s said)
 found_spares s (Says phase.Rest number) =
-    start_either (nat_le last_version number.0) (refused s fault.VersionsSpent) _ tt
-    (start_either (is_lost_full s.kind s.lost) (refused s fault.LostFull) (record s { defer = defer_begun s.defer; step = starting.Seeks number }) tt (defer_begun_spares s.defer))
+    start_either (nat_le (last_of s.asked.class) number.0) (refused s fault.VersionsSpent) _ tt
+    (start_either (is_lost_full s.asked number.0) (refused s fault.LostFull) (record s { defer = defer_begun s.defer; step = starting.Seeks number }) tt (defer_begun_spares s.defer))
 found_spares s (Says phase.Prepare number) = tt
 found_spares s (Says phase.InProgress number) = tt
 found_spares s (Says phase.WaitPending number) = tt
@@ -112,8 +113,8 @@ start_led s (starting.Defers number first) reply at bounds = start_deferred numb
 pub start_next_spares : (s : StartState) (reply : ℕ) → IsStartSparing s → IsStartSparing (start_next s reply)
 start_next_spares s reply bounds = start_led s s.step reply refl bounds
 
-pub start_begun_spares : (s : StartState) (kind : CommitKind) (lost : ℕ) → IsStartSparing (start_begun s kind lost)
-start_begun_spares s kind lost = tt
+pub start_begun_spares : (s : KeeperState) (kind : CommitKind) → IsStartSparing (start_begun s.start (asked_for s kind))
+start_begun_spares s kind = tt
 
 -- how it goes on to wait-pending
 abbrev pub EnterBounds : EnterState → Entering → Type 0

@@ -1,5 +1,5 @@
 -- The keeper spares each part, but the mailbox that it is at and the durable word that it stores.
-use Rattle.std.proofs.Common.{◌≡◌, ℕ, refl, sym, subst, List, [], ◌∷◌, length, Bool, true, false}
+use Rattle.std.proofs.Common.{◌≡◌, ℕ, refl, sym, subst, List, [], ◌∷◌, Bool, true, false}
 use Rattle.std.specs.Prelude.{if◌then◌else◌, ⊤, Option, Some, None, ◌||◌}
 use Rattle.fkv_base.specs.declared.faults.Fault.TheVariants as fault
 use Rattle.fkv_base.specs.declared.phases.Phase.TheVariants as phase
@@ -41,7 +41,7 @@ use Rattle.law_world.specs.Below.fkv_keeper.KeeperTold.{KeeperTold}
 use Rattle.law_world.specs.Below.fkv_keeper.KeeperTold.TheVariants.{TurnRefused, CommitRefused}
 use Rattle.law_world.specs.Below.fkv_keeper.TheKeeping.{Keeping}
 use Rattle.law_world.specs.Below.fkv_keeper.TheKeeping.TheVariants.{Ended, Starts, Maintains, LoadsPhase, Enters, Copies, Seeks, Waits, Writes, Finishes}
-use Rattle.law_world.specs.Below.fkv_keeper.Keeping.{KeeperState, copy_asked, device_passed, write_asked, keeping_ask, keeper_ask, ended, turned, commit_asked, turn_asked, start_ledto, maintain_ledto, copies, copies_next, part_begun, phase_ledto, enter_ledto, copy_ledto, seek_ledto, writes_begun, wait_ledto, finished, finish_ledto, copy_driven, keeping_next, keeping_given, write_ledto, writes_called, keeping_called, copy_taken, is_copy_resting}
+use Rattle.law_world.specs.Below.fkv_keeper.Keeping.{KeeperState, copy_asked, device_passed, write_asked, keeping_ask, keeper_ask, ended, turned, commit_asked, turn_asked, start_ledto, maintain_ledto, copies, copies_next, part_begun, phase_ledto, enter_ledto, copy_ledto, seek_ledto, writes_begun, wait_ledto, finished, finish_ledto, copy_driven, keeping_next, keeping_given, write_ledto, writes_called, keeping_called, copy_taken, is_copy_resting, asked_for}
 use Rattle.law_world.specs.Below.fkv_keeper.KeeperRun.{KeeperEvent, BeginsTurn, BeginsCommit, Replies, Gets, Calls, IsOpened, is_in_hand, begins, keeper_happens, keeper_run}
 use Rattle.law_refine.specs.Mail.Servers.{keeper_serving}
 use Rattle.law_refine.specs.Footprint.{Part, ThePhase, HasSeats, Spares}
@@ -252,8 +252,8 @@ module _ (count : ℕ) where
 
   commit_spares : (n : ℕ) (s : KeeperState) (kind : CommitKind) → s.finish.sessions ≡ count → IsKeeperSparing n count (commit_asked s kind)
   commit_spares n s kind counts =
-      either_spares s.is_broken n (ended s (CommitRefused fault.Broken)) (record s { start = start_begun s.start kind (length s.lost); step = Starts }) (ended_spares n s _ counts)
-      (record { counts = counts; bounds = start_begun_spares s.start kind (length s.lost) })
+      either_spares s.is_broken n (ended s (CommitRefused fault.Broken)) (record s { start = start_begun s.start (asked_for s kind); step = Starts }) (ended_spares n s _ counts)
+      (record { counts = counts; bounds = start_begun_spares s kind })
 
   begins_spares : (n : ℕ) (s : KeeperState) (busy : Bool) (begun : KeeperState) → IsKeeperSparing n count s → IsKeeperSparing n count begun → IsKeeperSparing n count (begins s busy begun)
   begins_spares n s true begun one other = one

@@ -6,6 +6,8 @@ use Rattle.fkv_base.specs.declared.numbers.Version.{Version}
 use Rattle.fkv_map.specs.declared.operations.Reply.{Reply}
 use Rattle.fkv_map.specs.Map.{absent_word}
 use Rattle.fkv_map.specs.Keys.{key_of, reply_from}
+use Rattle.fkv_words.specs.declared.phase_words.PhaseSaid.{PhaseSaid}
+use Rattle.fkv_words.specs.PhaseWords.{phase_said}
 use Rattle.fkv_plane.specs.declared.asks.Ask.{Ask}
 use Rattle.fkv_plane.specs.declared.asks.Ask.TheVariants.{Done}
 use Rattle.fkv_plane.specs.declared.places.Places.{Places}
@@ -28,14 +30,14 @@ use Rattle.law_world.specs.Below.fkv_ops.Seen.{Seen}
 use Rattle.law_world.specs.Below.fkv_ops.OldValue.{OldValue}
 use Rattle.law_world.specs.Below.fkv_ops.OldValue.TheVariants.{InMemory, Known}
 use Rattle.law_world.specs.Below.fkv_ops.TheTrying.{Trying}
-use Rattle.law_world.specs.Below.fkv_ops.TheTrying.TheVariants.{Ended, TakesShared, Walks, LoadsSafe, SwapsValue, LoadsCurrent, ChangesValue, LoadsAnswer, TakesExclusive, LoadsOld, Appends, DropsExclusive, DropsShared}
+use Rattle.law_world.specs.Below.fkv_ops.TheTrying.TheVariants.{Ended, TakesShared, LoadsPhase, Walks, LoadsSafe, SwapsValue, LoadsCurrent, ChangesValue, LoadsAnswer, TakesExclusive, LoadsOld, Appends, DropsExclusive, DropsShared}
 use Rattle.law_world.specs.Below.fkv_ops.WalkAnswer.{WalkAnswer}
 use Rattle.law_world.specs.Below.fkv_ops.WalkAnswer.TheVariants as walk
 use Rattle.law_world.specs.Below.fkv_ops.Values.{value_of}
 use Rattle.law_world.specs.Below.fkv_ops.Requests.{purpose_of, is_read, is_blind}
 use Rattle.law_world.specs.Below.fkv_ops.Walking.{walk_ask, walk_next, walk_on}
 use Rattle.law_world.specs.Below.fkv_ops.Appending.{append_ask, append_next}
-use Rattle.law_world.specs.Below.fkv_ops.Trying.{TryState, trying_ask, try_ask, with_latch, is_wait, ended_without, ends, takes_effect, walks, wants_shared, try_begun, shared_ledto, must_shift, wants_exclusive, slot_of, words_of, appends, copies_from, copies, awaits, held_used, met_nowhere, met_disk, changes, is_own_version, region_met, met_record, walked, has_walked, walk_ledto, safe_loaded, current_ledto, value_changed, told_value, answer_ledto, exclusive_ledto, old_ledto, append_ledto, exclusive_dropped, shared_dropped, latch_moved, trying_next, try_next, new_try}
+use Rattle.law_world.specs.Below.fkv_ops.Trying.{TryState, trying_ask, try_ask, with_latch, is_wait, ended_without, ends, takes_effect, walks, wants_shared, try_begun, shared_ledto, must_shift, wants_exclusive, slot_of, words_of, appends, copies_from, copies, awaits, held_used, met_nowhere, met_disk, changes, is_own_version, region_met, met_record, walked, has_walked, walk_ledto, safe_loaded, current_ledto, value_changed, told_value, answer_ledto, exclusive_ledto, old_ledto, append_ledto, exclusive_dropped, shared_dropped, latch_moved, trying_next, try_next, new_try, is_next_marked, is_surely_own, is_still_in, phase_loaded}
 use Rattle.fkv_latch.specs.declared.latching.Latching.TheVariants as latching
 use Rattle.law_world.specs.Below.fkv_ops.TheWalking.{Walking}
 use Rattle.law_world.specs.Below.fkv_ops.TheWalking.TheVariants as walking
@@ -86,6 +88,7 @@ trying_spares : (part : Part) (p : Places) (t : TryState) (step : Trying) → Tr
 unfolding trying_ask
 trying_spares part p t (Ended its) bounds rests = tt
 trying_spares part p t TakesShared bounds rests = passed_spares part p _ _ (latch_spares part p t.latching bounds rests.latch)
+trying_spares part p t LoadsPhase bounds rests = tt
 trying_spares part p t Walks bounds rests = passed_spares part p _ _ (walk_spares part p t.walk bounds (λ index. walk_past t t.walk.step (rests.search index)))
 trying_spares part p t (LoadsSafe addr version) bounds rests = tt
 trying_spares part p t (SwapsValue addr) bounds rests = record_outside part p addr.0 rec.Value
@@ -177,7 +180,7 @@ walk_ledto_spares p t (Done its) at bounds =
 walk_ledto_spares p t ask at bounds = stays_spares p t Walks at bounds
 
 safe_spares : (p : Places) (t : TryState) (addr : Addr) (version : Version) (safe : ℕ) → IsWalkSparing p t.walk → IsTrySparing p (safe_loaded p t addr version safe)
-safe_spares p t addr version safe bounds = either_spares (nat_le safe addr.0) p (ends p t (answer.Wait reason.Fuzzy)) (copies p t InMemory (is_own_version t version)) (ends_spares p t _) (copies_spares p t InMemory (is_own_version t version) bounds)
+safe_spares p t addr version safe bounds = either_spares (nat_le safe addr.0) p (ends p t (answer.Wait reason.Fuzzy)) (copies p t InMemory (is_surely_own t version)) (ends_spares p t _) (copies_spares p t InMemory (is_surely_own t version) bounds)
 
 current_spares : (p : Places) (t : TryState) (addr : Addr) (ask : Ask WalkAnswer) → t.step ≡ LoadsCurrent addr → IsWalkSparing p t.walk → IsTrySparing p (current_ledto p t addr ask)
 unfolding current_ledto
@@ -195,9 +198,13 @@ answer_spares p t (Done (walk.Value value)) at bounds = ends_spares p t (told_va
 answer_spares p t (Done its) at bounds = ends_spares p t _
 answer_spares p t ask at bounds = stays_spares p t LoadsAnswer at bounds
 
+phase_spares : (p : Places) (t : TryState) (said : PhaseSaid) → IsTrySparing p (phase_loaded p t said)
+unfolding phase_loaded
+phase_spares p t said = either_spares (is_still_in said t.request.version) p (walks p t) (ends p t answer.Shift) (walks_spares p t) (ends_spares p t answer.Shift)
+
 shared_spares : (p : Places) (t : TryState) (ask : Ask LatchAnswer) → t.step ≡ TakesShared → IsAtLatch p t.latching → IsTrySparing p (shared_ledto p t ask)
 unfolding shared_ledto
-shared_spares p t (Done Taken) at place = walks_spares p (record t { has_shared = true })
+shared_spares p t (Done Taken) at place = either_spares (is_next_marked t.request.version) p (record t { has_shared = true; step = LoadsPhase }) (walks p (record t { has_shared = true })) tt (walks_spares p (record t { has_shared = true }))
 shared_spares p t (Done its) at place = ends_spares p t answer.Shift
 shared_spares p t ask at place = stays_spares p t TakesShared at place
 
@@ -235,6 +242,7 @@ next_spares : (p : Places) (room : ℕ) (t : TryState) (step : Trying) (reply : 
 unfolding trying_next
 next_spares p room t (Ended its) reply at bounds = stays_spares p t (Ended its) at tt
 next_spares p room t TakesShared reply at bounds = shared_spares p (latch_moved t reply) (latch_next_ask t.latching reply) at (latch_stays p t.latching reply bounds)
+next_spares p room t LoadsPhase reply at bounds = phase_spares p t (phase_said reply)
 next_spares p room t Walks reply at bounds = walk_ledto_spares p (record t { walk = walk_next p t.walk reply }) (walk_ask p (walk_next p t.walk reply)) at (walk_next_spares p t.walk reply bounds)
 next_spares p room t (LoadsSafe addr version) reply at bounds = safe_spares p t addr version reply bounds
 next_spares p room t (SwapsValue addr) reply at bounds = ends_spares p (record t { effect = Some (reply_from None t.request.op) }) _

@@ -1,7 +1,6 @@
 -- What the guard keeps of addresses that are reserved, said of what sessions have reserved.
 use Rattle.std.proofs.Common.{◌≡◌, ℕ, suc, ◌<◌, ◌≤◌, ◌∙◌, refl, sym, ap, subst, List}
 use Rattle.std.specs.Prelude.{Option, Some, None}
-use Rattle.fkv_map.specs.declared.history.HistoryEntry.{HistoryEntry}
 use Rattle.law_world.specs.Below.fkv_flush.Guarded.{undecided_at, undecided_of}
 use Rattle.law_world.specs.Below.fkv_flush.GuardReserved.{UndecidedApart}
 use Rattle.law_world.specs.Below.fkv_flush.GuardSeen.{LastSeen}
@@ -33,6 +32,7 @@ use Rattle.law_world.specs.Guarded.GuardEvents as guard
 use Rattle.law_world.specs.Guarded.GuardEvents.{keeper_number}
 use Rattle.law_world.specs.Guarded.Shows.{IsOpened, Shows, guard_opening, seen_by_guard}
 use Rattle.law_world.proofs.OfGuarded.Worlds.{life_shows}
+use Rattle.law_refine.specs.Events.Appends.{NewRecord}
 use Rattle.law_refine.specs.Events.Reservations.{Reservation, invalidate_reserves, append_reserves, try_reserves, attempt_reserves}
 use Rattle.law_refine.specs.Events.Reserved.{HasReserved, ReservationsAreApart, ReservationsAreOpen, sitting_reserves}
 
@@ -42,16 +42,16 @@ addr_of None = None
 addr_of (Some its) = Some its.addr
 
 -- ---- it is the address that the guard has as undecided
-invalidate_addr : (a : AppendState) (entry : HistoryEntry) (its : Invalidating) → addr_of (invalidate_reserves a entry its) ≡ invalidate_undecided its
-invalidate_addr a entry invalidating.AtRest = refl
-invalidate_addr a entry (invalidating.StoresHeader addr header) = refl
+invalidate_addr : (a : AppendState) (made : NewRecord) (its : Invalidating) → addr_of (invalidate_reserves a made its) ≡ invalidate_undecided its
+invalidate_addr a made invalidating.AtRest = refl
+invalidate_addr a made (invalidating.StoresHeader addr header) = refl
 
-append_addr : (a : AppendState) (entry : HistoryEntry) (step : Appending) → addr_of (append_reserves a entry step) ≡ append_undecided a step
-append_addr a entry (appending.Ended its) = refl
-append_addr a entry appending.Reserves = refl
-append_addr a entry (appending.Fills addr) = refl
-append_addr a entry (appending.Publishes addr) = refl
-append_addr a entry appending.Invalidates = invalidate_addr a entry a.invalidating
+append_addr : (a : AppendState) (made : NewRecord) (step : Appending) → addr_of (append_reserves a made step) ≡ append_undecided a step
+append_addr a made (appending.Ended its) = refl
+append_addr a made appending.Reserves = refl
+append_addr a made (appending.Fills addr) = refl
+append_addr a made (appending.Publishes addr) = refl
+append_addr a made appending.Invalidates = invalidate_addr a made a.invalidating
 
 try_addr : (number : ℕ) (pending : PendingRequest) (seen : LastSeen) (t : TryState) (step : Trying) (addr : ℕ) → addr_of (try_reserves number pending t step) ≡ Some addr → (try_likeness_at seen t step).undecided ≡ Some addr
 try_addr number pending seen t (Appends its) addr e = sym (append_addr t.append _ t.append.step) ∙ e

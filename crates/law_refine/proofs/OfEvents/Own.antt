@@ -1,7 +1,6 @@
 -- What machines do is neither told nor fixes records.
 use Rattle.std.proofs.Common.{ℕ, Bool, true, false, List, [], ◌∷◌, ◌++◌}
 use Rattle.std.specs.Prelude.{⊤, slice_get, Option, Some, None, if◌then◌else◌, ◌==◌}
-use Rattle.fkv_map.specs.declared.history.HistoryEntry.{HistoryEntry}
 use Rattle.fkv_map.specs.declared.operations.Op.{Op}
 use Rattle.fkv_map.specs.declared.operations.Op.TheVariants.{Read}
 use Rattle.law_log.specs.Ghosts.{GhostEvent, Tells, Fixes}
@@ -30,7 +29,7 @@ use Rattle.law_world.specs.Below.fkv_session.Sessions.{SessionState, Seat, bits_
 use Rattle.law_world.specs.Below.fkv_world.Past.{Traced}
 use Rattle.law_world.specs.Below.fkv_world.Runs.{World}
 use Rattle.law_world.specs.Below.fkv_world.World.{Event, Moves, seat_at}
-use Rattle.law_refine.specs.Events.Appends.{reserved_ghosts, append_ghosts}
+use Rattle.law_refine.specs.Events.Appends.{reserved_ghosts, append_ghosts, NewRecord}
 use Rattle.law_world.specs.GuardSessions.Tries.{is_for_entry}
 use Rattle.law_refine.specs.Events.GhostEvents.{moved_ghosts, own_ghosts}
 use Rattle.law_refine.specs.Events.Lines.{read_in_hand, read_waiting}
@@ -52,12 +51,12 @@ either : (c : Bool) (xs ys : List GhostEvent) → AreOwn xs → AreOwn ys → Ar
 either true xs ys one other = one
 either false xs ys one other = other
 
-reserved_own : (a : AppendState) (entry : HistoryEntry) (ask : Ask ReserveAnswer) → AreOwn (reserved_ghosts a entry ask)
-reserved_own a entry (Done (Reserved addr)) = either (is_for_entry a addr) _ _ (tt, tt) (tt, (tt, tt))
-reserved_own a entry ask = tt
+reserved_own : (a : AppendState) (made : NewRecord) (ask : Ask ReserveAnswer) → AreOwn (reserved_ghosts a made ask)
+reserved_own a made (Done (Reserved addr)) = either (is_for_entry a addr) _ _ (tt, tt) (tt, (tt, tt))
+reserved_own a made ask = tt
 
-append_own : (room : ℕ) (a : AppendState) (entry : HistoryEntry) (step : Appending) (reply : ℕ) → AreOwn (append_ghosts room a entry step reply)
-append_own room a entry step reply = append_all AreOwn tt (λ addr. (tt, tt)) (λ addr. (tt, tt)) room a entry step reply (λ ask. reserved_own a entry ask)
+append_own : (room : ℕ) (a : AppendState) (made : NewRecord) (step : Appending) (reply : ℕ) → AreOwn (append_ghosts room a made step reply)
+append_own room a made step reply = append_all AreOwn tt (λ addr. (tt, tt)) (λ addr. (tt, tt)) room a made step reply (λ ask. reserved_own a made ask)
 
 try_own : (p : Places) (room session reader : ℕ) (pending : PendingRequest) (t : TryState) (step : Trying) (reply : ℕ) → AreOwn (try_ghosts p room session reader pending t step reply)
 try_own p room session reader pending t Walks reply = search_all AreOwn tt reader (tt, tt) p pending.request.op t.walk reply

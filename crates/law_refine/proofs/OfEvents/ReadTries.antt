@@ -2,6 +2,8 @@
 use Rattle.std.proofs.Common.{◌≡◌, ℕ, Bool, true, false}
 use Rattle.std.specs.Prelude.{◌&&◌, not, if◌then◌else◌, ⊤, None}
 use Rattle.fkv_map.specs.Keys.{key_of}
+use Rattle.fkv_words.specs.declared.phase_words.PhaseSaid.{PhaseSaid}
+use Rattle.fkv_words.specs.PhaseWords.{phase_said}
 use Rattle.fkv_plane.specs.declared.asks.Ask.{Ask}
 use Rattle.fkv_plane.specs.declared.asks.Ask.TheVariants.{Done}
 use Rattle.fkv_plane.specs.declared.places.Places.{Places}
@@ -16,13 +18,13 @@ use Rattle.law_world.specs.Below.fkv_ops.Occasion.{Occasion}
 use Rattle.law_world.specs.Below.fkv_ops.Request.{Request}
 use Rattle.law_world.specs.Below.fkv_ops.Seen.{Seen}
 use Rattle.law_world.specs.Below.fkv_ops.TheTrying.{Trying}
-use Rattle.law_world.specs.Below.fkv_ops.TheTrying.TheVariants.{Ended, TakesShared, Walks, LoadsSafe, SwapsValue, LoadsCurrent, ChangesValue, LoadsAnswer, TakesExclusive, LoadsOld, Appends, DropsExclusive, DropsShared}
+use Rattle.law_world.specs.Below.fkv_ops.TheTrying.TheVariants.{Ended, TakesShared, LoadsPhase, Walks, LoadsSafe, SwapsValue, LoadsCurrent, ChangesValue, LoadsAnswer, TakesExclusive, LoadsOld, Appends, DropsExclusive, DropsShared}
 use Rattle.law_world.specs.Below.fkv_ops.WalkAnswer.{WalkAnswer}
 use Rattle.law_world.specs.Below.fkv_ops.WalkAnswer.TheVariants as walk
 use Rattle.law_world.specs.Below.fkv_ops.Requests.{is_read}
 use Rattle.law_world.specs.Below.fkv_ops.Values.{value_of}
 use Rattle.law_world.specs.Below.fkv_ops.Walking.{walk_on}
-use Rattle.law_world.specs.Below.fkv_ops.Trying.{TryState, with_latch, is_wait, ended_without, ends, full_at, wants_shared, walks, try_begun, shared_ledto, must_shift, region_met, walked, has_walked, walk_ledto, told_value, answer_ledto, exclusive_dropped, shared_dropped, trying_next, try_next, new_try}
+use Rattle.law_world.specs.Below.fkv_ops.Trying.{TryState, with_latch, is_wait, ended_without, ends, full_at, wants_shared, walks, try_begun, shared_ledto, must_shift, region_met, walked, has_walked, walk_ledto, told_value, answer_ledto, exclusive_dropped, shared_dropped, trying_next, try_next, new_try, is_next_marked, is_still_in, phase_loaded}
 use Rattle.law_world.specs.Below.fkv_pending.PendingRequest.{PendingRequest}
 use Rattle.law_refine.specs.Events.Effects.{AreQuiet}
 use Rattle.law_refine.specs.Events.Tries.{try_ghosts}
@@ -72,9 +74,13 @@ walked_read p t walk.Contended e = ends_read p t (answer.Wait reason.Contended) 
 -- ---- each reply to it
 shared_read : (p : Places) (t : TryState) (ask : Ask LatchAnswer) → IsReadTry t → IsReadTry (shared_ledto p t ask)
 unfolding shared_ledto
-shared_read p t (Done latch.Taken) its = record { reads = its.reads; step = tt }
+shared_read p t (Done latch.Taken) its = either_read (is_next_marked t.request.version) (record t { has_shared = true; step = LoadsPhase }) (walks p (record t { has_shared = true })) (record { reads = its.reads; step = tt }) (record { reads = its.reads; step = tt })
 shared_read p t (Done told) its = ends_read p t answer.Shift its.reads
 shared_read p t ask its = its
+
+phase_read : (p : Places) (t : TryState) (said : PhaseSaid) → is_read t.request.op ≡ true → IsReadTry (phase_loaded p t said)
+unfolding phase_loaded
+phase_read p t said reads = either_read (is_still_in said t.request.version) (walks p t) (ends p t answer.Shift) (record { reads = reads; step = tt }) (ends_read p t answer.Shift reads)
 
 walk_read : (p : Places) (t : TryState) (ask : Ask WalkAnswer) → IsReadTry t → IsReadTry (walk_ledto p t ask)
 unfolding walk_ledto
@@ -103,6 +109,7 @@ step_read : (p : Places) (room : ℕ) (t : TryState) (step : Trying) (reply : �
 unfolding trying_next
 step_read p room t (Ended end) reply knows its = its
 step_read p room t TakesShared reply knows its = shared_read p _ _ (record { reads = its.reads; step = its.step })
+step_read p room t LoadsPhase reply knows its = phase_read p t (phase_said reply) its.reads
 step_read p room t Walks reply knows its = walk_read p _ _ (record { reads = its.reads; step = its.step })
 step_read p room t (LoadsSafe addr version) reply knows its = absurd knows
 step_read p room t (SwapsValue addr) reply knows its = absurd knows

@@ -67,7 +67,7 @@ use Rattle.law_refine.proofs.OfEvents.ReadTries.{IsReadTry, try_read, begun_read
 use Rattle.law_refine.proofs.OfEvents.TryAppends.{IsTryAt, begun_at, try_at}
 
 -- ---- an attempt
--- the try of this request: a read's is one of a read, and what it appends is of the request's version and key
+-- the try of this request: a read's is one of a read, and what it appends has the mark of the request's version, and its key
 pub record IsTryOf (pending : PendingRequest) (t : TryState) : Type 0 where
   pub reads : is_read pending.request.op ≡ true → IsReadTry t
   pub of_request : IsTryAt pending.request t

@@ -1,6 +1,5 @@
 -- What a search and an append do is so, if it is so of each event that they have.
 use Rattle.std.proofs.Common.{ℕ, List, [], ◌∷◌}
-use Rattle.fkv_map.specs.declared.history.HistoryEntry.{HistoryEntry}
 use Rattle.fkv_map.specs.declared.operations.Op.{Op}
 use Rattle.fkv_map.specs.declared.operations.Op.TheVariants.{Read}
 use Rattle.fkv_plane.specs.declared.asks.Ask.{Ask}
@@ -24,7 +23,7 @@ use Rattle.law_world.specs.Below.fkv_ops.TheWalking.TheVariants.{Finds}
 use Rattle.law_world.specs.Below.fkv_ops.Appending.{AppendState}
 use Rattle.law_world.specs.Below.fkv_ops.Walking.{WalkState}
 use Rattle.law_log.specs.Ghosts.{Drops, FindsEntry, GhostEvent, Publishes}
-use Rattle.law_refine.specs.Events.Appends.{append_ghosts, invalidate_ghosts, publish_ghosts, reserved_ghosts}
+use Rattle.law_refine.specs.Events.Appends.{append_ghosts, invalidate_ghosts, publish_ghosts, reserved_ghosts, NewRecord}
 use Rattle.law_refine.specs.Events.Tries.{find_ghosts, found_ghosts, search_ghosts, walk_ghosts}
 
 -- ---- a read's search finds the entry, and no other search does anything
@@ -57,8 +56,8 @@ module _ (AllAre : List GhostEvent → Type 0) (none : AllAre []) (drops : (addr
     publish_all addr (Done Won) = publishes addr
     publish_all addr ask = none
 
-    pub append_all : (room : ℕ) (a : AppendState) (entry : HistoryEntry) (step : Appending) (reply : ℕ) → ((ask : Ask ReserveAnswer) → AllAre (reserved_ghosts a entry ask)) → AllAre (append_ghosts room a entry step reply)
-    append_all room a entry appending.Reserves reply reserves = reserves (reserve_next_ask room a.reserving reply)
-    append_all room a entry (appending.Publishes addr) reply reserves = publish_all addr.0 (publish_next_ask a.publishing reply)
-    append_all room a entry appending.Invalidates reply reserves = invalidate_all a.invalidating
-    append_all room a entry step reply reserves = none
+    pub append_all : (room : ℕ) (a : AppendState) (made : NewRecord) (step : Appending) (reply : ℕ) → ((ask : Ask ReserveAnswer) → AllAre (reserved_ghosts a made ask)) → AllAre (append_ghosts room a made step reply)
+    append_all room a made appending.Reserves reply reserves = reserves (reserve_next_ask room a.reserving reply)
+    append_all room a made (appending.Publishes addr) reply reserves = publish_all addr.0 (publish_next_ask a.publishing reply)
+    append_all room a made appending.Invalidates reply reserves = invalidate_all a.invalidating
+    append_all room a made step reply reserves = none

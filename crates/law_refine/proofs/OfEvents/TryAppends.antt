@@ -1,13 +1,15 @@
--- What a try appends is of its request's version, and is published by a word that carries the address which it has reserved, behind the record that was found.
-use Rattle.std.proofs.Common.{◌≡◌, ◌∙◌, ℕ, ◌^◌, ◌<◌, arith, refl, sym, ap, subst, Bool, true, false}
+-- What a try appends has the mark of its request's version, and is published by a word that carries the address which it has reserved, behind the record that was found.
+use Rattle.std.proofs.Common.{◌≡◌, ℕ, ◌^◌, ◌<◌, arith, refl, sym, ap, subst, Bool, true, false}
 use Rattle.std.specs.Prelude.{◌==◌, ◌&&◌, not, nat_le, nat_lt, if◌then◌else◌, ⊤, Option, Some, None}
 use Rattle.std.proofs.lemmas.Bool.Decides.{nat_tests}
 use Rattle.fkv_base.specs.declared.numbers.Addr.{Addr}
 use Rattle.fkv_base.specs.declared.numbers.Version.{Version}
-use Rattle.fkv_marks.proofs.Shown.{mark_small}
+use Rattle.fkv_marks.specs.Marks.{mark}
 use Rattle.fkv_map.specs.declared.operations.Reply.{Reply}
 use Rattle.fkv_map.specs.Map.{absent_word}
 use Rattle.fkv_map.specs.Keys.{key_of, reply_from}
+use Rattle.fkv_words.specs.declared.phase_words.PhaseSaid.{PhaseSaid}
+use Rattle.fkv_words.specs.PhaseWords.{phase_said}
 use Rattle.fkv_plane.specs.declared.asks.Ask.{Ask}
 use Rattle.fkv_plane.specs.declared.asks.Ask.TheVariants.{Done}
 use Rattle.fkv_plane.specs.declared.places.Places.{Places}
@@ -42,14 +44,14 @@ use Rattle.law_world.specs.Below.fkv_ops.Seen.{Seen}
 use Rattle.law_world.specs.Below.fkv_ops.OldValue.{OldValue}
 use Rattle.law_world.specs.Below.fkv_ops.OldValue.TheVariants.{InMemory, Known}
 use Rattle.law_world.specs.Below.fkv_ops.TheTrying.{Trying}
-use Rattle.law_world.specs.Below.fkv_ops.TheTrying.TheVariants.{Ended, TakesShared, Walks, LoadsSafe, SwapsValue, LoadsCurrent, ChangesValue, LoadsAnswer, TakesExclusive, LoadsOld, Appends, DropsExclusive, DropsShared}
+use Rattle.law_world.specs.Below.fkv_ops.TheTrying.TheVariants.{Ended, TakesShared, LoadsPhase, Walks, LoadsSafe, SwapsValue, LoadsCurrent, ChangesValue, LoadsAnswer, TakesExclusive, LoadsOld, Appends, DropsExclusive, DropsShared}
 use Rattle.law_world.specs.Below.fkv_ops.WalkAnswer.{WalkAnswer}
 use Rattle.law_world.specs.Below.fkv_ops.WalkAnswer.TheVariants as walk
 use Rattle.law_world.specs.Below.fkv_ops.Requests.{is_read, is_blind}
 use Rattle.law_world.specs.Below.fkv_ops.Values.{value_of}
 use Rattle.law_world.specs.Below.fkv_ops.Walking.{walk_on}
 use Rattle.law_world.specs.Below.fkv_ops.Appending.{AppendState, append_ended, append_ask, append_next, reserve_ledto, fill_ledto, publish_ledto, invalidate_ledto, appending_next}
-use Rattle.law_world.specs.Below.fkv_ops.Trying.{TryState, with_latch, is_wait, ended_without, ends, takes_effect, full_at, wants_shared, walks, try_begun, shared_ledto, must_shift, wants_exclusive, appends, copies_from, copies, awaits, held_used, changes, is_own_version, region_met, walked, has_walked, walk_ledto, safe_loaded, current_ledto, value_changed, told_value, answer_ledto, exclusive_ledto, old_ledto, append_ledto, exclusive_dropped, shared_dropped, trying_next, try_next, new_try}
+use Rattle.law_world.specs.Below.fkv_ops.Trying.{TryState, with_latch, is_wait, ended_without, ends, takes_effect, full_at, wants_shared, walks, try_begun, shared_ledto, must_shift, wants_exclusive, appends, copies_from, copies, awaits, held_used, changes, is_own_version, region_met, walked, has_walked, walk_ledto, safe_loaded, current_ledto, value_changed, told_value, answer_ledto, exclusive_ledto, old_ledto, append_ledto, exclusive_dropped, shared_dropped, trying_next, try_next, new_try, is_next_marked, is_still_in, phase_loaded, is_surely_own}
 
 -- ---- an append
 -- by its control state: the address fits an entry, and the publish swaps in a word with it
@@ -58,9 +60,9 @@ HoldsAt a (appending.Fills addr) = addr.0 < 2 ^ 48
 HoldsAt a (appending.Publishes addr) = (addr.0 < 2 ^ 48) × (a.publishing ≡ SwapsEntry a.slot.place a.slot.entry (new_entry addr.0 a.slot.tag))
 HoldsAt a step = ⊤
 
--- its words are of this request's version and key, and the record before is the one that the word of the entry names which was found
+-- its words have the mark of this request's version, and its key, and the record before is the one that the word of the entry names which was found
 pub record WordsAre (request : Request) (its_words : RecordWords) (entry : ℕ) : Type 0 where
-  pub its_version : its_words.header.version ≡ request.version
+  pub its_mark : its_words.header.version.0 ≡ mark request.version.0
   pub its_key : its_words.key ≡ key_of request.op
   pub previous : its_words.header.previous.0 ≡ entry_addr entry
 
@@ -146,12 +148,9 @@ ends_at p request t its e =
 takes_at : (p : Places) (request : Request) (t : TryState) (its : Reply) → t.request ≡ request → IsTryAt request (takes_effect p t its)
 takes_at p request t its e = ends_at p request (record t { effect = Some its }) (answer.Done its) e
 
-its_number : ℕ → Version
-its_number n = record { 0 = n }
-
 appends_at : (request : Request) (t : TryState) (old : ℕ) → t.request ≡ request → IsTryAt request (appends t old)
-unfolding appends its_number
-appends_at request t old e = record { same = e; knows = record { same = record { its_version = ap (λ (n : ℕ). its_number n) (mark_small t.request.version.0 t.request.version_fits) ∙ ap (λ (r : Request). r.version) e; its_key = ap (λ (r : Request). key_of r.op) e; previous = refl }; holds = tt } }
+unfolding appends
+appends_at request t old e = record { same = e; knows = record { same = record { its_mark = ap (λ (r : Request). mark r.version.0) e; its_key = ap (λ (r : Request). key_of r.op) e; previous = refl }; holds = tt } }
 
 from_at : (request : Request) (t : TryState) (old : OldValue) → t.request ≡ request → IsTryAt request (copies_from t old)
 unfolding copies_from
@@ -201,9 +200,13 @@ stays_at request t step at its e = record { same = e; knows = subst (KnowsAt req
 
 shared_at : (p : Places) (request : Request) (t : TryState) (ask : Ask LatchAnswer) → t.step ≡ TakesShared → t.request ≡ request → IsTryAt request (shared_ledto p t ask)
 unfolding shared_ledto
-shared_at p request t (Done latch.Taken) at e = record { same = e; knows = tt }
+shared_at p request t (Done latch.Taken) at e = either_at (is_next_marked t.request.version) request (record t { has_shared = true; step = LoadsPhase }) (walks p (record t { has_shared = true })) (record { same = e; knows = tt }) (record { same = e; knows = tt })
 shared_at p request t (Done told) at e = ends_at p request t answer.Shift e
 shared_at p request t ask at e = stays_at request t TakesShared at tt e
+
+phase_at : (p : Places) (request : Request) (t : TryState) (said : PhaseSaid) → t.request ≡ request → IsTryAt request (phase_loaded p t said)
+unfolding phase_loaded
+phase_at p request t said e = either_at (is_still_in said t.request.version) request (walks p t) (ends p t answer.Shift) (record { same = e; knows = tt }) (ends_at p request t answer.Shift e)
 
 walk_at : (p : Places) (request : Request) (t : TryState) (ask : Ask WalkAnswer) → t.step ≡ Walks → t.request ≡ request → IsTryAt request (walk_ledto p t ask)
 unfolding walk_ledto
@@ -214,7 +217,7 @@ walk_at p request t ask at e = stays_at request t Walks at tt e
 
 safe_at : (p : Places) (request : Request) (t : TryState) (addr : Addr) (found : Version) (safe : ℕ) → t.request ≡ request → IsTryAt request (safe_loaded p t addr found safe)
 safe_at p request t addr found safe e =
-    either_at (nat_le safe addr.0) request (ends p t (answer.Wait reason.Fuzzy)) (copies p t InMemory (is_own_version t found)) (ends_at p request t (answer.Wait reason.Fuzzy) e) (copies_at p request t InMemory (is_own_version t found) e)
+    either_at (nat_le safe addr.0) request (ends p t (answer.Wait reason.Fuzzy)) (copies p t InMemory (is_surely_own t found)) (ends_at p request t (answer.Wait reason.Fuzzy) e) (copies_at p request t InMemory (is_surely_own t found) e)
 
 current_at : (p : Places) (request : Request) (t : TryState) (addr : Addr) (ask : Ask WalkAnswer) → t.step ≡ LoadsCurrent addr → t.request ≡ request → IsTryAt request (current_ledto p t addr ask)
 unfolding current_ledto
@@ -267,6 +270,7 @@ step_at : (p : Places) (room : ℕ) (request : Request) (t : TryState) (step : T
 unfolding trying_next
 step_at p room request t (Ended end) reply at so e = stays_at request t (Ended end) at tt e
 step_at p room request t TakesShared reply at so e = shared_at p request _ _ at e
+step_at p room request t LoadsPhase reply at so e = phase_at p request t (phase_said reply) e
 step_at p room request t Walks reply at so e = walk_at p request _ _ at e
 step_at p room request t (LoadsSafe addr found) reply at so e = safe_at p request t addr found reply e
 step_at p room request t (SwapsValue addr) reply at so e = takes_at p request t _ e

@@ -12,6 +12,8 @@ use Rattle.fkv_map.specs.declared.operations.Reply.{Reply}
 use Rattle.fkv_map.specs.Map.{absent_word}
 use Rattle.fkv_map.specs.Keys.{key_of, value_applied, reply_from}
 use Rattle.law_log.specs.Ghosts.{GhostEvent, Changes, Reserves as TakesAddr, Drops}
+use Rattle.fkv_words.specs.declared.phase_words.PhaseSaid.{PhaseSaid}
+use Rattle.fkv_words.specs.PhaseWords.{phase_said}
 use Rattle.fkv_plane.specs.declared.asks.Ask.{Ask}
 use Rattle.fkv_plane.specs.declared.asks.Ask.TheVariants.{Load, Store, Swap, Cas, Add, Max, Put, Take, Done}
 use Rattle.fkv_plane.specs.declared.places.RecordWord.TheVariants as rec
@@ -37,14 +39,14 @@ use Rattle.law_world.specs.Below.fkv_ops.Request.{Request}
 use Rattle.law_world.specs.Below.fkv_ops.OldValue.{OldValue}
 use Rattle.law_world.specs.Below.fkv_ops.OldValue.TheVariants.{InMemory, Known}
 use Rattle.law_world.specs.Below.fkv_ops.TheTrying.{Trying}
-use Rattle.law_world.specs.Below.fkv_ops.TheTrying.TheVariants.{Ended, TakesShared, Walks, LoadsSafe, SwapsValue, LoadsCurrent, ChangesValue, LoadsAnswer, TakesExclusive, LoadsOld, Appends, DropsExclusive, DropsShared}
+use Rattle.law_world.specs.Below.fkv_ops.TheTrying.TheVariants.{Ended, TakesShared, LoadsPhase, Walks, LoadsSafe, SwapsValue, LoadsCurrent, ChangesValue, LoadsAnswer, TakesExclusive, LoadsOld, Appends, DropsExclusive, DropsShared}
 use Rattle.law_world.specs.Below.fkv_ops.WalkAnswer.{WalkAnswer}
 use Rattle.law_world.specs.Below.fkv_ops.WalkAnswer.TheVariants as walk
 use Rattle.law_world.specs.Below.fkv_ops.Requests.{is_read, is_blind}
 use Rattle.law_world.specs.Below.fkv_ops.Values.{value_of, word_of}
 use Rattle.law_world.specs.Below.fkv_ops.Walking.{WalkState, walk_ask, walk_next, walk_on}
 use Rattle.law_world.specs.Below.fkv_ops.Appending.{AppendState, append_ask, append_next, append_ended, appending_ask, reserve_ledto, fill_ledto, publish_ledto, invalidate_ledto, appending_next}
-use Rattle.law_world.specs.Below.fkv_ops.Trying.{TryState, with_latch, is_wait, ended_without, ends, takes_effect, full_at, shared_ledto, must_shift, wants_exclusive, appends, copies_from, copies, awaits, held_used, met_nowhere, met_disk, changes, is_own_version, region_met, met_record, walked, has_walked, walk_ledto, safe_loaded, current_ledto, told_value, answer_ledto, exclusive_ledto, old_ledto, append_ledto, exclusive_dropped, shared_dropped, latch_moved, walk_moved, trying_ask, try_ask, trying_next, try_next}
+use Rattle.law_world.specs.Below.fkv_ops.Trying.{TryState, with_latch, is_wait, ended_without, ends, takes_effect, full_at, shared_ledto, must_shift, wants_exclusive, appends, copies_from, copies, awaits, held_used, met_nowhere, met_disk, changes, is_own_version, region_met, met_record, walked, has_walked, walk_ledto, safe_loaded, current_ledto, told_value, answer_ledto, exclusive_ledto, old_ledto, append_ledto, exclusive_dropped, shared_dropped, latch_moved, walk_moved, trying_ask, try_ask, trying_next, try_next, is_next_marked, is_still_in, phase_loaded, is_surely_own, walks}
 use Rattle.law_world.proofs.Below.fkv_ops.Shown.{is_append_end, TryRestsOrAsks, IsAppendUnderWay}
 use Rattle.law_world.specs.Below.fkv_pending.PendingRequest.{PendingRequest}
 use Rattle.law_world.specs.Below.fkv_log.ReserveAnswer.{ReserveAnswer}
@@ -59,7 +61,7 @@ use Rattle.fkv_index.specs.declared.publishing.Publishing.TheVariants.{AtRest, S
 use Rattle.fkv_index.specs.IndexWorld.{new_entry}
 use Rattle.fkv_index.specs.Publishing.{publish_ask, publish_next, publish_next_ask, published_where}
 use Rattle.fkv_index.specs.Slots.{entry_addr}
-use Rattle.law_refine.specs.Events.Appends.{entry_made, reserved_ghosts, publish_ghosts, invalidate_ghosts, append_ghosts}
+use Rattle.law_refine.specs.Events.Appends.{entry_made, reserved_ghosts, publish_ghosts, invalidate_ghosts, append_ghosts, NewRecord, new_record}
 use Rattle.law_world.specs.GuardSessions.Tries.{is_for_entry}
 use Rattle.law_local.specs.Tries.TryRows.{cell_of}
 use Rattle.law_refine.specs.Events.Effects.{AreQuiet, Stepped, stepped, ChangesAt, TakesEffect, Quietly, InPlace, ByRecord}
@@ -127,20 +129,20 @@ unfolding invalidate_ledto appending_ask
 invalidate_none p a its (Done told) at = refl
 invalidate_none p a its ask at = going_none p a a.step its (ap is_append_end at)
 
-reserved_quiet : (a : AppendState) (entry : HistoryEntry) (ask : Ask ReserveAnswer) → AreQuiet (reserved_ghosts a entry ask)
-reserved_quiet a entry (Done (reserve.Reserved addr)) = by_test (is_for_entry a addr)
+reserved_quiet : (a : AppendState) (made : NewRecord) (ask : Ask ReserveAnswer) → AreQuiet (reserved_ghosts a made ask)
+reserved_quiet a made (Done (reserve.Reserved addr)) = by_test (is_for_entry a addr)
   where
-    by_test : (c : Bool) → AreQuiet (if c then TakesAddr addr.0 entry (cell_of a.its_words) ∷ [] else Drops addr.0 ∷ TakesAddr addr.0 entry (cell_of a.its_words) ∷ [])
+    by_test : (c : Bool) → AreQuiet (if c then TakesAddr addr.0 made.entry (cell_of made.version a.its_words) ∷ [] else Drops addr.0 ∷ TakesAddr addr.0 made.entry (cell_of made.version a.its_words) ∷ [])
     by_test true = (tt, tt)
     by_test false = (tt, (tt, tt))
-reserved_quiet a entry ask = tt
+reserved_quiet a made ask = tt
 
 new_addr : (addr tag : ℕ) → addr < 2 ^ 48 → entry_addr (new_entry addr tag) ≡ addr
 new_addr addr tag low = omega (arith, low)
 
 -- the Cas that publishes it
 publish_takes : (p : Places) (a : AppendState) (session : ℕ) (pending : PendingRequest) (its : Reply) (addr : Addr) (place word tag reply : ℕ) → addr.0 < 2 ^ 48 → WordsAre pending.request a.its_words word
-    → TakesEffect (stepped {A = PublishAnswer} p pending.request.version (Some (reservation a (entry_made session pending its) addr.0)) (Cas place word (new_entry addr.0 tag)) reply) (publish_ghosts addr.0 (Done (published_where word reply)))
+    → TakesEffect (stepped {A = PublishAnswer} p pending.request.version (Some (reservation a (new_record session pending its) addr.0)) (Cas place word (new_entry addr.0 tag)) reply) (publish_ghosts addr.0 (Done (published_where word reply)))
     (made_entry session pending (published_reply its (append_ask p (publish_ledto (record a { publishing = AtRest }) addr (Done (published_where word reply))))))
 unfolding publish_ledto appending_ask
 publish_takes p a session pending its addr place word tag reply fits so = by_test (reply == word) refl
@@ -149,34 +151,34 @@ publish_takes p a session pending its addr place word tag reply fits so = by_tes
     found e = let its_word : reply ≡ word = grind (arith, nat_tests, e) in ap entry_addr its_word ∙ sym so.previous
 
     by_test : (c : Bool) → (reply == word) ≡ c
-        → TakesEffect (record { places = p; place = Some place; found = reply; word = if c then new_entry addr.0 tag else reply; version = pending.request.version; reserved = Some (reservation a (entry_made session pending its) addr.0) })
+        → TakesEffect (record { places = p; place = Some place; found = reply; word = if c then new_entry addr.0 tag else reply; version = pending.request.version; reserved = Some (reservation a (new_record session pending its) addr.0) })
         (publish_ghosts addr.0 (Done (if c then publish.Won else publish.Lost)))
         (made_entry session pending (published_reply its (append_ask p (publish_ledto (record a { publishing = AtRest }) addr (Done (if c then publish.Won else publish.Lost))))))
     by_test true e =
-        ByRecord (reservation a (entry_made session pending its) addr.0)
-        (record { reserved = refl; its_key = ap (λ (key : Key). key.0) so.its_key; its_version = ap (λ (v : Version). v.0) so.its_version; previous = found e; its_addr = new_addr addr.0 tag fits })
+        ByRecord (reservation a (new_record session pending its) addr.0)
+        (record { reserved = refl; its_key = ap (λ (key : Key). key.0) so.its_key; its_version = refl; previous = found e; its_addr = new_addr addr.0 tag fits })
     by_test false e = quiet session pending _ [] _ tt (going_none p (publish_ledto (record a { publishing = AtRest }) addr (Done publish.Lost)) appending.Invalidates its refl)
 
 publish_so : (p : Places) (a : AppendState) (session : ℕ) (pending : PendingRequest) (its : Reply) (addr : Addr) (step : Publishing) (place word tag reply : ℕ) → step ≡ SwapsEntry place word (new_entry addr.0 tag) → addr.0 < 2 ^ 48
     → WordsAre pending.request a.its_words word
-    → TakesEffect (stepped p pending.request.version (Some (reservation a (entry_made session pending its) addr.0)) (publish_ask step) reply) (publish_ghosts addr.0 (publish_next_ask step reply))
+    → TakesEffect (stepped p pending.request.version (Some (reservation a (new_record session pending its) addr.0)) (publish_ask step) reply) (publish_ghosts addr.0 (publish_next_ask step reply))
     (made_entry session pending (published_reply its (append_ask p (publish_ledto (record a { publishing = publish_next step reply }) addr (publish_next_ask step reply)))))
 unfolding publish_ask publish_next publish_next_ask
 publish_so p a session pending its addr step place word tag reply e fits so = rw e (publish_takes p a session pending its addr place word tag reply fits so)
 
 append_takes : (p : Places) (room : ℕ) (a : AppendState) (session : ℕ) (pending : PendingRequest) (its : Reply) (step : Appending) (reply : ℕ) → a.step ≡ step → is_append_end step ≡ false
     → HoldsAt a step → WordsAre pending.request a.its_words a.slot.entry
-    → TakesEffect (stepped p pending.request.version (append_reserves a (entry_made session pending its) step) (appending_ask p a step) reply) (append_ghosts room a (entry_made session pending its) step reply)
+    → TakesEffect (stepped p pending.request.version (append_reserves a (new_record session pending its) step) (appending_ask p a step) reply) (append_ghosts room a (new_record session pending its) step reply)
     (made_entry session pending (published_reply its (append_ask p (appending_next p room a step reply))))
 unfolding appending_next appending_ask
 append_takes p room a session pending its (appending.Ended told) reply at goes holds same = cc
 append_takes p room a session pending its appending.Reserves reply at goes holds same =
-    quiet session pending _ (reserved_ghosts a (entry_made session pending its) (reserve_next_ask room a.reserving reply)) _ (reserved_quiet a _ (reserve_next_ask room a.reserving reply))
+    quiet session pending _ (reserved_ghosts a (new_record session pending its) (reserve_next_ask room a.reserving reply)) _ (reserved_quiet a _ (reserve_next_ask room a.reserving reply))
     (reserve_none p (record a { reserving = reserve_next a.reserving reply }) its (reserve_next_ask room a.reserving reply) at)
 append_takes p room a session pending its (appending.Fills addr) reply at goes holds same =
     quiet session pending _ [] _ tt (fill_none p (record a { filling = fill_next a.filling }) its addr (fill_ask p (fill_next a.filling)) at)
 append_takes p room a session pending its (appending.Publishes addr) reply at goes holds same =
-    passes_on p pending.request.version (Some (reservation a (entry_made session pending its) addr.0)) (publish_ask a.publishing) append.Contended reply _ _
+    passes_on p pending.request.version (Some (reservation a (new_record session pending its) addr.0)) (publish_ask a.publishing) append.Contended reply _ _
     (publish_so p a session pending its addr a.publishing a.slot.place a.slot.entry a.slot.tag reply holds.1 holds.0 same)
 append_takes p room a session pending its appending.Invalidates reply at goes holds same =
     quiet session pending _ (invalidate_ghosts a.invalidating) _ (invalidate_all AreQuiet tt (λ addr. (tt, tt)) a.invalidating) (invalidate_none p (record a { invalidating = invalidate_next a.invalidating }) its (invalidate_ask p (invalidate_next a.invalidating)) at)
@@ -248,9 +250,13 @@ walked_keeps p t walk.Contended = ends_keeps p t (answer.Wait reason.Contended)
 
 shared_keeps : (p : Places) (t : TryState) (ask : Ask LatchAnswer) → (shared_ledto p t ask).effect ≡ t.effect
 unfolding shared_ledto
-shared_keeps p t (Done latch.Taken) = refl
+shared_keeps p t (Done latch.Taken) = either_keeps (is_next_marked t.request.version) (record t { has_shared = true; step = LoadsPhase }) (walks p (record t { has_shared = true })) t.effect refl refl
 shared_keeps p t (Done its) = ends_keeps p t answer.Shift
 shared_keeps p t ask = refl
+
+phase_keeps : (p : Places) (t : TryState) (said : PhaseSaid) → (phase_loaded p t said).effect ≡ t.effect
+unfolding phase_loaded
+phase_keeps p t said = either_keeps (is_still_in said t.request.version) (walks p t) (ends p t answer.Shift) t.effect refl (ends_keeps p t answer.Shift)
 
 walk_keeps : (p : Places) (t : TryState) (ask : Ask WalkAnswer) → (walk_ledto p t ask).effect ≡ t.effect
 unfolding walk_ledto
@@ -261,7 +267,7 @@ walk_keeps p t ask = refl
 
 safe_keeps : (p : Places) (t : TryState) (addr : Addr) (version : Version) (safe : ℕ) → (safe_loaded p t addr version safe).effect ≡ t.effect
 safe_keeps p t addr version safe =
-    either_keeps (nat_le safe addr.0) (ends p t (answer.Wait reason.Fuzzy)) (copies p t InMemory (is_own_version t version)) t.effect (ends_keeps p t (answer.Wait reason.Fuzzy)) (copies_keeps p t InMemory (is_own_version t version))
+    either_keeps (nat_le safe addr.0) (ends p t (answer.Wait reason.Fuzzy)) (copies p t InMemory (is_surely_own t version)) t.effect (ends_keeps p t (answer.Wait reason.Fuzzy)) (copies_keeps p t InMemory (is_surely_own t version))
 
 current_keeps : (p : Places) (t : TryState) (addr : Addr) (ask : Ask WalkAnswer) → (current_ledto p t addr ask).effect ≡ t.effect
 unfolding current_ledto
@@ -349,6 +355,7 @@ trying_takes : (p : Places) (room session reader : ℕ) (pending : PendingReques
 unfolding trying_next trying_ask
 trying_takes p room session reader pending t (Ended its) reply at rests same so = Quietly [] tt
 trying_takes p room session reader pending t TakesShared reply at rests same so = quiet session pending _ [] _ tt (shared_keeps p (latch_moved (record t { effect = None }) reply) (latch_next_ask t.latching reply))
+trying_takes p room session reader pending t LoadsPhase reply at rests same so = quiet session pending _ [] _ tt (phase_keeps p (record t { effect = None }) (phase_said reply))
 trying_takes p room session reader pending t Walks reply at rests same so =
     quiet session pending _ (search_ghosts p pending.request.op reader t.walk reply) _ (search_quiet p pending.request.op reader t.walk reply) (walk_keeps p (walk_moved p (record t { effect = None }) reply) (walk_ask p (walk_next p t.walk reply)))
 trying_takes p room session reader pending t (LoadsSafe addr version) reply at rests same so = quiet session pending _ [] _ tt (safe_keeps p (record t { effect = None }) addr version reply)
@@ -368,8 +375,8 @@ trying_takes p room session reader pending t (Appends its) reply at rests same s
     let a : AppendState = append_next p room t.append reply in
     let way : IsAppendUnderWay t.append = under_way t its at rests in
     let made : (append_ledto p (record t { effect = None; append = a }) its (append_ask p a)).effect ≡ published_reply its (append_ask p a) = append_effect p (record t { effect = None; append = a }) its (append_ask p a) refl in
-    subst (λ (x : Option Reply). TakesEffect (stepped p pending.request.version (append_reserves t.append (entry_made session pending its) t.append.step) (passed (append_ask p t.append) answer.Shift) reply)
-    (append_ghosts room t.append (entry_made session pending its) t.append.step reply) (made_entry session pending x)) (sym made)
+    subst (λ (x : Option Reply). TakesEffect (stepped p pending.request.version (append_reserves t.append (new_record session pending its) t.append.step) (passed (append_ask p t.append) answer.Shift) reply)
+    (append_ghosts room t.append (new_record session pending its) t.append.step reply) (made_entry session pending x)) (sym made)
     (passes_on p pending.request.version _ (append_ask p t.append) answer.Shift reply _ _ (append_takes p room t.append session pending its t.append.step reply refl way.goes_on so.holds so.same))
 trying_takes p room session reader pending t (DropsExclusive its) reply at rests same so = quiet session pending _ [] _ tt (exclusive_dropped_keeps p (latch_moved (record t { effect = None }) reply) its (latch_next_ask t.latching reply))
 trying_takes p room session reader pending t (DropsShared its) reply at rests same so = quiet session pending _ [] _ tt (shared_dropped_keeps (latch_moved (record t { effect = None }) reply) its (latch_next_ask t.latching reply))

@@ -3,11 +3,12 @@ use Rattle.std.proofs.Common.{◌≡◌, ℕ, ◌∙◌, refl, sym, ap, subst, B
 use Rattle.std.specs.Prelude.{◌==◌, ◌&&◌, not, nat_le, if◌then◌else◌, Option, Some, None}
 use Rattle.fkv_base.specs.declared.numbers.Addr.{Addr}
 use Rattle.fkv_base.specs.declared.numbers.Version.{Version}
-use Rattle.fkv_map.specs.declared.history.HistoryEntry.{HistoryEntry}
 use Rattle.fkv_map.specs.declared.operations.Reply.{Reply}
 use Rattle.fkv_map.specs.Map.{absent_word}
 use Rattle.fkv_map.specs.Keys.{key_of, reply_from}
 use Rattle.law_log.specs.Ghosts.{GhostEvent, Changes}
+use Rattle.fkv_words.specs.declared.phase_words.PhaseSaid.{PhaseSaid}
+use Rattle.fkv_words.specs.PhaseWords.{phase_said}
 use Rattle.fkv_plane.specs.declared.asks.Ask.{Ask}
 use Rattle.fkv_plane.specs.declared.asks.Ask.TheVariants.{Done}
 use Rattle.fkv_plane.specs.declared.places.Places.{Places}
@@ -34,17 +35,17 @@ use Rattle.law_world.specs.Below.fkv_ops.Seen.{Seen}
 use Rattle.law_world.specs.Below.fkv_ops.OldValue.{OldValue}
 use Rattle.law_world.specs.Below.fkv_ops.OldValue.TheVariants.{InMemory, Known}
 use Rattle.law_world.specs.Below.fkv_ops.TheTrying.{Trying}
-use Rattle.law_world.specs.Below.fkv_ops.TheTrying.TheVariants.{Ended, TakesShared, Walks, LoadsSafe, SwapsValue, LoadsCurrent, ChangesValue, LoadsAnswer, TakesExclusive, LoadsOld, Appends, DropsExclusive, DropsShared}
+use Rattle.law_world.specs.Below.fkv_ops.TheTrying.TheVariants.{Ended, TakesShared, LoadsPhase, Walks, LoadsSafe, SwapsValue, LoadsCurrent, ChangesValue, LoadsAnswer, TakesExclusive, LoadsOld, Appends, DropsExclusive, DropsShared}
 use Rattle.law_world.specs.Below.fkv_ops.WalkAnswer.{WalkAnswer}
 use Rattle.law_world.specs.Below.fkv_ops.WalkAnswer.TheVariants as walk
 use Rattle.law_world.specs.Below.fkv_ops.Requests.{is_read, is_blind}
 use Rattle.law_world.specs.Below.fkv_ops.Values.{value_of}
 use Rattle.law_world.specs.Below.fkv_ops.Walking.{walk_ask, walk_next, walk_on}
 use Rattle.law_world.specs.Below.fkv_ops.Appending.{AppendState, append_ask, append_next}
-use Rattle.law_world.specs.Below.fkv_ops.Trying.{TryState, with_latch, is_wait, ended_without, ends, takes_effect, full_at, walks, wants_shared, try_begun, shared_ledto, must_shift, wants_exclusive, appends, copies_from, copies, awaits, held_used, met_nowhere, met_disk, changes, is_own_version, region_met, met_record, walked, has_walked, walk_ledto, safe_loaded, current_ledto, value_changed, told_value, answer_ledto, exclusive_ledto, old_ledto, append_ledto, exclusive_dropped, shared_dropped, latch_moved, walk_moved, trying_ask, trying_next, try_ask, try_next, new_try}
+use Rattle.law_world.specs.Below.fkv_ops.Trying.{TryState, with_latch, is_wait, ended_without, ends, takes_effect, full_at, walks, wants_shared, try_begun, shared_ledto, must_shift, wants_exclusive, appends, copies_from, copies, awaits, held_used, met_nowhere, met_disk, changes, is_own_version, region_met, met_record, walked, has_walked, walk_ledto, safe_loaded, current_ledto, value_changed, told_value, answer_ledto, exclusive_ledto, old_ledto, append_ledto, exclusive_dropped, shared_dropped, latch_moved, walk_moved, trying_ask, trying_next, try_ask, try_next, new_try, is_next_marked, is_still_in, phase_loaded, is_surely_own}
 use Rattle.law_world.proofs.Below.fkv_ops.Shown.{is_append_end, append_done, append_rests, TryRestsOrAsks, IsAppendUnderWay}
 use Rattle.law_world.specs.Below.fkv_pending.PendingRequest.{PendingRequest}
-use Rattle.law_refine.specs.Events.Appends.{entry_made, append_ghosts}
+use Rattle.law_refine.specs.Events.Appends.{entry_made, append_ghosts, NewRecord, new_record}
 use Rattle.law_refine.specs.Events.Reservations.{AreStill, MovesOn, Keeps, Reservation, append_reserves, try_reserves}
 use Rattle.law_refine.specs.Events.Tries.{search_ghosts, try_ghosts}
 use Rattle.law_refine.proofs.OfEvents.AppendSteps.{passes, append_on}
@@ -131,9 +132,13 @@ stays_free t step at free = λ session pending. ap (try_reserves session pending
 
 shared_free : (p : Places) (t : TryState) (ask : Ask LatchAnswer) → t.step ≡ TakesShared → IsFree (shared_ledto p t ask)
 unfolding shared_ledto
-shared_free p t (Done latch.Taken) at = λ session pending. refl
+shared_free p t (Done latch.Taken) at = either_free (is_next_marked t.request.version) (record t { has_shared = true; step = LoadsPhase }) (walks p (record t { has_shared = true })) (λ session pending. refl) (λ session pending. refl)
 shared_free p t (Done its) at = ends_free p t answer.Shift
 shared_free p t ask at = stays_free t TakesShared at (λ session pending. refl)
+
+phase_free : (p : Places) (t : TryState) (said : PhaseSaid) → IsFree (phase_loaded p t said)
+unfolding phase_loaded
+phase_free p t said = either_free (is_still_in said t.request.version) (walks p t) (ends p t answer.Shift) (λ session pending. refl) (ends_free p t answer.Shift)
 
 walk_free : (p : Places) (t : TryState) (ask : Ask WalkAnswer) → t.step ≡ Walks → IsFree (walk_ledto p t ask)
 unfolding walk_ledto
@@ -144,7 +149,7 @@ walk_free p t ask at = stays_free t Walks at (λ session pending. refl)
 
 safe_free : (p : Places) (t : TryState) (addr : Addr) (version : Version) (safe : ℕ) → IsFree (safe_loaded p t addr version safe)
 safe_free p t addr version safe =
-    either_free (nat_le safe addr.0) (ends p t (answer.Wait reason.Fuzzy)) (copies p t InMemory (is_own_version t version)) (ends_free p t (answer.Wait reason.Fuzzy)) (copies_free p t InMemory (is_own_version t version))
+    either_free (nat_le safe addr.0) (ends p t (answer.Wait reason.Fuzzy)) (copies p t InMemory (is_surely_own t version)) (ends_free p t (answer.Wait reason.Fuzzy)) (copies_free p t InMemory (is_surely_own t version))
 
 current_free : (p : Places) (t : TryState) (addr : Addr) (ask : Ask WalkAnswer) → t.step ≡ LoadsCurrent addr → IsFree (current_ledto p t addr ask)
 unfolding current_ledto
@@ -193,9 +198,9 @@ changed_still true its still = still
 changed_still false its still = tt
 
 -- ---- an append's end is the try's
-ended_holds_none : (a : AppendState) (entry : HistoryEntry) (step : Appending) → is_append_end step ≡ true → append_reserves a entry step ≡ None
-ended_holds_none a entry (appending.Ended its) ends = refl
-ended_holds_none a entry step ends = cc
+ended_holds_none : (a : AppendState) (made : NewRecord) (step : Appending) → is_append_end step ≡ true → append_reserves a made step ≡ None
+ended_holds_none a made (appending.Ended its) ends = refl
+ended_holds_none a made step ends = cc
 
 append_ended_free : (p : Places) (t : TryState) (its : Reply) (told : AppendAnswer) → IsFree (append_ledto p t its (Done told))
 unfolding append_ledto
@@ -205,9 +210,9 @@ append_ended_free p t its append.NoRoom = ends_free p t (answer.Wait reason.NoRo
 append_ended_free p t its append.Contended = ends_free p t (answer.Wait reason.Contended)
 
 append_holds : (session : ℕ) (pending : PendingRequest) (p : Places) (t : TryState) (its : Reply) (ask : Ask AppendAnswer) → t.step ≡ Appends its → is_done ask ≡ is_append_end t.append.step
-    → append_reserves t.append (entry_made session pending its) t.append.step ≡ try_reserves session pending (append_ledto p t its ask) (append_ledto p t its ask).step
+    → append_reserves t.append (new_record session pending its) t.append.step ≡ try_reserves session pending (append_ledto p t its ask) (append_ledto p t its ask).step
 unfolding append_ledto
-append_holds session pending p t its (Done told) at ends = ended_holds_none t.append (entry_made session pending its) t.append.step (sym ends) ∙ sym (append_ended_free p t its told session pending)
+append_holds session pending p t its (Done told) at ends = ended_holds_none t.append (new_record session pending its) t.append.step (sym ends) ∙ sym (append_ended_free p t its told session pending)
 append_holds session pending p t its ask at ends = sym (ap (try_reserves session pending t) at)
 
 under_way : (t : TryState) (its : Reply) → t.step ≡ Appends its → TryRestsOrAsks t → IsAppendUnderWay t.append
@@ -224,6 +229,7 @@ trying_on : (p : Places) (room session reader : ℕ) (pending : PendingRequest) 
 unfolding trying_next trying_ask
 trying_on p room session reader pending t (Ended its) reply at rests = rw at (Keeps [] None tt)
 trying_on p room session reader pending t TakesShared reply at rests = free_on _ _ reply session pending [] (trying_next p room (record t { effect = None }) TakesShared reply) tt (shared_free p (latch_moved (record t { effect = None }) reply) (latch_next_ask t.latching reply) at)
+trying_on p room session reader pending t LoadsPhase reply at rests = free_on _ _ reply session pending [] (trying_next p room (record t { effect = None }) LoadsPhase reply) tt (phase_free p (record t { effect = None }) (phase_said reply))
 trying_on p room session reader pending t Walks reply at rests = free_on _ _ reply session pending (search_ghosts p pending.request.op reader t.walk reply) (trying_next p room (record t { effect = None }) Walks reply) (search_all AreStill tt reader (tt, tt) p pending.request.op t.walk reply)
     (walk_free p (walk_moved p (record t { effect = None }) reply) (walk_ask p (walk_next p t.walk reply)) at)
 trying_on p room session reader pending t (LoadsSafe addr version) reply at rests = free_on _ _ reply session pending [] (trying_next p room (record t { effect = None }) (LoadsSafe addr version) reply) tt (safe_free p (record t { effect = None }) addr version reply)
@@ -238,11 +244,11 @@ trying_on p room session reader pending t (TakesExclusive old) reply at rests = 
 trying_on p room session reader pending t LoadsOld reply at rests = free_on _ _ reply session pending [] (trying_next p room (record t { effect = None }) LoadsOld reply) tt (old_free p (walk_moved p (record t { effect = None }) reply) (walk_ask p (walk_next p t.walk reply)) at)
 trying_on p room session reader pending t (Appends its) reply at rests =
     let way : IsAppendUnderWay t.append = under_way t its at rests in
-    let entry = entry_made session pending its in
+    let made = new_record session pending its in
     let a : AppendState = append_next p room t.append reply in
     let after : TryState = record t { effect = None; append = a } in
     let held = append_holds session pending p after its (append_ask p a) at (append_done p a (append_rests p room t.append reply way.asks)) in
-    passes (append_ask p t.append) answer.Shift reply _ _ _ (subst (λ (x : Option Reservation). MovesOn (asked_place (append_ask p t.append)) (asked (append_ask p t.append)) reply (append_ghosts room t.append entry t.append.step reply) (append_reserves t.append entry t.append.step) x) held (append_on p room t.append entry reply))
+    passes (append_ask p t.append) answer.Shift reply _ _ _ (subst (λ (x : Option Reservation). MovesOn (asked_place (append_ask p t.append)) (asked (append_ask p t.append)) reply (append_ghosts room t.append made t.append.step reply) (append_reserves t.append made t.append.step) x) held (append_on p room t.append made reply))
 trying_on p room session reader pending t (DropsExclusive its) reply at rests = free_on _ _ reply session pending [] (trying_next p room (record t { effect = None }) (DropsExclusive its) reply) tt (exclusive_dropped_free p (latch_moved (record t { effect = None }) reply) its (latch_next_ask t.latching reply) at)
 trying_on p room session reader pending t (DropsShared its) reply at rests = free_on _ _ reply session pending [] (trying_next p room (record t { effect = None }) (DropsShared its) reply) tt (shared_dropped_free (latch_moved (record t { effect = None }) reply) its (latch_next_ask t.latching reply) at)
 

@@ -19,7 +19,7 @@ use Rattle.law_world.specs.Below.fkv_pending.Attempting.{AttemptState}
 use Rattle.law_world.specs.Below.fkv_session.Sitting.{Sitting}
 use Rattle.law_world.specs.Below.fkv_session.Sitting.TheVariants.{Attempts, Polls}
 use Rattle.law_world.specs.Below.fkv_session.Sessions.{SessionState}
-use Rattle.law_refine.specs.Events.Appends.{entry_made}
+use Rattle.law_refine.specs.Events.Appends.{NewRecord, new_record}
 use Rattle.law_refine.specs.Events.Effects.{is_quiet, AreQuiet, Stepped, PublishesIt, TakesEffect, Quietly, Behind, InPlace, ByRecord}
 use Rattle.law_refine.specs.Events.Reservations.{Reservation, reservation, invalidate_reserves, append_reserves, try_reserves, attempt_reserves}
 use Rattle.law_refine.specs.Events.Reserved.{sitting_reserves}
@@ -50,19 +50,19 @@ takes_behind its_step event before events made leaves (InPlace b entry changes) 
 takes_behind its_step event before events made leaves (ByRecord its is) e = let same : event ≡ Publishes its.addr = cc in absurd (subst leaves_chains same leaves)
 
 -- ---- by how far an append has come
-invalidate_entry : (a : AppendState) (entry : HistoryEntry) (step : Invalidating) (its : Reservation) → invalidate_reserves a entry step ≡ Some its → its.entry ≡ entry
-invalidate_entry a entry invalidating.AtRest its e = cc
-invalidate_entry a entry (invalidating.StoresHeader addr header) its e = ap (λ (x : Reservation). x.entry) (sym (some_same (reservation a entry addr.0) its e))
+invalidate_entry : (a : AppendState) (made : NewRecord) (step : Invalidating) (its : Reservation) → invalidate_reserves a made step ≡ Some its → its.entry ≡ made.entry
+invalidate_entry a made invalidating.AtRest its e = cc
+invalidate_entry a made (invalidating.StoresHeader addr header) its e = ap (λ (x : Reservation). x.entry) (sym (some_same (reservation a made addr.0) its e))
 
-append_entry : (a : AppendState) (entry : HistoryEntry) (step : Appending) (its : Reservation) → append_reserves a entry step ≡ Some its → its.entry ≡ entry
-append_entry a entry (appending.Fills addr) its e = ap (λ (x : Reservation). x.entry) (sym (some_same (reservation a entry addr.0) its e))
-append_entry a entry (appending.Publishes addr) its e = ap (λ (x : Reservation). x.entry) (sym (some_same (reservation a entry addr.0) its e))
-append_entry a entry appending.Invalidates its e = invalidate_entry a entry a.invalidating its e
-append_entry a entry step its e = cc
+append_entry : (a : AppendState) (made : NewRecord) (step : Appending) (its : Reservation) → append_reserves a made step ≡ Some its → its.entry ≡ made.entry
+append_entry a made (appending.Fills addr) its e = ap (λ (x : Reservation). x.entry) (sym (some_same (reservation a made addr.0) its e))
+append_entry a made (appending.Publishes addr) its e = ap (λ (x : Reservation). x.entry) (sym (some_same (reservation a made addr.0) its e))
+append_entry a made appending.Invalidates its e = invalidate_entry a made a.invalidating its e
+append_entry a made step its e = cc
 
 -- it is of the operation of the request
 try_op : (session : ℕ) (pending : PendingRequest) (t : TryState) (step : Trying) (its : Reservation) → try_reserves session pending t step ≡ Some its → its.entry.op ≡ pending.request.op
-try_op session pending t (Appends told) its e = ap (λ (x : HistoryEntry). x.op) (append_entry t.append (entry_made session pending told) t.append.step its e)
+try_op session pending t (Appends told) its e = ap (λ (x : HistoryEntry). x.op) (append_entry t.append (new_record session pending told) t.append.step its e)
 try_op session pending t step its e = cc
 
 attempt_op : (session : ℕ) (a : AttemptState) (step : Attempting) (its : Reservation) → attempt_reserves session a step ≡ Some its → its.entry.op ≡ a.pending.request.op

@@ -2,7 +2,6 @@
 use Rattle.std.proofs.Common.{◌≡◌, ℕ, ◌∙◌, refl, sym, ap, subst, arith, Bool, true, false, List, [], ◌∷◌, ◌++◌}
 use Rattle.std.specs.Prelude.{◌==◌, if◌then◌else◌, Some, None}
 use Rattle.std.proofs.lemmas.Bool.Decides.{nat_tests}
-use Rattle.fkv_map.specs.declared.history.HistoryEntry.{HistoryEntry}
 use Rattle.fkv_map.specs.declared.operations.Op.{Op}
 use Rattle.fkv_map.specs.declared.operations.Op.TheVariants.{Read}
 use Rattle.law_log.specs.Ghosts.{GhostEvent, Publishes}
@@ -46,7 +45,7 @@ use Rattle.law_world.specs.Below.fkv_world.Past.{Traced}
 use Rattle.law_world.specs.Below.fkv_world.World.{Now, seat_at}
 use Rattle.law_refine.specs.Index.Finders.{KeptSlot, SessionWork, NoWork, Searches, KeepsSlot, PublishesEntry, slot_kept, kept_work, walk_work, append_work, try_work, attempt_part, sitting_part, session_part}
 use Rattle.law_refine.specs.Index.LifeEntries.{AsksFor, won_there}
-use Rattle.law_refine.specs.Events.Appends.{entry_made, reserved_ghosts, publish_ghosts, invalidate_ghosts, append_ghosts}
+use Rattle.law_refine.specs.Events.Appends.{reserved_ghosts, publish_ghosts, invalidate_ghosts, append_ghosts, NewRecord, new_record}
 use Rattle.law_world.specs.GuardSessions.Tries.{is_for_entry}
 use Rattle.law_refine.specs.Events.Lines.{read_in_hand, read_waiting}
 use Rattle.law_refine.specs.Events.Sessions.{value_ghosts, tried_ghosts, attempt_ghosts, ticket_of, sitting_ghosts, step_ghosts}
@@ -103,9 +102,9 @@ either_leave : (c : Bool) (xs ys : List GhostEvent) → LeaveChains xs → Leave
 either_leave true xs ys one other = one
 either_leave false xs ys one other = other
 
-reserved_leave : (a : AppendState) (entry : HistoryEntry) (ask : Ask ReserveAnswer) → LeaveChains (reserved_ghosts a entry ask)
-reserved_leave a entry (Done (Reserved addr)) = either_leave (is_for_entry a addr) _ _ (tt, tt) (tt, (tt, tt))
-reserved_leave a entry ask = tt
+reserved_leave : (a : AppendState) (made : NewRecord) (ask : Ask ReserveAnswer) → LeaveChains (reserved_ghosts a made ask)
+reserved_leave a made (Done (Reserved addr)) = either_leave (is_for_entry a addr) _ _ (tt, tt) (tt, (tt, tt))
+reserved_leave a made ask = tt
 
 value_leave : (op : Op) (reader : ℕ) (ask : Ask TryAnswer) → LeaveChains (value_ghosts op reader ask)
 value_leave (Read key) reader (Done (answer.Found value)) = (tt, tt)
@@ -150,19 +149,19 @@ publish_won words work slot addr entry its reply is same replied =
     by_test true e = let stands : reply ≡ slot.word = grind (arith, nat_tests, e) in PublishesOne slot addr is (sym replied ∙ stands)
     by_test false e = Quietly [] tt (ap (won_there words) is ∙ entry_is_lost words slot addr (subst (λ (r : ℕ). (r == slot.word) ≡ false) replied e))
 
-append_won : (words : List ℕ) (p : Places) (room : ℕ) (t : TryState) (entry : HistoryEntry) (step : Appending) (reply : ℕ) → AsksSo (append_work t step) (appending_ask p t.append step) → IsRepliedSo words (append_work t step) reply
-    → ShowsWon words (append_work t step) (append_ghosts room t.append entry step reply)
+append_won : (words : List ℕ) (p : Places) (room : ℕ) (t : TryState) (made : NewRecord) (step : Appending) (reply : ℕ) → AsksSo (append_work t step) (appending_ask p t.append step) → IsRepliedSo words (append_work t step) reply
+    → ShowsWon words (append_work t step) (append_ghosts room t.append made step reply)
 unfolding appending_ask
-append_won words p room t entry appending.Reserves reply asks replied =
-    Quietly (reserved_ghosts t.append entry (reserve_next_ask room t.append.reserving reply)) (reserved_leave t.append entry (reserve_next_ask room t.append.reserving reply)) (kept_none words t)
-append_won words p room t entry (appending.Fills addr) reply asks replied = Quietly [] tt (kept_none words t)
-append_won words p room t entry (appending.Publishes addr) reply asks replied =
+append_won words p room t made appending.Reserves reply asks replied =
+    Quietly (reserved_ghosts t.append made (reserve_next_ask room t.append.reserving reply)) (reserved_leave t.append made (reserve_next_ask room t.append.reserving reply)) (kept_none words t)
+append_won words p room t made (appending.Fills addr) reply asks replied = Quietly [] tt (kept_none words t)
+append_won words p room t made (appending.Publishes addr) reply asks replied =
     let slot : KeptSlot = slot_kept t in
     publish_won words (PublishesEntry slot addr.0) slot addr.0 (new_entry addr.0 slot.home.tag) t.append.publishing reply refl
     (publishing_is t.append.publishing slot.place slot.word (new_entry addr.0 slot.home.tag) (passed_cas (publish_ask t.append.publishing) Contended slot.place slot.word (new_entry addr.0 slot.home.tag) (asks slot addr.0 refl)))
     (replied slot addr.0 refl)
-append_won words p room t entry appending.Invalidates reply asks replied = Quietly (invalidate_ghosts t.append.invalidating) (invalidate_all LeaveChains tt (λ addr. (tt, tt)) t.append.invalidating) refl
-append_won words p room t entry (appending.Ended its) reply asks replied = Quietly [] tt refl
+append_won words p room t made appending.Invalidates reply asks replied = Quietly (invalidate_ghosts t.append.invalidating) (invalidate_all LeaveChains tt (λ addr. (tt, tt)) t.append.invalidating) refl
+append_won words p room t made (appending.Ended its) reply asks replied = Quietly [] tt refl
 
 try_won : (words : List ℕ) (p : Places) (room session reader : ℕ) (pending : PendingRequest) (t : TryState) (step : Trying) (reply : ℕ) → AsksSo (try_work t step) (trying_ask p t step) → IsRepliedSo words (try_work t step) reply
     → ShowsWon words (try_work t step) (try_ghosts p room session reader pending t step reply)
@@ -175,7 +174,7 @@ try_won words p room session reader pending t (ChangesValue addr old) reply asks
 try_won words p room session reader pending t (TakesExclusive old) reply asks replied = Quietly [] tt (kept_none words t)
 try_won words p room session reader pending t LoadsOld reply asks replied = Quietly [] tt (kept_none words t)
 try_won words p room session reader pending t (Appends its) reply asks replied =
-    append_won words p room t (entry_made session pending its) t.append.step reply (asks_passed (append_work t t.append.step) (append_ask p t.append) answer.Shift asks) replied
+    append_won words p room t (new_record session pending its) t.append.step reply (asks_passed (append_work t t.append.step) (append_ask p t.append) answer.Shift asks) replied
 try_won words p room session reader pending t step reply asks replied = Quietly [] tt refl
 
 tried_won : (words : List ℕ) (k : Seat) (reader : ℕ) (a : AttemptState) (step : Attempting) (reply : ℕ) → AsksSo (attempt_part a step).work (attempting_ask k.places k.number a step) → IsRepliedSo words (attempt_part a step).work reply

@@ -237,6 +237,7 @@ unfolding trying_ask
 try_whole p t (trying.Ended its) = refl
 try_whole p t trying.TakesShared = passed_part (latch_ask t.latching) _ (latch_whole t.latching)
 try_whole p t trying.Walks = passed_part (walking_ask p t.walk t.walk.step) _ (walk_whole p t.walk t.walk.step)
+try_whole p t trying.LoadsPhase = refl
 try_whole p t (trying.LoadsSafe addr version) = refl
 try_whole p t (trying.SwapsValue addr) = refl
 try_whole p t (trying.LoadsCurrent addr) = passed_part (walking_ask p t.walk t.walk.step) _ (walk_whole p t.walk t.walk.step)

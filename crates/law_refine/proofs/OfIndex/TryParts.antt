@@ -8,6 +8,8 @@ use Rattle.fkv_map.specs.declared.operations.Op.TheVariants as op
 use Rattle.fkv_map.specs.declared.operations.Reply.{Reply}
 use Rattle.fkv_map.specs.Map.{absent_word}
 use Rattle.fkv_map.specs.Keys.{key_of, reply_from}
+use Rattle.fkv_words.specs.declared.phase_words.PhaseSaid.{PhaseSaid}
+use Rattle.fkv_words.specs.PhaseWords.{phase_said}
 use Rattle.fkv_plane.specs.declared.asks.Ask.{Ask}
 use Rattle.fkv_plane.specs.declared.asks.Ask.TheVariants.{Done}
 use Rattle.fkv_plane.specs.declared.places.Places.{Places}
@@ -36,14 +38,14 @@ use Rattle.law_world.specs.Below.fkv_ops.Seen.{Seen}
 use Rattle.law_world.specs.Below.fkv_ops.OldValue.{OldValue}
 use Rattle.law_world.specs.Below.fkv_ops.OldValue.TheVariants.{InMemory, Known}
 use Rattle.law_world.specs.Below.fkv_ops.TheTrying.{Trying}
-use Rattle.law_world.specs.Below.fkv_ops.TheTrying.TheVariants.{Ended, TakesShared, Walks, LoadsSafe, SwapsValue, LoadsCurrent, ChangesValue, LoadsAnswer, TakesExclusive, LoadsOld, Appends, DropsExclusive, DropsShared}
+use Rattle.law_world.specs.Below.fkv_ops.TheTrying.TheVariants.{Ended, TakesShared, LoadsPhase, Walks, LoadsSafe, SwapsValue, LoadsCurrent, ChangesValue, LoadsAnswer, TakesExclusive, LoadsOld, Appends, DropsExclusive, DropsShared}
 use Rattle.law_world.specs.Below.fkv_ops.WalkAnswer.{WalkAnswer}
 use Rattle.law_world.specs.Below.fkv_ops.WalkAnswer.TheVariants as walk
 use Rattle.law_world.specs.Below.fkv_ops.Values.{value_of}
 use Rattle.law_world.specs.Below.fkv_ops.Requests.{is_read, is_blind, purpose_of}
 use Rattle.law_world.specs.Below.fkv_ops.Walking.{walk_ask, walk_next, walk_on}
 use Rattle.law_world.specs.Below.fkv_ops.Appending.{append_ask, append_next}
-use Rattle.law_world.specs.Below.fkv_ops.Trying.{TryState, with_latch, is_wait, ended_without, ends, takes_effect, walks, wants_shared, try_begun, shared_ledto, must_shift, wants_exclusive, appends, copies_from, copies, awaits, held_used, met_nowhere, met_disk, changes, is_own_version, region_met, met_record, walked, has_walked, walk_ledto, safe_loaded, current_ledto, value_changed, told_value, answer_ledto, exclusive_ledto, old_ledto, append_ledto, exclusive_dropped, shared_dropped, latch_moved, walk_moved, trying_next, try_next, new_try}
+use Rattle.law_world.specs.Below.fkv_ops.Trying.{TryState, with_latch, is_wait, ended_without, ends, takes_effect, walks, wants_shared, try_begun, shared_ledto, must_shift, wants_exclusive, appends, copies_from, copies, awaits, held_used, met_nowhere, met_disk, changes, is_own_version, region_met, met_record, walked, has_walked, walk_ledto, safe_loaded, current_ledto, value_changed, told_value, answer_ledto, exclusive_ledto, old_ledto, append_ledto, exclusive_dropped, shared_dropped, latch_moved, walk_moved, trying_next, try_next, new_try, is_next_marked, latch_shared, is_still_in, phase_loaded, is_surely_own}
 use Rattle.law_world.proofs.Below.fkv_ops.Shown.{is_try_end, is_walk_end, WalkRestsOrAsks, walk_done, walk_rests, TryRestsOrAsks, AppendRestsOrAsks, append_done, append_rests}
 use Rattle.law_refine.specs.Index.Finders.{SessionWork, NoWork, KeepsSlot, IndexPart, slot_kept, kept_work, append_work, try_work, try_spare, try_part}
 use Rattle.law_refine.proofs.OfIndex.Goes.{spare_by, WorkGoes, Drops, Seeks, Goes, part, stays, drops, IsLeft, Gone, Kept, left}
@@ -183,7 +185,7 @@ lost_freed p t walk.Full home lost = ends_freed p t _ home
 lost_freed p t walk.Contended home lost = ends_freed p t _ home
 
 safe_left : (p : Places) (t : TryState) (addr : Addr) (version : Version) (safe : ℕ) → IsHome p t.home → GoesBySlot t → Left p t (safe_loaded p t addr version safe)
-safe_left p t addr version safe home by = either_left (nat_le safe addr.0) (ends p t (answer.Wait reason.Fuzzy)) (copies p t InMemory (is_own_version t version)) (ends_left p t _ home) (copies_left p t InMemory (is_own_version t version) home by)
+safe_left p t addr version safe home by = either_left (nat_le safe addr.0) (ends p t (answer.Wait reason.Fuzzy)) (copies p t InMemory (is_surely_own t version)) (ends_left p t _ home) (copies_left p t InMemory (is_surely_own t version) home by)
 
 -- where the try stays at its step
 stayed : (p : Places) (t : TryState) (step : Trying) → t.step ≡ step → IsHome p t.home → TryKnowsAt t step → try_work t step ≡ NoWork → try_spare t step ≡ t.spare → Freed p t t
@@ -273,9 +275,24 @@ may_first its update never = cc
 walks_begin : (p : Places) (reply : ℕ) (t : TryState) → IsHome p t.home → TryGoes p reply (part NoWork t.spare) (walks p t)
 walks_begin p reply t home = record { knows = record { home = home; at = (refl, λ update. may_first t.request.op update) }; goes = record { work = Seeks t.home (purpose_of t.request.op) tt home refl; spare = refl } }
 
+latch_goes : (p : Places) (reply : ℕ) (t : TryState) → IsHome p t.home → TryGoes p reply (part NoWork t.spare) (latch_shared p t)
+latch_goes p reply t home = by_mark (is_next_marked t.request.version)
+  where
+    by_mark : (b : Bool) → TryGoes p reply (part NoWork t.spare) (if b then record t { step = LoadsPhase } else walks p t)
+    by_mark true = freely p reply t (record t { step = LoadsPhase }) (record { knows = record { home = home; at = tt }; work = refl; spare = refl })
+    by_mark false = walks_begin p reply t home
+
+phase_goes : (p : Places) (reply : ℕ) (t : TryState) (said : PhaseSaid) → IsHome p t.home → TryGoes p reply (part NoWork t.spare) (phase_loaded p t said)
+unfolding phase_loaded
+phase_goes p reply t said home = by_word (is_still_in said t.request.version)
+  where
+    by_word : (b : Bool) → TryGoes p reply (part NoWork t.spare) (if b then walks p t else ends p t answer.Shift)
+    by_word true = walks_begin p reply t home
+    by_word false = freely p reply t (ends p t answer.Shift) (ends_freed p t answer.Shift home)
+
 shared_goes : (p : Places) (reply : ℕ) (t : TryState) (ask : Ask LatchAnswer) → t.step ≡ TakesShared → IsHome p t.home → TryGoes p reply (part NoWork t.spare) (shared_ledto p t ask)
 unfolding shared_ledto
-shared_goes p reply t (Done Taken) at home = walks_begin p reply (record t { has_shared = true }) home
+shared_goes p reply t (Done Taken) at home = latch_goes p reply (record t { has_shared = true }) home
 shared_goes p reply t (Done Busy) at home = freely p reply t (ends p t answer.Shift) (ends_freed p t answer.Shift home)
 shared_goes p reply t (Done Dropped) at home = freely p reply t (ends p t answer.Shift) (ends_freed p t answer.Shift home)
 shared_goes p reply t ask at home = freely p reply t t (stayed p t TakesShared at home tt refl refl)
@@ -341,6 +358,7 @@ step_goes : (p : Places) (room : ℕ) (t : TryState) (step : Trying) (reply : �
 unfolding trying_next
 step_goes p room t (Ended its) reply at home knows asks = freely p reply (record t { effect = None }) _ (stayed p (record t { effect = None }) (Ended its) at home tt refl refl)
 step_goes p room t TakesShared reply at home knows asks = shared_goes p reply (latch_moved (record t { effect = None }) reply) (latch_next_ask t.latching reply) at home
+step_goes p room t LoadsPhase reply at home knows asks = phase_goes p reply (record t { effect = None }) (phase_said reply) home
 step_goes p room t Walks reply at home knows asks =
     let its = walk_goes p reply (record t { effect = None; walk = walk_next p t.walk reply }) t.walk knows in
     walk_led_goes p reply (walk_part t t.walk t.walk.step) (record t { effect = None; walk = walk_next p t.walk reply }) (walk_ask p (walk_next p t.walk reply)) at refl (walk_rests p t.walk reply asks) home (record { knows = its.knows; goes = its.goes })

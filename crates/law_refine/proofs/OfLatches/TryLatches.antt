@@ -7,6 +7,8 @@ use Rattle.fkv_base.specs.declared.numbers.Version.{Version}
 use Rattle.fkv_map.specs.declared.operations.Reply.{Reply}
 use Rattle.fkv_map.specs.Map.{absent_word}
 use Rattle.fkv_map.specs.Keys.{key_of, reply_from}
+use Rattle.fkv_words.specs.declared.phase_words.PhaseSaid.{PhaseSaid}
+use Rattle.fkv_words.specs.PhaseWords.{phase_said}
 use Rattle.fkv_plane.specs.declared.asks.Ask.{Ask}
 use Rattle.fkv_plane.specs.declared.asks.Ask.TheVariants.{Done}
 use Rattle.fkv_plane.specs.declared.places.Places.{Places}
@@ -32,14 +34,14 @@ use Rattle.law_world.specs.Below.fkv_ops.Seen.{Seen}
 use Rattle.law_world.specs.Below.fkv_ops.OldValue.{OldValue}
 use Rattle.law_world.specs.Below.fkv_ops.OldValue.TheVariants.{InMemory, Known}
 use Rattle.law_world.specs.Below.fkv_ops.TheTrying.{Trying}
-use Rattle.law_world.specs.Below.fkv_ops.TheTrying.TheVariants.{Ended, TakesShared, Walks, LoadsSafe, SwapsValue, LoadsCurrent, ChangesValue, LoadsAnswer, TakesExclusive, LoadsOld, Appends, DropsExclusive, DropsShared}
+use Rattle.law_world.specs.Below.fkv_ops.TheTrying.TheVariants.{Ended, TakesShared, LoadsPhase, Walks, LoadsSafe, SwapsValue, LoadsCurrent, ChangesValue, LoadsAnswer, TakesExclusive, LoadsOld, Appends, DropsExclusive, DropsShared}
 use Rattle.law_world.specs.Below.fkv_ops.WalkAnswer.{WalkAnswer}
 use Rattle.law_world.specs.Below.fkv_ops.WalkAnswer.TheVariants as walk
 use Rattle.law_world.specs.Below.fkv_ops.Values.{value_of}
 use Rattle.law_world.specs.Below.fkv_ops.Requests.{is_read, is_blind}
 use Rattle.law_world.specs.Below.fkv_ops.Walking.{walk_ask, walk_next, walk_on}
 use Rattle.law_world.specs.Below.fkv_ops.Appending.{append_ask, append_next}
-use Rattle.law_world.specs.Below.fkv_ops.Trying.{TryState, with_latch, is_wait, is_prepare, ended_without, ends, takes_effect, walks, wants_shared, try_begun, shared_ledto, must_shift, wants_exclusive, appends, copies_from, copies, awaits, held_used, met_nowhere, met_disk, changes, is_own_version, region_met, met_record, walked, has_walked, walk_ledto, safe_loaded, current_ledto, value_changed, told_value, answer_ledto, exclusive_ledto, old_ledto, append_ledto, exclusive_dropped, shared_dropped, latch_moved, trying_next, try_next, new_try}
+use Rattle.law_world.specs.Below.fkv_ops.Trying.{TryState, with_latch, is_wait, is_prepare, ended_without, ends, takes_effect, walks, wants_shared, try_begun, shared_ledto, must_shift, wants_exclusive, appends, copies_from, copies, awaits, held_used, met_nowhere, met_disk, changes, is_own_version, region_met, met_record, walked, has_walked, walk_ledto, safe_loaded, current_ledto, value_changed, told_value, answer_ledto, exclusive_ledto, old_ledto, append_ledto, exclusive_dropped, shared_dropped, latch_moved, trying_next, try_next, new_try, is_next_marked, latch_shared, is_still_in, phase_loaded, is_surely_own}
 use Rattle.fkv_index.specs.Slots.{home_of}
 use Rattle.law_refine.specs.Latches.Latchers.{its_latch, try_latching, held_if, try_alone}
 
@@ -214,7 +216,7 @@ walk_led p t ask at low alone = stays_led p t Walks at low alone refl
 
 safe_led : (p : Places) (t : TryState) (addr : Addr) (version : Version) (safe : ℕ) → t.home.bucket < p.buckets → IsNotAlone t → TryLed p latching.AtRest [] (safe_loaded p t addr version safe)
 safe_led p t addr version safe low alone =
-    either_led (nat_le safe addr.0) p latching.AtRest [] (ends p t (answer.Wait reason.Fuzzy)) (copies p t InMemory (is_own_version t version)) (ends_none p t _ low alone) (copies_led p t InMemory (is_own_version t version) low alone)
+    either_led (nat_le safe addr.0) p latching.AtRest [] (ends p t (answer.Wait reason.Fuzzy)) (copies p t InMemory (is_surely_own t version)) (ends_none p t _ low alone) (copies_led p t InMemory (is_surely_own t version) low alone)
 
 current_led : (p : Places) (t : TryState) (addr : Addr) (ask : Ask WalkAnswer) → t.step ≡ LoadsCurrent addr → t.home.bucket < p.buckets → IsNotAlone t → TryLed p latching.AtRest [] (current_ledto p t addr ask)
 unfolding current_ledto
@@ -247,6 +249,14 @@ append_led p t its (Done append.NoRoom) at low = ends_led p t _ low
 append_led p t its (Done append.Contended) at low = ends_led p t _ low
 append_led p t its ask at low = stays_led p t (Appends its) at low tt refl
 
+latch_led : (p : Places) (t : TryState) → t.home.bucket < p.buckets → IsNotAlone t → TryLed p latching.AtRest [] (latch_shared p t)
+latch_led p t low alone =
+    either_led (is_next_marked t.request.version) p latching.AtRest [] (record t { step = LoadsPhase }) (walks p t) (record { its = record { low = low; knows = alone }; fits = Keeps refl refl refl }) (walks_led p t low alone)
+
+phase_led : (p : Places) (t : TryState) (said : PhaseSaid) → t.home.bucket < p.buckets → IsNotAlone t → TryLed p latching.AtRest [] (phase_loaded p t said)
+unfolding phase_loaded
+phase_led p t said low alone = either_led (is_still_in said t.request.version) p latching.AtRest [] (walks p t) (ends p t answer.Shift) (walks_led p t low alone) (ends_none p t answer.Shift low alone)
+
 -- the machine for latches, where the try shares its latch
 shared_led : (p : Places) (t : TryState) (step : Latching) (reply : ℕ) → t.latching ≡ latch_next step reply → t.step ≡ TakesShared → t.home.bucket < p.buckets → IsNotAlone t → t.has_shared ≡ false → TakesShare (its_latch p t) step
     → TryLed p (latch_next step reply) (alone_given step (latch_next_ask step reply) []) (shared_ledto p t (latch_next_ask step reply))
@@ -260,7 +270,7 @@ shared_led p t (latching.AddsShare place) reply next at low alone free takes = b
           subst (λ x. TryLed p x [] t) its (stays_led p t TakesShared at low (alone, Gives (its ∙ ap latching.GivesBack here), free) (ap is_first its)))
       | Gives other ↦ cc
     ]
-    by_word false its = walks_led p (record t { has_shared = true }) low alone
+    by_word false its = latch_led p (record t { has_shared = true }) low alone
 shared_led p t (latching.GivesBack place) reply next at low alone free takes = ends_none p t answer.Shift low alone
 shared_led p t step reply next at low alone free (Adds same) = cc
 shared_led p t step reply next at low alone free (Gives same) = cc
@@ -310,6 +320,7 @@ step_led : (p : Places) (room : ℕ) (t : TryState) (step : Trying) (reply : ℕ
 unfolding trying_next
 step_led p room t (Ended its) reply at low knows = resting p [] (record t { effect = None }) reply (stays_led p (record t { effect = None }) (Ended its) at low knows refl)
 step_led p room t TakesShared reply at low knows = shared_led p (latch_moved (record t { effect = None }) reply) t.latching reply refl at low knows.0 knows.2 knows.1
+step_led p room t LoadsPhase reply at low knows = resting p [] _ reply (phase_led p (record t { effect = None }) (phase_said reply) low knows)
 step_led p room t Walks reply at low knows = resting p [] _ reply (walk_led p (record t { effect = None; walk = walk_next p t.walk reply }) (walk_ask p (walk_next p t.walk reply)) at low knows)
 step_led p room t (LoadsSafe addr version) reply at low knows = resting p [] _ reply (safe_led p (record t { effect = None }) addr version reply low knows)
 step_led p room t (SwapsValue addr) reply at low knows = resting p [] _ reply (ends_none p (record t { effect = Some (reply_from None t.request.op) }) _ low knows)

@@ -1,6 +1,6 @@
 -- The parts of a turn, over what may happen to the keeper: what is so of them as a turn begins, and stays so, is so while a turn is made.
 use Rattle.std.proofs.Common.{◌≡◌, refl, sym, subst, Bool, true, false}
-use Rattle.std.specs.Prelude.{if◌then◌else◌, ⊤, length}
+use Rattle.std.specs.Prelude.{if◌then◌else◌, ⊤}
 use Rattle.fkv_base.specs.declared.faults.Fault.TheVariants as fault
 use Rattle.fkv_base.specs.declared.shapes.Shape.{Shape}
 use Rattle.fkv_plane.specs.declared.asks.Ask.{Ask}
@@ -17,7 +17,7 @@ use Rattle.law_world.specs.Below.fkv_keeper.TheKeeping.{Keeping}
 use Rattle.law_world.specs.Below.fkv_keeper.TheKeeping.TheVariants.{Ended, Starts, Maintains, LoadsPhase, Enters, Copies, Seeks, Waits, Writes, Finishes}
 use Rattle.law_world.specs.Below.fkv_keeper.CheckpointLaws.{MayFollow}
 use Rattle.law_world.specs.Below.fkv_keeper.KeeperRun.{KeeperEvent, BeginsTurn, BeginsCommit, Replies, Gets, Calls, is_in_hand, begins, keeper_happens}
-use Rattle.law_world.specs.Below.fkv_keeper.Keeping.{KeeperState, ended, commit_asked, turn_asked, maintain_ledto, keeping_next, keeping_given, keeping_called}
+use Rattle.law_world.specs.Below.fkv_keeper.Keeping.{KeeperState, ended, commit_asked, turn_asked, maintain_ledto, keeping_next, keeping_given, keeping_called, asked_for}
 use Rattle.law_world.proofs.Below.fkv_keeper.Shown.{each_move}
 
 -- this is so of the parts of a turn, where one is made
@@ -78,7 +78,7 @@ module _ (Q : MaintainState → Type 0) where
       (either_with s.is_broken (ended s (TurnRefused fault.Broken)) (record s { maintain = maintain_begun s.maintain; is_drain_full = false; step = Maintains }) tt begun)
   from_ended shape p s its (BeginsCommit kind) at was begun =
       subst (λ (x : Keeping). IsInTurn Q (begins s (is_in_hand x) (commit_asked s kind))) (sym at)
-      (either_with s.is_broken (ended s (CommitRefused fault.Broken)) (record s { start = start_begun s.start kind (length s.lost); step = Starts }) tt tt)
+      (either_with s.is_broken (ended s (CommitRefused fault.Broken)) (record s { start = start_begun s.start (asked_for s kind); step = Starts }) tt tt)
   from_ended shape p s its (Replies reply granted) at was begun = subst (λ (x : Keeping). IsInTurn Q (keeping_next shape p s x reply granted)) (sym at) was
   from_ended shape p s its (Gets action) at was begun = subst (λ (x : Keeping). IsInTurn Q (keeping_given shape p s x action)) (sym at) was
   from_ended shape p s its (Calls done bytes) at was begun = subst (λ (x : Keeping). IsInTurn Q (keeping_called shape p s x done bytes)) (sym at) was

@@ -1,5 +1,5 @@
 -- The mailbox's world shows every life.
-use Rattle.std.proofs.Common.{◌≡◌, ℕ, ◌<◌, ◌∙◌, refl, sym, subst, List, [], ◌∷◌, length, Bool, true, false}
+use Rattle.std.proofs.Common.{◌≡◌, ℕ, ◌<◌, ◌∙◌, refl, sym, subst, List, [], ◌∷◌, Bool, true, false}
 use Rattle.std.specs.Prelude.{if◌then◌else◌, slice_get}
 use Rattle.fkv_base.specs.declared.faults.Fault.TheVariants as fault
 use Rattle.fkv_base.specs.declared.commits.CommitKind.{CommitKind}
@@ -11,7 +11,7 @@ use Rattle.law_world.specs.Below.fkv_keeper.KeeperTold.TheVariants.{TurnRefused,
 use Rattle.law_world.specs.Below.fkv_keeper.TheKeeping.{Keeping}
 use Rattle.law_world.specs.Below.fkv_keeper.TheKeeping.TheVariants.{Ended, Starts, Maintains}
 use Rattle.law_world.specs.Below.fkv_keeper.KeeperRun.{is_in_hand}
-use Rattle.law_world.specs.Below.fkv_keeper.Keeping.{KeeperState, ended, commit_asked, turn_asked}
+use Rattle.law_world.specs.Below.fkv_keeper.Keeping.{KeeperState, ended, commit_asked, turn_asked, asked_for}
 use Rattle.law_world.specs.Below.fkv_pending.MailAnswer.TheVariants.{NotReady}
 use Rattle.law_world.specs.Below.fkv_pending.TheMailing.TheVariants as mailing
 use Rattle.law_world.specs.Below.fkv_pending.MailWorld.{mailbox_of, FindsState, MailWorld, mail_run}
@@ -46,10 +46,10 @@ either_broken true before a b one other = one
 either_broken false before a b one other = other
 
 commit_rests : (s : KeeperState) (kind : CommitKind) → serving_of (commit_asked s kind) ≡ serve.AtRest
-commit_rests s kind = either_rests s.is_broken (ended s (CommitRefused fault.Broken)) (record s { start = start_begun s.start kind (length s.lost); step = Starts }) refl refl
+commit_rests s kind = either_rests s.is_broken (ended s (CommitRefused fault.Broken)) (record s { start = start_begun s.start (asked_for s kind); step = Starts }) refl refl
 
 commit_broken : (s : KeeperState) (kind : CommitKind) → (commit_asked s kind).is_broken ≡ s.is_broken
-commit_broken s kind = either_broken s.is_broken s.is_broken (ended s (CommitRefused fault.Broken)) (record s { start = start_begun s.start kind (length s.lost); step = Starts }) refl refl
+commit_broken s kind = either_broken s.is_broken s.is_broken (ended s (CommitRefused fault.Broken)) (record s { start = start_begun s.start (asked_for s kind); step = Starts }) refl refl
 
 turn_rests : (s : KeeperState) → serving_of (turn_asked s) ≡ serve.AtRest
 turn_rests s = either_rests s.is_broken (ended s (TurnRefused fault.Broken)) (record s { maintain = maintain_begun s.maintain; is_drain_full = false; step = Maintains }) refl refl

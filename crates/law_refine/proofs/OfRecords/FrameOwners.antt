@@ -1,7 +1,6 @@
 -- Whose the record is whose frame a session's next step may write: the session changes it in place, or has reserved it. So the record has its frame.
 use Rattle.std.proofs.Common.{[], ◌≡◌, ℕ, ◌≤◌, ◌∙◌, refl, sym, ap, subst, arith, true, List}
 use Rattle.std.specs.Prelude.{Option, Some, slice_get}
-use Rattle.fkv_map.specs.declared.history.HistoryEntry.{HistoryEntry}
 use Rattle.fkv_base.specs.declared.numbers.Addr.{Addr}
 use Rattle.fkv_plane.specs.declared.places.RecordWord.TheVariants as rec
 use Rattle.fkv_epoch.specs.EpochWorld.{EpochMachine, Protects, Sight, is_at_rest}
@@ -41,6 +40,7 @@ use Rattle.law_world.specs.Below.fkv_world.Runs.{World, run}
 use Rattle.law_world.specs.Below.fkv_world.World.{Event, Now}
 use Rattle.law_world.specs.Guarded.Shows.{IsOpened, seen_by_guard}
 use Rattle.law_world.proofs.OfGuarded.Worlds.{life_shows}
+use Rattle.law_refine.specs.Events.Appends.{NewRecord}
 use Rattle.law_refine.specs.Events.GhostEvents.{safe_at}
 use Rattle.law_refine.specs.Events.Reservations.{Reservation, reservation, append_reserves, invalidate_reserves, try_reserves, attempt_reserves}
 use Rattle.law_refine.specs.Events.Reserved.{sitting_reserves, reserved_by}
@@ -78,14 +78,14 @@ record HasReservation (reserved : Option Reservation) (f : FrameWord) : Type 0 w
   reserved_so : reserved ≡ Some its
   addr_so : its.addr ≡ f.addr
 
-invalidate_owner : (a : AppendState) (entry : HistoryEntry) (step : Invalidating) (f : FrameWord) → invalidate_word step ≡ Some f → HasReservation (invalidate_reserves a entry step) f
-invalidate_owner a entry invalidate.AtRest f e = cc
-invalidate_owner a entry (invalidate.StoresHeader addr header) f e = record { its = reservation a entry addr.0; reserved_so = refl; addr_so = its_addr (record { addr = addr.0; word = rec.Header }) f e }
+invalidate_owner : (a : AppendState) (made : NewRecord) (step : Invalidating) (f : FrameWord) → invalidate_word step ≡ Some f → HasReservation (invalidate_reserves a made step) f
+invalidate_owner a made invalidate.AtRest f e = cc
+invalidate_owner a made (invalidate.StoresHeader addr header) f e = record { its = reservation a made addr.0; reserved_so = refl; addr_so = its_addr (record { addr = addr.0; word = rec.Header }) f e }
 
-append_owner : (stands : Standing) (a : AppendState) (entry : HistoryEntry) (step : Appending) (f : FrameWord) → AppendStands stands a step → append_word a step ≡ Some f → HasReservation (append_reserves a entry step) f
-append_owner stands a entry (appending.Fills addr) f so e = record { its = reservation a entry addr.0; reserved_so = refl; addr_so = fill_owner stands addr a.its_words a.filling f so.0 e }
-append_owner stands a entry appending.Invalidates f so e = invalidate_owner a entry a.invalidating f e
-append_owner stands a entry step f so e = cc
+append_owner : (stands : Standing) (a : AppendState) (made : NewRecord) (step : Appending) (f : FrameWord) → AppendStands stands a step → append_word a step ≡ Some f → HasReservation (append_reserves a made step) f
+append_owner stands a made (appending.Fills addr) f so e = record { its = reservation a made addr.0; reserved_so = refl; addr_so = fill_owner stands addr a.its_words a.filling f so.0 e }
+append_owner stands a made appending.Invalidates f so e = invalidate_owner a made a.invalidating f e
+append_owner stands a made step f so e = cc
 
 try_owner : (stands : Standing) (session : ℕ) (pending : PendingRequest) (t : TryState) (step : Trying) (f : FrameWord) → TryStands stands t step → try_word t step ≡ Some f → IsOwner (try_changes step) (try_reserves session pending t step) f
 try_owner stands session pending t (SwapsValue addr) f so e =

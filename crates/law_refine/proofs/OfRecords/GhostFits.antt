@@ -2,7 +2,7 @@
 use Rattle.std.proofs.Common.{◌≡◌, ℕ, ◌<◌, ◌^◌, ◌∙◌, arith, refl, sym, ap, subst, Bool, true, false, List, [], ◌∷◌, ◌++◌}
 use Rattle.std.specs.Prelude.{◌==◌, ◌&&◌, nat_lt, if◌then◌else◌, ⊤, Option, Some, None}
 use Rattle.std.proofs.lemmas.Bool.Decides.{nat_tests}
-use Rattle.fkv_marks.proofs.Shown.{mark_small}
+use Rattle.fkv_marks.specs.Marks.{mark}
 use Rattle.fkv_epoch.proofs.Shown.{some_same}
 use Rattle.fkv_map.specs.declared.history.HistoryEntry.{HistoryEntry}
 use Rattle.fkv_map.specs.declared.operations.Op.{Op}
@@ -52,7 +52,7 @@ use Rattle.law_world.specs.Below.fkv_session.Sitting.TheVariants.{Attempts, Poll
 use Rattle.law_world.specs.Below.fkv_session.Sessions.{SessionState, Seat, bits_of, room_of, sitting_ask}
 use Rattle.law_world.specs.GuardSessions.InPlace.{try_changes, attempt_changes, sitting_changes}
 use Rattle.law_world.specs.Below.fkv_world.Past.{Traced}
-use Rattle.law_refine.specs.Events.Appends.{entry_made, reserved_ghosts, publish_ghosts, invalidate_ghosts, append_ghosts}
+use Rattle.law_refine.specs.Events.Appends.{entry_made, reserved_ghosts, publish_ghosts, invalidate_ghosts, append_ghosts, NewRecord, new_record}
 use Rattle.law_world.specs.GuardSessions.Tries.{is_for_entry}
 use Rattle.law_local.specs.Tries.TryRows.{cell_of}
 use Rattle.law_refine.specs.Events.Effects.{AreQuiet}
@@ -64,6 +64,8 @@ use Rattle.law_refine.specs.Events.Tries.{found_ghosts, find_ghosts, walk_ghosts
 use Rattle.law_log.specs.Chains.{Cell}
 use Rattle.law_refine.specs.Records.Cells.{ShowsCell}
 use Rattle.law_refine.specs.Records.Headers.{IsGivenUp, IsHeaderOf}
+use Rattle.law_refine.proofs.OfEvents.RequestNames as named
+use Rattle.law_refine.proofs.OfEvents.TryAppends.{KnowsAt}
 use Rattle.law_refine.proofs.OfRecords.AppendRows.{Standing, AppendStands, AppendWrites, GivesUp, InvalidateWrites, IsFilled}
 use Rattle.law_refine.proofs.OfRecords.AttemptRows.{AttemptWrites, IsAllowed, IsAttemptSo, TriesAt}
 use Rattle.law_refine.proofs.OfRecords.FrameWords.{FrameWord, append_word, asked_passed, attempt_word, sitting_word, try_word}
@@ -102,6 +104,10 @@ either_fit stands after Writes changed reserved word true a b one other = one
 either_fit stands after Writes changed reserved word false a b one other = other
 
 -- ---- an append
+-- the header of what it writes has the mark of the record's version
+abbrev IsMarked : AppendState → NewRecord → Type 0
+IsMarked a made = a.its_words.header.version.0 ≡ mark made.version
+
 not_both : (one other : ℕ) (a : ℕ) → (nat_lt one a && nat_lt a other) ≡ false → one < a → a < other → ⊥
 not_both one other a e low high =
     let p : nat_lt one a ≡ true = grind (arith, nat_tests) in
@@ -110,56 +116,55 @@ not_both one other a e low high =
     let clash : false ≡ true = sym e ∙ both in
     cc
 
-reserved_fit : (stands after : Standing) (Writes : Type 0) (changed : Option ℕ) (a : AppendState) (entry : HistoryEntry) (ask : Ask ReserveAnswer) → Fit stands after Writes changed None None (reserved_ghosts a entry ask)
-reserved_fit stands after Writes changed a entry (Done (reserve.Reserved addr)) = by_test (is_for_entry a addr) refl
+reserved_fit : (stands after : Standing) (Writes : Type 0) (changed : Option ℕ) (a : AppendState) (made : NewRecord) (ask : Ask ReserveAnswer) → Fit stands after Writes changed None None (reserved_ghosts a made ask)
+reserved_fit stands after Writes changed a made (Done (reserve.Reserved addr)) = by_test (is_for_entry a addr) refl
   where
-    by_test : (c : Bool) → is_for_entry a addr ≡ c → Fit stands after Writes changed None None (if c then TakesAddr addr.0 entry (cell_of a.its_words) ∷ [] else Drops addr.0 ∷ TakesAddr addr.0 entry (cell_of a.its_words) ∷ [])
+    by_test : (c : Bool) → is_for_entry a addr ≡ c → Fit stands after Writes changed None None (if c then TakesAddr addr.0 made.entry (cell_of made.version a.its_words) ∷ [] else Drops addr.0 ∷ TakesAddr addr.0 made.entry (cell_of made.version a.its_words) ∷ [])
     by_test true e = (tt, tt)
     by_test false e = (not_both a.its_words.header.previous.0 (2 ^ 48) addr.0 e, (tt, tt))
-reserved_fit stands after Writes changed a entry (Done other) = tt
-reserved_fit stands after Writes changed a entry ask = tt
+reserved_fit stands after Writes changed a made (Done other) = tt
+reserved_fit stands after Writes changed a made ask = tt
 
 publish_fit : (stands after : Standing) (Writes : Type 0) (changed : Option ℕ) (reserved : Option Reservation) (word : Option FrameWord) (addr : ℕ) (ask : Ask PublishAnswer) → ReservedShows stands reserved × (word ≡ None) → Fit stands after Writes changed reserved word (publish_ghosts addr ask)
 publish_fit stands after Writes changed reserved word addr (Done Won) so = (so, tt)
 publish_fit stands after Writes changed reserved word addr (Done other) so = tt
 publish_fit stands after Writes changed reserved word addr ask so = tt
 
-dropped_fit : (stands after : Standing) (Writes : Type 0) (changed : Option ℕ) (word : Option FrameWord) (a : AppendState) (entry : HistoryEntry) (step : Invalidating) → GivesUp a.its_words step → (Writes → InvalidateWrites after step)
-    → Fit stands after Writes changed (invalidate_reserves a entry step) word (invalidate_ghosts step)
-dropped_fit stands after Writes changed word a entry invalidating.AtRest gives writes = tt
-dropped_fit stands after Writes changed word a entry (invalidating.StoresHeader addr header) gives writes = (λ written one e. subst (λ (x : Reservation). IsGivenUp x.addr x.cell (after x.addr rec.Header)) (some_same (reservation a entry addr.0) one e) (its written), tt)
+dropped_fit : (stands after : Standing) (Writes : Type 0) (changed : Option ℕ) (word : Option FrameWord) (a : AppendState) (made : NewRecord) (step : Invalidating) → IsMarked a made → GivesUp a.its_words step → (Writes → InvalidateWrites after step)
+    → Fit stands after Writes changed (invalidate_reserves a made step) word (invalidate_ghosts step)
+dropped_fit stands after Writes changed word a made invalidating.AtRest marked gives writes = tt
+dropped_fit stands after Writes changed word a made (invalidating.StoresHeader addr header) marked gives writes = (λ written one e. subst (λ (x : Reservation). IsGivenUp x.addr x.cell (after x.addr rec.Header)) (some_same (reservation a made addr.0) one e) (its written), tt)
   where
-    its : Writes → IsGivenUp addr.0 (cell_of a.its_words) (after addr.0 rec.Header)
+    its : Writes → IsGivenUp addr.0 (cell_of made.version a.its_words) (after addr.0 rec.Header)
     its written = record {
       header = record {
         header = invalidated a.its_words.header;
         spells = writes written ∙ ap (λ (x : Header). header_word (invalidated x)) gives.0;
         leads = refl;
-        its_mark = sym (mark_small a.its_words.header.version.0 a.its_words.header.version_fits);
-        fits = a.its_words.header.version_fits;
+        its_mark = marked;
         bit = refl;
       };
       falls = gives.1;
     }
 
-valid_shows : (words : RecordWord → ℕ) (its : RecordWords) → IsFilled words its → its.header.invalid ≡ false → ShowsValid words (cell_of its)
-valid_shows words its filled valid = record {
-  shows = filled_shows words its filled;
-  header = record { header = its.header; spells = filled.header; leads = refl; its_mark = sym (mark_small its.header.version.0 its.header.version_fits); fits = its.header.version_fits; bit = valid };
+valid_shows : (words : RecordWord → ℕ) (version : ℕ) (its : RecordWords) → its.header.version.0 ≡ mark version → IsFilled words its → its.header.invalid ≡ false → ShowsValid words (cell_of version its)
+valid_shows words version its marked filled valid = record {
+  shows = filled_shows words version its marked filled;
+  header = record { header = its.header; spells = filled.header; leads = refl; its_mark = marked; bit = valid };
 }
 
-filled_reserved : (stands : Standing) (a : AppendState) (entry : HistoryEntry) (addr : ℕ) → IsFilled (stands addr) a.its_words → a.its_words.header.invalid ≡ false → ReservedShows stands (Some (reservation a entry addr))
-filled_reserved stands a entry addr filled valid = λ its e. subst (λ (x : Reservation). ShowsValid (stands x.addr) x.cell) (some_same (reservation a entry addr) its e) (valid_shows (stands addr) a.its_words filled valid)
+filled_reserved : (stands : Standing) (a : AppendState) (made : NewRecord) (addr : ℕ) → IsMarked a made → IsFilled (stands addr) a.its_words → a.its_words.header.invalid ≡ false → ReservedShows stands (Some (reservation a made addr))
+filled_reserved stands a made addr marked filled valid = λ its e. subst (λ (x : Reservation). ShowsValid (stands x.addr) x.cell) (some_same (reservation a made addr) its e) (valid_shows (stands addr) made.version a.its_words marked filled valid)
 
-append_fit : (stands after : Standing) (Writes : Type 0) (changed : Option ℕ) (room : ℕ) (a : AppendState) (entry : HistoryEntry) (step : Appending) (reply : ℕ) → AppendStands stands a step → (Writes → AppendWrites stands after a step)
-    → Fit stands after Writes changed (append_reserves a entry step) (append_word a step) (append_ghosts room a entry step reply)
-append_fit stands after Writes changed room a entry (appending.Ended told) reply so writes = tt
-append_fit stands after Writes changed room a entry appending.Reserves reply so writes = reserved_fit stands after Writes changed a entry (reserve_next_ask room a.reserving reply)
-append_fit stands after Writes changed room a entry (appending.Fills addr) reply so writes = tt
-append_fit stands after Writes changed room a entry (appending.Publishes addr) reply so writes =
+append_fit : (stands after : Standing) (Writes : Type 0) (changed : Option ℕ) (room : ℕ) (a : AppendState) (made : NewRecord) (step : Appending) (reply : ℕ) → IsMarked a made → AppendStands stands a step → (Writes → AppendWrites stands after a step)
+    → Fit stands after Writes changed (append_reserves a made step) (append_word a step) (append_ghosts room a made step reply)
+append_fit stands after Writes changed room a made (appending.Ended told) reply marked so writes = tt
+append_fit stands after Writes changed room a made appending.Reserves reply marked so writes = reserved_fit stands after Writes changed a made (reserve_next_ask room a.reserving reply)
+append_fit stands after Writes changed room a made (appending.Fills addr) reply marked so writes = tt
+append_fit stands after Writes changed room a made (appending.Publishes addr) reply marked so writes =
     let falls = so.1 in
-    publish_fit stands after Writes changed (Some (reservation a entry addr.0)) None addr.0 (publish_next_ask a.publishing reply) (filled_reserved stands a entry addr.0 so.0 falls.valid, refl)
-append_fit stands after Writes changed room a entry appending.Invalidates reply so writes = dropped_fit stands after Writes changed _ a entry a.invalidating so writes
+    publish_fit stands after Writes changed (Some (reservation a made addr.0)) None addr.0 (publish_next_ask a.publishing reply) (filled_reserved stands a made addr.0 marked so.0 falls.valid, refl)
+append_fit stands after Writes changed room a made appending.Invalidates reply marked so writes = dropped_fit stands after Writes changed _ a made a.invalidating marked so writes
 
 -- ---- a try: a search is none of these
 found_fit : (stands after : Standing) (Writes : Type 0) (changed : Option ℕ) (reserved : Option Reservation) (word : Option FrameWord) (reader : ℕ) (its : Found) → Fit stands after Writes changed reserved word (found_ghosts reader its)
@@ -179,13 +184,13 @@ search_fit : (stands after : Standing) (Writes : Type 0) (changed : Option ℕ) 
 search_fit stands after Writes changed reserved word p (Read key) reader w reply = walk_fit stands after Writes changed reserved word p reader w w.step reply
 search_fit stands after Writes changed reserved word p op reader w reply = tt
 
-try_fit : (stands after : Standing) (Writes : Type 0) (p : Places) (room session reader : ℕ) (pending : PendingRequest) (t : TryState) (step : Trying) (reply : ℕ) → IsAllowed pending.request.op → TryStands stands t step → (Writes → TryWrites stands after t step)
+try_fit : (stands after : Standing) (Writes : Type 0) (p : Places) (room session reader : ℕ) (pending : PendingRequest) (t : TryState) (step : Trying) (reply : ℕ) → IsAllowed pending.request.op → KnowsAt pending.request t step → TryStands stands t step → (Writes → TryWrites stands after t step)
     → Fit stands after Writes (try_changes step) (try_reserves session pending t step) (try_word t step) (try_ghosts p room session reader pending t step reply)
-try_fit stands after Writes p room session reader pending t Walks reply allowed so writes = search_fit stands after Writes None None None p pending.request.op reader t.walk reply
-try_fit stands after Writes p room session reader pending t (SwapsValue addr) reply allowed so writes = ((refl, allowed), tt)
-try_fit stands after Writes p room session reader pending t (ChangesValue addr old) reply allowed so writes = either_fit stands after Writes (Some addr.0) None _ (reply == old) _ [] ((refl, allowed), tt) tt
-try_fit stands after Writes p room session reader pending t (Appends made) reply allowed so writes = append_fit stands after Writes None room t.append (entry_made session pending made) t.append.step reply so writes
-try_fit stands after Writes p room session reader pending t step reply allowed so writes = tt
+try_fit stands after Writes p room session reader pending t Walks reply allowed knows so writes = search_fit stands after Writes None None None p pending.request.op reader t.walk reply
+try_fit stands after Writes p room session reader pending t (SwapsValue addr) reply allowed knows so writes = ((refl, allowed), tt)
+try_fit stands after Writes p room session reader pending t (ChangesValue addr old) reply allowed knows so writes = either_fit stands after Writes (Some addr.0) None _ (reply == old) _ [] ((refl, allowed), tt) tt
+try_fit stands after Writes p room session reader pending t (Appends made) reply allowed knows so writes = append_fit stands after Writes None room t.append (new_record session pending made) t.append.step reply knows.same.its_mark so writes
+try_fit stands after Writes p room session reader pending t step reply allowed knows so writes = tt
 
 -- ---- an attempt and a session
 value_fit : (stands after : Standing) (Writes : Type 0) (changed : Option ℕ) (reserved : Option Reservation) (word : Option FrameWord) (op : Op) (reader : ℕ) (ask : Ask TryAnswer) (before : List GhostEvent)
@@ -196,22 +201,22 @@ value_fit stands after Writes changed reserved word (Read key) reader (Done othe
 value_fit stands after Writes changed reserved word (Read key) reader ask before was = was
 value_fit stands after Writes changed reserved word op reader ask before was = was
 
-tried_fit : (stands after : Standing) (Writes : Type 0) (k : Seat) (reader : ℕ) (a : AttemptState) (step : Attempting) (reply : ℕ) → IsAllowed a.pending.request.op → TriesAt stands a.trial step → (Writes → AttemptWrites stands after a step)
+tried_fit : (stands after : Standing) (Writes : Type 0) (k : Seat) (reader : ℕ) (a : AttemptState) (step : Attempting) (reply : ℕ) → IsAllowed a.pending.request.op → named.TriesAt a.pending a.trial step → TriesAt stands a.trial step → (Writes → AttemptWrites stands after a step)
     → Fit stands after Writes (attempt_changes a step) (attempt_reserves k.number a step) (attempt_word a step) (tried_ghosts k reader a step reply)
-tried_fit stands after Writes k reader a Tries reply allowed so writes = try_fit stands after Writes k.places (room_of k) k.number reader a.pending a.trial a.trial.step reply allowed so writes
-tried_fit stands after Writes k reader a step reply allowed so writes = tt
+tried_fit stands after Writes k reader a Tries reply allowed its so writes = try_fit stands after Writes k.places (room_of k) k.number reader a.pending a.trial a.trial.step reply allowed its.of_request.knows so writes
+tried_fit stands after Writes k reader a step reply allowed its so writes = tt
 
-attempt_fit : (stands after : Standing) (Writes : Type 0) (k : Seat) (reader : ℕ) (a : AttemptState) (reply : ℕ) → IsAttemptSo stands a → (Writes → AttemptWrites stands after a a.step)
+attempt_fit : (stands after : Standing) (Writes : Type 0) (k : Seat) (reader : ℕ) (a : AttemptState) (reply : ℕ) → named.IsAttemptSo a → IsAttemptSo stands a → (Writes → AttemptWrites stands after a a.step)
     → Fit stands after Writes (attempt_changes a a.step) (attempt_reserves k.number a a.step) (attempt_word a a.step) (attempt_ghosts k reader a reply)
-attempt_fit stands after Writes k reader a reply so writes =
+attempt_fit stands after Writes k reader a reply its so writes =
     value_fit stands after Writes _ _ _ a.pending.request.op reader (attempt_ask k.places k.number (attempt_next k.places (bits_of k) (room_of k) k.number a reply)) (tried_ghosts k reader a a.step reply)
-    (tried_fit stands after Writes k reader a a.step reply so.allowed so.tries_so writes)
+    (tried_fit stands after Writes k reader a a.step reply so.allowed its.tries_so so.tries_so writes)
 
-pub sitting_fit : (stands after : Standing) (Writes : Type 0) (k : Seat) (trace : List Traced) (s : SessionState) (step : Sitting) (reply : ℕ) → StepIsSo stands s step → (Writes → SittingWrites stands after s step)
+pub sitting_fit : (stands after : Standing) (Writes : Type 0) (k : Seat) (trace : List Traced) (s : SessionState) (step : Sitting) (reply : ℕ) → named.StepIsSo s.attempt step → StepIsSo stands s step → (Writes → SittingWrites stands after s step)
     → Fit stands after Writes (sitting_changes s step) (sitting_reserves k.number s step) (sitting_word s step) (sitting_ghosts k trace s step reply)
-sitting_fit stands after Writes k trace s (Attempts has_shifted) reply so writes = attempt_fit stands after Writes k (read_in_hand k.number trace) s.attempt reply so.0 writes
-sitting_fit stands after Writes k trace s (Polls index) reply so writes = attempt_fit stands after Writes k (read_waiting k.number (ticket_of s.attempt.pending.name) trace) s.attempt reply so writes
-sitting_fit stands after Writes k trace s step reply so writes = tt
+sitting_fit stands after Writes k trace s (Attempts has_shifted) reply its so writes = attempt_fit stands after Writes k (read_in_hand k.number trace) s.attempt reply its so.0 writes
+sitting_fit stands after Writes k trace s (Polls index) reply its so writes = attempt_fit stands after Writes k (read_waiting k.number (ticket_of s.attempt.pending.name) trace) s.attempt reply its so writes
+sitting_fit stands after Writes k trace s step reply its so writes = tt
 
 -- ---- what it changes in place is a value's word
 try_value : (t : TryState) (step : Trying) (a : ℕ) → try_changes step ≡ Some a → try_word t step ≡ Some (record { addr = a; word = rec.Value })

@@ -65,7 +65,7 @@ set_fits stands cells b x a was new = elim (at_one cells b x a) [
 changed_fits : (start : ℕ) (stands : Standing) (log : Log) (b : ℕ) (entry : HistoryEntry) (logged : Logged) → log.cells b ≡ logged → HeadersFit start stands log → HeadersFit start stands (changed log b entry logged)
 changed_fits start stands log b entry (Published cell) e was = λ a from low. set_fits stands log.cells b (Published (changed_by entry cell)) a (was a from low) (λ same.
     let its : IsHeaderOf cell false (stands a rec.Header) = subst (HeaderFits stands a) (ap log.cells same ∙ e) (was a from low) in
-    record { header = its.header; spells = its.spells; leads = its.leads; its_mark = its.its_mark; fits = its.fits; bit = its.bit })
+    record { header = its.header; spells = its.spells; leads = its.leads; its_mark = its.its_mark; bit = its.bit })
 changed_fits start stands log b entry logged e was = was
 
 still_fits : (home : ℕ → ℕ) (start : ℕ) (stands : Standing) (log : Log) (event : GhostEvent) → is_still event → HeadersFit start stands log → HeadersFit start stands (log_after home log event)

@@ -30,6 +30,7 @@ use Rattle.law_refine.proofs.OfRecords.Life.{life_holds}
 use Rattle.law_refine.proofs.OfRecords.OneEvent.{told_quiet}
 use Rattle.law_refine.proofs.OfRecords.Standing.{stands_in}
 use Rattle.law_refine.proofs.OfEvents.EventEffects.{fixed_quiet}
+use Rattle.law_refine.proofs.OfEvents.RequestNames.{life_so}
 
 quiet_meet : (log : Log) (event : GhostEvent) → is_quiet event → meets_published log event
 quiet_meet log (Changes a entry) quiet = absurd quiet
@@ -80,7 +81,7 @@ module _ (opening : World) (start : ℕ) (ghosts : Ghosts) (opened : IsOpened op
       let reply : ℕ = reply_to (run opening before).now.words ask in
       takes_meets H (life_ghosts opening ghosts before) stands (changed_in_place s) (reserved_by number s) (sitting_word s s.step) _ (sitting_ghosts k (run opening before).past.trace s s.step reply) _
       (life_takes opening start before number s reply opened found)
-      (sitting_fit stands stands ⊥ k (run opening before).past.trace s s.step reply ((life_holds opening start ghosts before opened none free published).rows number s found).sits (λ never. absurd never)) its
+      (sitting_fit stands stands ⊥ k (run opening before).past.trace s s.step reply (life_so opening start before number s opened found).sits ((life_holds opening start ghosts before opened none free published).rows number s found).sits (λ never. absurd never)) its
 
   moved_meets : (before : List Event) (number : ℕ) (found : Option SessionState) → slice_get (run opening before).now.sessions number ≡ found → AreChangesPublished opening ghosts before → SessionChangesPublished (life_ghosts opening ghosts before).log found
       → AllMeetPublished H (life_ghosts opening ghosts before) (moved_ghosts (run opening before) number found)

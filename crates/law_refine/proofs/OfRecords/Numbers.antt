@@ -1,8 +1,8 @@
 -- Words say what was spelled in them: a header its record, and a value's word the value, where no operation brings the word for none.
-use Rattle.std.proofs.Common.{◌≡◌, ◌≢◌, ℕ, ◌+◌, ◌*◌, ◌<◌, ◌^◌, ◌%◌, ◌/◌, ◌∙◌, arith, refl, sym, ap, Bool, true, false, min, max}
+use Rattle.std.proofs.Common.{◌≡◌, ◌≢◌, ℕ, ◌+◌, ◌*◌, ◌<◌, ◌^◌, ◌%◌, ◌/◌, ◌∙◌, arith, refl, ap, Bool, true, false, min, max}
 use Rattle.std.specs.Prelude.{◌==◌, if◌then◌else◌, Option, Some, None, IfSome}
 use Rattle.std.proofs.lemmas.Bool.Decides.{nat_tests}
-use Rattle.fkv_marks.proofs.Shown.{mark_small}
+use Rattle.fkv_marks.specs.Marks.{mark}
 use Rattle.fkv_map.specs.declared.operations.Op.{Op}
 use Rattle.fkv_map.specs.declared.operations.Op.TheVariants.{Upsert, Delete, Add, Max, Read, Merge}
 use Rattle.fkv_map.specs.Keys.{value_applied}
@@ -34,13 +34,13 @@ spelled word previous version bit its fits some small few =
     let high : (word / 2 ^ 63 == 0) ≡ true = (let h : word / 2 ^ 63 ≡ 0 = omega (arith, its, fits, small, few) in grind (arith, nat_tests, h)) in
     rw (some_version, low, high, a, d) refl
 
-header_back : (header : Header) → header_said (header_word header) ≡ Says (record { 0 = header.previous.0 }) (record { 0 = header.version.0 })
+pub header_back : (header : Header) → header_said (header_word header) ≡ Says (record { 0 = header.previous.0 }) (record { 0 = header.version.0 })
 header_back header = spelled (header_word header) header.previous.0 header.version.0 (bit_of header.invalid) refl header.previous_fits header.some_version header.version_fits (bit_small header.invalid)
 
--- a record whose words stand shows itself
-pub filled_shows : (words : RecordWord → ℕ) (its : RecordWords) → IsFilled words its → ShowsCell words (cell_of its)
-filled_shows words its filled = record {
-  header = ap header_said filled.header ∙ header_back its.header ∙ ap (λ (n : ℕ). Says (record { 0 = its.header.previous.0 }) (record { 0 = n })) (sym (mark_small its.header.version.0 its.header.version_fits));
+-- a record whose words stand, with the mark of its version, shows itself
+pub filled_shows : (words : RecordWord → ℕ) (version : ℕ) (its : RecordWords) → its.header.version.0 ≡ mark version → IsFilled words its → ShowsCell words (cell_of version its)
+filled_shows words version its marked filled = record {
+  header = ap header_said filled.header ∙ header_back its.header ∙ ap (λ (n : ℕ). Says (record { 0 = its.header.previous.0 }) (record { 0 = n })) marked;
   key = filled.key;
   value = ap value_of filled.value;
 }

@@ -59,6 +59,7 @@ use Rattle.law_refine.proofs.OfRecords.SessionRows.{IsSo, SittingWrites, called_
 use Rattle.law_refine.proofs.OfRecords.Standing.{stands_in}
 use Rattle.law_refine.proofs.OfRecords.Wrote.{AreSo, IsWritten, crashed_stays, stays_or, wrote}
 use Rattle.law_refine.proofs.OfEvents.EventEffects.{fixed_quiet}
+use Rattle.law_refine.proofs.OfEvents.RequestNames.{life_so}
 
 -- ---- what is published is not reserved, and is born
 published_free : (logged : Logged) (entry : HistoryEntry) (cell : Cell) → IsPublished logged → logged ≡ Reserved entry cell → ⊥
@@ -401,7 +402,7 @@ module _ (opening : World) (start : ℕ) (ghosts : Ghosts) (opened : IsOpened op
 
       word_shows : StandsShowLog low T (ghost_run H G (sitting_ghosts K W.past.trace s s.step R)).log
       word_shows =
-          takes_now (sitting_ghosts K W.past.trace s s.step R) _ (life_takes opening start before number s R opened found) (sitting_fit S T (SittingWrites S T s s.step) K W.past.trace s s.step R (so number s found).sits (λ writes. writes))
+          takes_now (sitting_ghosts K W.past.trace s s.step R) _ (life_takes opening start before number s R opened found) (sitting_fit S T (SittingWrites S T s s.step) K W.past.trace s s.step R (life_so opening start before number s opened found).sits (so number s found).sits (λ writes. writes))
           (λ quiet a changes. sitting_quiet K W.past.trace s s.step R a changes quiet)
 
       step_shows : (ask : Ask Told) → A ≡ ask → StandsShowLog low T (ghost_run H G (step_ghosts K W.past.trace s N.words ask)).log
@@ -493,7 +494,7 @@ module _ (opening : World) (start : ℕ) (ghosts : Ghosts) (opened : IsOpened op
       word_fit : (reply : ℕ) → AllFall (sitting_ghosts (seat_at N number) W.past.trace s s.step reply) → HeadersFit start T (ghost_run H G (sitting_ghosts (seat_at N number) W.past.trace s s.step reply)).log
       word_fit reply falls =
           moves_fit H start S T (SittingWrites S T s s.step) (sitting_writes S T (seat_at N number) s s.step (own_stores number s moves found alive)) G _ _ reply (changed_in_place s) (sitting_word s s.step) (sitting_ghosts (seat_at N number) W.past.trace s s.step reply) (reserved_by number s) _ (life_on opening start before number s reply opened found)
-          (sitting_fit S T (SittingWrites S T s s.step) (seat_at N number) W.past.trace s s.step reply (so number s found).sits (λ writes. writes)) falls
+          (sitting_fit S T (SittingWrites S T s s.step) (seat_at N number) W.past.trace s s.step reply (life_so opening start before number s opened found).sits (so number s found).sits (λ writes. writes)) falls
           (λ its reserved. reserved_cell number s its found reserved) reserved_stays still_fit
 
       step_fit : (ask : Ask Told) → AllFall (step_ghosts (seat_at N number) W.past.trace s N.words ask) → HeadersFit start T (ghost_run H G (step_ghosts (seat_at N number) W.past.trace s N.words ask)).log

@@ -2,7 +2,6 @@
 use Rattle.std.proofs.Common.{◌≡◌, ◌≢◌, ℕ, ◌∙◌, refl, sym, ap, true}
 use Rattle.std.specs.Prelude.{Option, Some, None}
 use Rattle.fkv_base.specs.declared.numbers.Addr.{Addr}
-use Rattle.fkv_map.specs.declared.history.HistoryEntry.{HistoryEntry}
 use Rattle.fkv_plane.specs.declared.actions.Action.{Action}
 use Rattle.fkv_plane.specs.declared.asks.Ask.{Ask}
 use Rattle.fkv_plane.specs.declared.asks.Ask.TheVariants.{Put, Take, Done}
@@ -34,6 +33,7 @@ use Rattle.law_world.specs.Below.fkv_session.Sitting.{Sitting}
 use Rattle.law_world.specs.Below.fkv_session.Sitting.TheVariants.{Attempts, CatchesUp, Polls}
 use Rattle.law_world.specs.Below.fkv_session.Sessions.{SessionState, Seat, session_ask, sitting_ask}
 use Rattle.law_world.specs.Below.fkv_world.Moves.{Near, session_asks, session_gets, session_replied, session_settled}
+use Rattle.law_refine.specs.Events.Appends.{NewRecord}
 use Rattle.law_refine.specs.Events.Reservations.{Reservation, reservation, append_reserves, try_reserves, attempt_reserves}
 use Rattle.law_refine.specs.Events.Reserved.{sitting_reserves, reserved_by}
 use Rattle.law_refine.proofs.OfRecords.AppendRows.{Standing, FillStands, FillWrites, InvalidateWrites, AppendStands, AppendWrites}
@@ -56,15 +56,15 @@ fill_stays stands after addr its_words (fill.StoresValue at its) stays so = so
 fill_stays stands after addr its_words (fill.StoresKey at its) stays so = (so.0, so.1, stays rec.Value ∙ so.2)
 fill_stays stands after addr its_words (fill.StoresHeader at its) stays so = (so.0, so.1, stays rec.Value ∙ so.2, stays rec.Key ∙ so.3)
 
-append_stays : (stands after : Standing) (a : AppendState) (entry : HistoryEntry) (step : Appending) → ReservedStays stands after (append_reserves a entry step) → AppendStands stands a step → AppendStands after a step
-append_stays stands after a entry appending.Reserves stays so = so
-append_stays stands after a entry (appending.Fills addr) stays so = (fill_stays stands after addr a.its_words a.filling (stays (reservation a entry addr.0) refl) so.0, so.1)
-append_stays stands after a entry (appending.Publishes addr) stays so =
-    let here = stays (reservation a entry addr.0) refl in
+append_stays : (stands after : Standing) (a : AppendState) (made : NewRecord) (step : Appending) → ReservedStays stands after (append_reserves a made step) → AppendStands stands a step → AppendStands after a step
+append_stays stands after a made appending.Reserves stays so = so
+append_stays stands after a made (appending.Fills addr) stays so = (fill_stays stands after addr a.its_words a.filling (stays (reservation a made addr.0) refl) so.0, so.1)
+append_stays stands after a made (appending.Publishes addr) stays so =
+    let here = stays (reservation a made addr.0) refl in
     let its = so.0 in
     (record { header = here rec.Header ∙ its.header; key = here rec.Key ∙ its.key; value = here rec.Value ∙ its.value }, so.1)
-append_stays stands after a entry appending.Invalidates stays so = so
-append_stays stands after a entry step stays so = tt
+append_stays stands after a made appending.Invalidates stays so = so
+append_stays stands after a made step stays so = tt
 
 try_stays : (stands after : Standing) (session : ℕ) (pending : PendingRequest) (t : TryState) (step : Trying) → ReservedStays stands after (try_reserves session pending t step) → TryStands stands t step → TryStands after t step
 try_stays stands after session pending t (Appends made) stays so = append_stays stands after t.append _ t.append.step stays so

@@ -6,6 +6,8 @@ use Rattle.fkv_base.specs.declared.numbers.Version.{Version}
 use Rattle.fkv_map.specs.declared.operations.Reply.{Reply}
 use Rattle.fkv_map.specs.Map.{absent_word}
 use Rattle.fkv_map.specs.Keys.{key_of, reply_from}
+use Rattle.fkv_words.specs.declared.phase_words.PhaseSaid.{PhaseSaid}
+use Rattle.fkv_words.specs.PhaseWords.{phase_said}
 use Rattle.fkv_plane.specs.declared.asks.Ask.{Ask}
 use Rattle.fkv_plane.specs.declared.asks.Ask.TheVariants.{Done}
 use Rattle.fkv_plane.specs.declared.places.Places.{Places}
@@ -27,14 +29,14 @@ use Rattle.law_world.specs.Below.fkv_ops.Seen.{Seen}
 use Rattle.law_world.specs.Below.fkv_ops.OldValue.{OldValue}
 use Rattle.law_world.specs.Below.fkv_ops.OldValue.TheVariants.{InMemory, Known}
 use Rattle.law_world.specs.Below.fkv_ops.TheTrying.{Trying}
-use Rattle.law_world.specs.Below.fkv_ops.TheTrying.TheVariants.{Ended, TakesShared, Walks, LoadsSafe, SwapsValue, LoadsCurrent, ChangesValue, LoadsAnswer, TakesExclusive, LoadsOld, Appends, DropsExclusive, DropsShared}
+use Rattle.law_world.specs.Below.fkv_ops.TheTrying.TheVariants.{Ended, TakesShared, LoadsPhase, Walks, LoadsSafe, SwapsValue, LoadsCurrent, ChangesValue, LoadsAnswer, TakesExclusive, LoadsOld, Appends, DropsExclusive, DropsShared}
 use Rattle.law_world.specs.Below.fkv_ops.WalkAnswer.{WalkAnswer}
 use Rattle.law_world.specs.Below.fkv_ops.WalkAnswer.TheVariants as walk
 use Rattle.law_world.specs.Below.fkv_ops.Requests.{is_read, is_blind}
 use Rattle.law_world.specs.Below.fkv_ops.Values.{value_of}
 use Rattle.law_world.specs.Below.fkv_ops.Walking.{walk_on}
 use Rattle.law_world.specs.Below.fkv_ops.Appending.{append_ask, append_next}
-use Rattle.law_world.specs.Below.fkv_ops.Trying.{TryState, with_latch, is_wait, ended_without, ends, takes_effect, full_at, wants_shared, walks, try_begun, shared_ledto, must_shift, wants_exclusive, appends, copies_from, copies, awaits, held_used, changes, is_own_version, region_met, walked, has_walked, walk_ledto, safe_loaded, current_ledto, value_changed, told_value, answer_ledto, exclusive_ledto, old_ledto, append_ledto, exclusive_dropped, shared_dropped, trying_next, try_next, new_try}
+use Rattle.law_world.specs.Below.fkv_ops.Trying.{TryState, with_latch, is_wait, ended_without, ends, takes_effect, full_at, wants_shared, walks, try_begun, shared_ledto, must_shift, wants_exclusive, appends, copies_from, copies, awaits, held_used, changes, is_own_version, region_met, walked, has_walked, walk_ledto, safe_loaded, current_ledto, value_changed, told_value, answer_ledto, exclusive_ledto, old_ledto, append_ledto, exclusive_dropped, shared_dropped, trying_next, try_next, new_try, is_next_marked, is_still_in, phase_loaded, is_surely_own}
 use Rattle.law_refine.proofs.OfRecords.AppendRows.{Standing, AppendStands, AppendWrites, append_so}
 
 abbrev pub TryStands : Standing → TryState → Trying → Type 0
@@ -103,9 +105,13 @@ walked_so after p t walk.Contended = ends_so after p t (answer.Wait reason.Conte
 
 shared_so : (after : Standing) (p : Places) (t : TryState) (ask : Ask LatchAnswer) → t.step ≡ TakesShared → TryStandsNow after (shared_ledto p t ask)
 unfolding shared_ledto
-shared_so after p t (Done latch.Taken) at = tt
+shared_so after p t (Done latch.Taken) at = either_so after (is_next_marked t.request.version) (record t { has_shared = true; step = LoadsPhase }) (walks p (record t { has_shared = true })) tt tt
 shared_so after p t (Done told) at = ends_so after p t answer.Shift
 shared_so after p t ask at = still after t TakesShared at tt
+
+phase_so : (after : Standing) (p : Places) (t : TryState) (said : PhaseSaid) → TryStandsNow after (phase_loaded p t said)
+unfolding phase_loaded
+phase_so after p t said = either_so after (is_still_in said t.request.version) (walks p t) (ends p t answer.Shift) tt (ends_so after p t answer.Shift)
 
 walk_so : (after : Standing) (p : Places) (t : TryState) (ask : Ask WalkAnswer) → t.step ≡ Walks → TryStandsNow after (walk_ledto p t ask)
 unfolding walk_ledto
@@ -116,7 +122,7 @@ walk_so after p t ask at = still after t Walks at tt
 
 safe_so : (after : Standing) (p : Places) (t : TryState) (addr : Addr) (found : Version) (safe : ℕ) → TryStandsNow after (safe_loaded p t addr found safe)
 safe_so after p t addr found safe =
-    either_so after (nat_le safe addr.0) (ends p t (answer.Wait reason.Fuzzy)) (copies p t InMemory (is_own_version t found)) (ends_so after p t (answer.Wait reason.Fuzzy)) (copies_so after p t InMemory (is_own_version t found))
+    either_so after (nat_le safe addr.0) (ends p t (answer.Wait reason.Fuzzy)) (copies p t InMemory (is_surely_own t found)) (ends_so after p t (answer.Wait reason.Fuzzy)) (copies_so after p t InMemory (is_surely_own t found))
 
 current_so : (after : Standing) (p : Places) (t : TryState) (addr : Addr) (ask : Ask WalkAnswer) → t.step ≡ LoadsCurrent addr → TryStandsNow after (current_ledto p t addr ask)
 unfolding current_ledto
@@ -170,6 +176,7 @@ step_so : (stands after : Standing) (p : Places) (room : ℕ) (t : TryState) (st
 unfolding trying_next
 step_so stands after p room t (Ended end) reply at so writes = still after t (Ended end) at tt
 step_so stands after p room t TakesShared reply at so writes = shared_so after p _ _ at
+step_so stands after p room t LoadsPhase reply at so writes = phase_so after p t (phase_said reply)
 step_so stands after p room t Walks reply at so writes = walk_so after p _ _ at
 step_so stands after p room t (LoadsSafe addr found) reply at so writes = safe_so after p t addr found reply
 step_so stands after p room t (SwapsValue addr) reply at so writes = ends_so after p (record t { effect = Some (reply_from None t.request.op) }) (answer.Done (reply_from None t.request.op))

@@ -32,11 +32,20 @@ serial_of (Read ticket) = record { 0 = 0 }
 abbrev pub entry_made : ℕ → PendingRequest → Reply → HistoryEntry
 entry_made session pending reply = record { session = session; serial = serial_of pending.name; op = pending.request.op; reply = reply }
 
+-- What an append makes: a record of this version, and by its publishing this entry of the history. The record's header has no more than the version's mark.
+pub record NewRecord : Type 0 where
+  pub entry : HistoryEntry
+  pub version : ℕ
+
+-- of a session's request, which takes effect with this reply
+abbrev pub new_record : ℕ → PendingRequest → Reply → NewRecord
+new_record session pending reply = record { entry = entry_made session pending reply; version = pending.request.version.0 }
+
 -- the won Cas of the tail takes the address for the record; one that no entry can have is given up at once
-abbrev pub reserved_ghosts : AppendState → HistoryEntry → Ask ReserveAnswer → List GhostEvent
-reserved_ghosts a entry (Done (Reserved addr)) =
-    if is_for_entry a addr then Reserves addr.0 entry (cell_of a.its_words) ∷ [] else Drops addr.0 ∷ Reserves addr.0 entry (cell_of a.its_words) ∷ []
-reserved_ghosts a entry ask = []
+abbrev pub reserved_ghosts : AppendState → NewRecord → Ask ReserveAnswer → List GhostEvent
+reserved_ghosts a made (Done (Reserved addr)) =
+    if is_for_entry a addr then Reserves addr.0 made.entry (cell_of made.version a.its_words) ∷ [] else Drops addr.0 ∷ Reserves addr.0 made.entry (cell_of made.version a.its_words) ∷ []
+reserved_ghosts a made ask = []
 
 -- the won Cas of the slot publishes it
 abbrev pub publish_ghosts : ℕ → Ask PublishAnswer → List GhostEvent
@@ -49,8 +58,8 @@ invalidate_ghosts invalidating.AtRest = []
 invalidate_ghosts (invalidating.StoresHeader addr header) = Drops addr.0 ∷ []
 
 -- by the append's control state, with the reply to its ask
-abbrev pub append_ghosts : ℕ → AppendState → HistoryEntry → Appending → ℕ → List GhostEvent
-append_ghosts room a entry appending.Reserves reply = reserved_ghosts a entry (reserve_next_ask room a.reserving reply)
-append_ghosts room a entry (appending.Publishes addr) reply = publish_ghosts addr.0 (publish_next_ask a.publishing reply)
-append_ghosts room a entry appending.Invalidates reply = invalidate_ghosts a.invalidating
-append_ghosts room a entry step reply = []
+abbrev pub append_ghosts : ℕ → AppendState → NewRecord → Appending → ℕ → List GhostEvent
+append_ghosts room a made appending.Reserves reply = reserved_ghosts a made (reserve_next_ask room a.reserving reply)
+append_ghosts room a made (appending.Publishes addr) reply = publish_ghosts addr.0 (publish_next_ask a.publishing reply)
+append_ghosts room a made appending.Invalidates reply = invalidate_ghosts a.invalidating
+append_ghosts room a made step reply = []

@@ -17,7 +17,7 @@ use Rattle.law_world.specs.Below.fkv_pending.TheAttempting.{Attempting}
 use Rattle.law_world.specs.Below.fkv_pending.TheAttempting.TheVariants.{Tries}
 use Rattle.law_world.specs.Below.fkv_pending.PendingRequest.{PendingRequest}
 use Rattle.law_world.specs.Below.fkv_pending.Attempting.{AttemptState}
-use Rattle.law_refine.specs.Events.Appends.{entry_made}
+use Rattle.law_refine.specs.Events.Appends.{NewRecord, new_record}
 use Rattle.law_local.specs.Tries.TryRows.{cell_of}
 
 -- an address that is taken for a record, and the entry of the history that its publishing makes
@@ -26,23 +26,23 @@ pub record Reservation : Type 0 where
   pub entry : HistoryEntry
   pub cell : Cell
 
-abbrev pub reservation : AppendState → HistoryEntry → ℕ → Reservation
-reservation a entry addr = record { addr = addr; entry = entry; cell = cell_of a.its_words }
+abbrev pub reservation : AppendState → NewRecord → ℕ → Reservation
+reservation a made addr = record { addr = addr; entry = made.entry; cell = cell_of made.version a.its_words }
 
--- by how far its append has come, for this entry
-abbrev pub invalidate_reserves : AppendState → HistoryEntry → Invalidating → Option Reservation
-invalidate_reserves a entry invalidating.AtRest = None
-invalidate_reserves a entry (invalidating.StoresHeader addr header) = Some (reservation a entry addr.0)
+-- by how far its append has come, for what it makes
+abbrev pub invalidate_reserves : AppendState → NewRecord → Invalidating → Option Reservation
+invalidate_reserves a made invalidating.AtRest = None
+invalidate_reserves a made (invalidating.StoresHeader addr header) = Some (reservation a made addr.0)
 
-abbrev pub append_reserves : AppendState → HistoryEntry → Appending → Option Reservation
-append_reserves a entry (appending.Fills addr) = Some (reservation a entry addr.0)
-append_reserves a entry (appending.Publishes addr) = Some (reservation a entry addr.0)
-append_reserves a entry appending.Invalidates = invalidate_reserves a entry a.invalidating
-append_reserves a entry step = None
+abbrev pub append_reserves : AppendState → NewRecord → Appending → Option Reservation
+append_reserves a made (appending.Fills addr) = Some (reservation a made addr.0)
+append_reserves a made (appending.Publishes addr) = Some (reservation a made addr.0)
+append_reserves a made appending.Invalidates = invalidate_reserves a made a.invalidating
+append_reserves a made step = None
 
 -- where its try appends
 abbrev pub try_reserves : ℕ → PendingRequest → TryState → Trying → Option Reservation
-try_reserves session pending t (Appends its) = append_reserves t.append (entry_made session pending its) t.append.step
+try_reserves session pending t (Appends its) = append_reserves t.append (new_record session pending its) t.append.step
 try_reserves session pending t step = None
 
 abbrev pub attempt_reserves : ℕ → AttemptState → Attempting → Option Reservation

@@ -19,7 +19,7 @@ use Rattle.law_world.specs.Below.fkv_ops.Trying.{TryState}
 use Rattle.law_world.specs.Below.fkv_ops.Values.{value_of}
 use Rattle.law_world.specs.Below.fkv_ops.Walking.{WalkState}
 use Rattle.law_world.specs.Below.fkv_pending.PendingRequest.{PendingRequest}
-use Rattle.law_refine.specs.Events.Appends.{entry_made, append_ghosts}
+use Rattle.law_refine.specs.Events.Appends.{entry_made, new_record, append_ghosts}
 
 -- the load that ends a search tells where the chain begins: at the entry's record, or nowhere
 abbrev pub found_ghosts : ℕ → Found → List GhostEvent
@@ -45,5 +45,5 @@ abbrev pub try_ghosts : Places → ℕ → ℕ → ℕ → PendingRequest → Tr
 try_ghosts p room session reader pending t Walks reply = search_ghosts p pending.request.op reader t.walk reply
 try_ghosts p room session reader pending t (SwapsValue addr) reply = Changes addr.0 (entry_made session pending (reply_from None t.request.op)) ∷ []
 try_ghosts p room session reader pending t (ChangesValue addr old) reply = if reply == old then Changes addr.0 (entry_made session pending (reply_from (value_of old) t.request.op)) ∷ [] else []
-try_ghosts p room session reader pending t (Appends its) reply = append_ghosts room t.append (entry_made session pending its) t.append.step reply
+try_ghosts p room session reader pending t (Appends its) reply = append_ghosts room t.append (new_record session pending its) t.append.step reply
 try_ghosts p room session reader pending t step reply = []

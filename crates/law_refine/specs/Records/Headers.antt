@@ -1,5 +1,5 @@
 -- What the word of a record's header says once the record is decided: where the record leads, the mark of its version, and whether it was given up.
-use Rattle.std.specs.Prelude.{◌≡◌, ℕ, ◌^◌, ◌<◌, ◌≤◌, Bool, true, false}
+use Rattle.std.specs.Prelude.{◌≡◌, ℕ, ◌<◌, ◌≤◌, Bool, true, false}
 use Rattle.fkv_marks.specs.Marks.{mark}
 use Rattle.fkv_words.specs.declared.headers.Header.{Header}
 use Rattle.fkv_words.specs.Layout.{header_word}
@@ -14,8 +14,6 @@ pub record IsHeaderOf (cell : Cell) (invalid : Bool) (word : ℕ) : Type 0 where
   pub spells : (let it = header in word ≡ header_word it)
   pub leads : (let it = header in it.previous.0 ≡ cell.previous)
   pub its_mark : (let it = header in it.version.0 ≡ mark cell.version)
-  -- as yet a version takes no more bits than its mark
-  pub fits : cell.version < 2 ^ 13
   pub bit : (let it = header in it.invalid ≡ invalid)
 
 -- a record that was given up says so, and leads below itself

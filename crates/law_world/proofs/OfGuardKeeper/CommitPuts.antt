@@ -1,7 +1,6 @@
 -- Where a part of a commit gives an action to a slot, this is empty: the epoch was raised for it.
 use Rattle.std.proofs.Common.{◌≡◌, ℕ, ◌∙◌, inl, inr, refl, ap, subst, false, List, [], ◌∷◌, ◌++◌, max}
 use Rattle.std.specs.Prelude.{not, Option, Some, slice_get, length, nat_lt, nat_le, ◌==◌, ◌+◌}
-use Rattle.fkv_base.specs.Limits.{last_version}
 use Rattle.fkv_base.specs.declared.phases.Phase.TheVariants.{Rest, InProgress, WaitPending}
 use Rattle.fkv_base.specs.declared.numbers.Addr.{Addr}
 use Rattle.fkv_base.specs.declared.numbers.Version.{Version}
@@ -38,6 +37,7 @@ use Rattle.fkv_commit.specs.Entering.{EnterState, enter_ask, enter_next, enterin
 use Rattle.fkv_commit.specs.Seeking as seeking
 use Rattle.fkv_commit.specs.Seeking.{SeekState, seek_ask, seek_next, seeking_ask, seeking_next, points_from, with_point, slot_led, cut_met, other_met}
 use Rattle.fkv_commit.specs.Starting as starting
+use Rattle.fkv_base.specs.Limits.{last_of}
 use Rattle.fkv_commit.specs.Starting.{StartState, start_ask, start_next, starting_ask, starting_next, phase_found, is_lost_full}
 use Rattle.fkv_flush.specs.GuardLevels.{levels_of}
 use Rattle.fkv_flush.specs.GuardWorld.{Actor, GuardWorld}
@@ -73,9 +73,9 @@ on_off d its k = by_held (λ (e : DeferState). is_of_slot (defer_ask (defer_on e
 -- a commit's start
 phase_off : (s : StartState) (said : PhaseSaid) → is_of_slot (start_ask (phase_found s said)) ≡ false
 unfolding starting_ask deferring_ask raise_ask passed
-phase_off s (Says Rest number) = elim (truth (nat_le last_version number.0)) [
+phase_off s (Says Rest number) = elim (truth (nat_le (last_of s.asked.class) number.0)) [
   | inl e ↦ rw e refl
-  | inr e ↦ elim (truth (is_lost_full s.kind s.lost)) [ inl f ↦ rw (e, f) refl | inr f ↦ rw (e, f) refl ]
+  | inr e ↦ elim (truth (is_lost_full s.asked number.0)) [ inl f ↦ rw (e, f) refl | inr f ↦ rw (e, f) refl ]
 ]
 phase_off s said = refl
 

@@ -2,7 +2,6 @@
 use Rattle.std.proofs.Common.{◌≡◌, ℕ, List, [], ◌∷◌, inl, inr, refl, ap, sym, subst, ◌∙◌, true, false}
 use Rattle.std.specs.Prelude.{Option, Some, None, slice_get, slice_set, nat_le}
 use Rattle.std.proofs.lemmas.List.{set-get_or}
-use Rattle.fkv_base.specs.Limits.{last_version}
 use Rattle.fkv_base.specs.declared.faults.Fault.{Fault}
 use Rattle.fkv_base.specs.declared.faults.Fault.TheVariants as fault
 use Rattle.fkv_base.specs.declared.numbers.Addr.{Addr}
@@ -30,6 +29,7 @@ use Rattle.fkv_commit.specs.declared.starting.StartAnswer.TheVariants as answer
 use Rattle.fkv_commit.specs.declared.starting.Starting.{Starting}
 use Rattle.fkv_commit.specs.declared.starting.Starting.TheVariants as start
 use Rattle.fkv_commit.specs.Deferring.{DeferState, action_of, armed_epoch, defer_begun, defer_ask, defer_next, deferring_ask, deferring_next, deferring_on, raise_ledto, arm_ledto}
+use Rattle.fkv_base.specs.Limits.{last_of}
 use Rattle.fkv_commit.specs.Starting.{StartState, start_ask, start_next, starting_ask, starting_next, phase_found, refused, seek_led, defer_led, is_lost_full}
 use Rattle.fkv_flush.specs.GuardLevels.{levels_of}
 use Rattle.fkv_flush.specs.GuardSeen.{LastSeen}
@@ -67,9 +67,9 @@ refuses n a x seen s why got fits =
 phase_starts : (n : GuardNow) (a : ℕ) (x : Actor) (seen : LastSeen) (s : StartState) (said : PhaseSaid) → slice_get n.actors a ≡ Some x → Fits (likeness seen None None) x
     → StartLed n a (start_begins a (phase_found s said).step) seen (phase_found s said) n.words
 unfolding starting_ask deferring_ask raise_ask passed
-phase_starts n a x seen s (Says Rest number) got fits = elim (truth (nat_le last_version number.0)) [
+phase_starts n a x seen s (Says Rest number) got fits = elim (truth (nat_le (last_of s.asked.class) number.0)) [
   | inl e ↦ rw e (refuses n a x seen s fault.VersionsSpent got fits)
-  | inr e ↦ elim (truth (is_lost_full s.kind s.lost)) [
+  | inr e ↦ elim (truth (is_lost_full s.asked number.0)) [
     | inl f ↦ rw (e, f) (refuses n a x seen s fault.LostFull got fits)
     | inr f ↦ rw (e, f) (slotless n a (Begins a (ToDo ToRaise) ∷ []) seen (record s { defer = defer_begun s.defer; step = start.Seeks number }) n.words refl (record {
       follows = record {

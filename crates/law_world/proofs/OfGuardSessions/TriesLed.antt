@@ -6,6 +6,8 @@ use Rattle.fkv_base.specs.declared.numbers.Version.{Version}
 use Rattle.fkv_map.specs.declared.operations.Reply.{Reply}
 use Rattle.fkv_map.specs.Map.{absent_word}
 use Rattle.fkv_map.specs.Keys.{key_of, reply_from}
+use Rattle.fkv_words.specs.declared.phase_words.PhaseSaid.{PhaseSaid}
+use Rattle.fkv_words.specs.PhaseWords.{phase_said}
 use Rattle.fkv_plane.specs.declared.asks.Ask.{Ask}
 use Rattle.fkv_plane.specs.declared.asks.Ask.TheVariants.{Done}
 use Rattle.fkv_plane.specs.declared.places.Places.{Places}
@@ -30,14 +32,14 @@ use Rattle.fkv_ops.specs.declared.requests.Seen.{Seen}
 use Rattle.fkv_ops.specs.declared.trying.OldValue.{OldValue}
 use Rattle.fkv_ops.specs.declared.trying.OldValue.TheVariants.{InMemory, Known}
 use Rattle.fkv_ops.specs.declared.trying.Trying.{Trying}
-use Rattle.fkv_ops.specs.declared.trying.Trying.TheVariants.{Ended, TakesShared, Walks, LoadsSafe, SwapsValue, LoadsCurrent, ChangesValue, LoadsAnswer, TakesExclusive, LoadsOld, Appends, DropsExclusive, DropsShared}
+use Rattle.fkv_ops.specs.declared.trying.Trying.TheVariants.{Ended, TakesShared, LoadsPhase, Walks, LoadsSafe, SwapsValue, LoadsCurrent, ChangesValue, LoadsAnswer, TakesExclusive, LoadsOld, Appends, DropsExclusive, DropsShared}
 use Rattle.fkv_ops.specs.declared.walking.WalkAnswer.{WalkAnswer}
 use Rattle.fkv_ops.specs.declared.walking.WalkAnswer.TheVariants as walk
 use Rattle.fkv_ops.specs.Values.{value_of}
 use Rattle.fkv_ops.specs.Requests.{is_read, is_blind}
 use Rattle.fkv_ops.specs.Walking.{walk_ask, walk_next, walk_on}
 use Rattle.fkv_ops.specs.Appending.{AppendState, append_ask}
-use Rattle.fkv_ops.specs.Trying.{TryState, with_latch, is_wait, ended_without, ends, takes_effect, full_at, walks, wants_shared, try_begun, shared_ledto, must_shift, wants_exclusive, appends, copies_from, copies, awaits, held_used, met_nowhere, met_disk, changes, is_own_version, region_met, met_record, walked, has_walked, walk_ledto, current_ledto, told_value, answer_ledto, exclusive_ledto, old_ledto, append_ledto, exclusive_dropped, shared_dropped, latch_moved, walk_moved, trying_next, new_try}
+use Rattle.fkv_ops.specs.Trying.{TryState, with_latch, is_wait, ended_without, ends, takes_effect, full_at, walks, wants_shared, try_begun, shared_ledto, must_shift, wants_exclusive, appends, copies_from, copies, awaits, held_used, met_nowhere, met_disk, changes, is_own_version, region_met, met_record, walked, has_walked, walk_ledto, current_ledto, told_value, answer_ledto, exclusive_ledto, old_ledto, append_ledto, exclusive_dropped, shared_dropped, latch_moved, walk_moved, trying_next, new_try, is_next_marked, is_still_in, phase_loaded, is_surely_own}
 use Rattle.fkv_ops.proofs.Shown.{is_append_end, AppendRestsOrAsks, append_done}
 use Rattle.fkv_index.specs.Slots.{home_of}
 use Rattle.fkv_flush.specs.GuardSeen.{LastSeen}
@@ -139,9 +141,13 @@ old_led p seen t (Done (walk.Value value)) at = appends_led seen t value
 old_led p seen t (Done its) at = ends_led p seen t _
 old_led p seen t ask at = rw at (Keeps refl refl)
 
+phase_led : (p : Places) (seen : LastSeen) (t : TryState) (said : PhaseSaid) → Free seen (phase_loaded p t said)
+unfolding phase_loaded
+phase_led p seen t said = either_led (is_still_in said t.request.version) seen (walks p t) (ends p t answer.Shift) (Keeps refl refl) (ends_led p seen t answer.Shift)
+
 shared_led : (p : Places) (seen : LastSeen) (t : TryState) (ask : Ask LatchAnswer) → t.step ≡ TakesShared → Free seen (shared_ledto p t ask)
 unfolding shared_ledto
-shared_led p seen t (Done Taken) at = Keeps refl refl
+shared_led p seen t (Done Taken) at = either_led (is_next_marked t.request.version) seen (record t { has_shared = true; step = LoadsPhase }) (walks p (record t { has_shared = true })) (Keeps refl refl) (Keeps refl refl)
 shared_led p seen t (Done its) at = ends_led p seen t answer.Shift
 shared_led p seen t ask at = rw at (Keeps refl refl)
 
@@ -193,9 +199,10 @@ pub try_free : (p : Places) (room : ℕ) (seen : LastSeen) (t : TryState) (step 
 unfolding trying_next
 try_free p room seen t (Ended its) reply at other = rw at (Keeps refl refl)
 try_free p room seen t TakesShared reply at other = shared_led p seen (latch_moved t reply) (latch_next_ask t.latching reply) at
+try_free p room seen t LoadsPhase reply at other = phase_led p seen t (phase_said reply)
 try_free p room seen t Walks reply at other = walk_led p seen (walk_moved p t reply) (walk_ask p (walk_next p t.walk reply)) at
 try_free p room seen t (LoadsSafe addr version) reply at other =
-    either_led (nat_le reply addr.0) seen (ends p t (answer.Wait reason.Fuzzy)) (copies p t InMemory (is_own_version t version)) (ends_led p seen t _) (copies_led p seen t InMemory (is_own_version t version))
+    either_led (nat_le reply addr.0) seen (ends p t (answer.Wait reason.Fuzzy)) (copies p t InMemory (is_surely_own t version)) (ends_led p seen t _) (copies_led p seen t InMemory (is_surely_own t version))
 try_free p room seen t (SwapsValue addr) reply at other = ends_led p seen (record t { effect = Some (reply_from None t.request.op) }) _
 try_free p room seen t (LoadsCurrent addr) reply at other = current_led p seen (walk_moved p t reply) addr (walk_ask p (walk_next p t.walk reply)) at
 try_free p room seen t (ChangesValue addr old) reply at other =

@@ -6,6 +6,8 @@ use Rattle.fkv_base.specs.declared.numbers.Version.{Version}
 use Rattle.fkv_map.specs.declared.operations.Reply.{Reply}
 use Rattle.fkv_map.specs.Map.{absent_word}
 use Rattle.fkv_map.specs.Keys.{key_of, reply_from}
+use Rattle.fkv_words.specs.declared.phase_words.PhaseSaid.{PhaseSaid}
+use Rattle.fkv_words.specs.PhaseWords.{phase_said}
 use Rattle.fkv_plane.specs.declared.asks.Ask.{Ask}
 use Rattle.fkv_plane.specs.declared.asks.Ask.TheVariants.{Done}
 use Rattle.fkv_plane.specs.declared.places.Places.{Places}
@@ -34,14 +36,14 @@ use Rattle.fkv_ops.specs.declared.requests.Seen.{Seen}
 use Rattle.fkv_ops.specs.declared.trying.OldValue.{OldValue}
 use Rattle.fkv_ops.specs.declared.trying.OldValue.TheVariants.{InMemory, Known}
 use Rattle.fkv_ops.specs.declared.trying.Trying.{Trying}
-use Rattle.fkv_ops.specs.declared.trying.Trying.TheVariants.{Ended, TakesShared, Walks, LoadsSafe, SwapsValue, LoadsCurrent, ChangesValue, LoadsAnswer, TakesExclusive, LoadsOld, Appends, DropsExclusive, DropsShared}
+use Rattle.fkv_ops.specs.declared.trying.Trying.TheVariants.{Ended, TakesShared, LoadsPhase, Walks, LoadsSafe, SwapsValue, LoadsCurrent, ChangesValue, LoadsAnswer, TakesExclusive, LoadsOld, Appends, DropsExclusive, DropsShared}
 use Rattle.fkv_ops.specs.declared.walking.WalkAnswer.{WalkAnswer}
 use Rattle.fkv_ops.specs.declared.walking.WalkAnswer.TheVariants as walk
 use Rattle.fkv_ops.specs.Values.{value_of}
 use Rattle.fkv_ops.specs.Requests.{purpose_of, is_read, is_blind}
 use Rattle.fkv_ops.specs.Walking.{WalkState, walk_ask, walk_next, walk_on}
 use Rattle.fkv_ops.specs.Appending.{append_ask, append_next}
-use Rattle.fkv_ops.specs.Trying.{TryState, trying_ask, with_latch, is_wait, ended_without, ends, takes_effect, walks, wants_shared, try_begun, shared_ledto, must_shift, wants_exclusive, slot_of, words_of, appends, copies_from, copies, awaits, held_used, met_nowhere, met_disk, changes, is_own_version, region_met, met_record, walked, has_walked, walk_ledto, safe_loaded, current_ledto, value_changed, told_value, answer_ledto, exclusive_ledto, old_ledto, append_ledto, exclusive_dropped, shared_dropped, latch_moved, trying_next, try_next, new_try}
+use Rattle.fkv_ops.specs.Trying.{TryState, trying_ask, with_latch, is_wait, ended_without, ends, takes_effect, walks, wants_shared, try_begun, shared_ledto, must_shift, wants_exclusive, slot_of, words_of, appends, copies_from, copies, awaits, held_used, met_nowhere, met_disk, changes, is_own_version, region_met, met_record, walked, has_walked, walk_ledto, safe_loaded, current_ledto, value_changed, told_value, answer_ledto, exclusive_ledto, old_ledto, append_ledto, exclusive_dropped, shared_dropped, latch_moved, trying_next, try_next, new_try, is_next_marked, is_still_in, phase_loaded, is_surely_own}
 use Rattle.law_world.specs.GuardSessions.Steps.{IsOuter}
 use Rattle.law_world.specs.GuardSessions.Tries.{TryWritesOuter}
 use Rattle.law_world.proofs.OfGuardSessions.OuterAsks.{passed_is_outer, IsLatchOuter, latch_outer, latch_next_outer, latch_first_outer}
@@ -57,6 +59,7 @@ pub record HasWalked (p : Places) (w : WalkState) : Type 0 where
 abbrev pub TryRow : Places → TryState → Trying → Type 0
 TryRow p t (Ended its) = ⊤
 TryRow p t TakesShared = IsLatchOuter p t.latching
+TryRow p t LoadsPhase = ⊤
 TryRow p t Walks = IsWalkOuter p (is_read t.request.op) t.walk
 TryRow p t (LoadsSafe addr version) = HasWalked p t.walk
 TryRow p t (SwapsValue addr) = ⊤
@@ -82,6 +85,7 @@ pub try_owes : {A B : Type 0} (p : Places) (t : TryState) (step : Trying) (x : A
 unfolding trying_ask passed
 try_owes p t (Ended its) x y row = tt
 try_owes p t TakesShared x y row = twice_outer p _ x y (passed_is_outer p _ answer.Shift (latch_outer p t.latching row))
+try_owes p t LoadsPhase x y row = tt
 try_owes p t Walks x y row = twice_outer p _ x y (passed_is_outer p _ answer.Shift (walk_outer p (is_read t.request.op) t.walk row))
 try_owes p t (LoadsSafe addr version) x y row = tt
 try_owes p t (SwapsValue addr) x y row = tt
@@ -200,7 +204,7 @@ walk_ledto_outer p t ask at low row tells = stays_outer p t Walks at low row
 
 safe_outer : (p : Places) (t : TryState) (addr : Addr) (version : Version) (safe : ℕ) → t.home.bucket < p.buckets → HasWalked p t.walk → IsTryOuter p (safe_loaded p t addr version safe)
 safe_outer p t addr version safe low its =
-    either_outer (nat_le safe addr.0) p (ends p t (answer.Wait reason.Fuzzy)) (copies p t InMemory (is_own_version t version)) (ends_outer p t _ low) (copies_outer p t InMemory (is_own_version t version) low its)
+    either_outer (nat_le safe addr.0) p (ends p t (answer.Wait reason.Fuzzy)) (copies p t InMemory (is_surely_own t version)) (ends_outer p t _ low) (copies_outer p t InMemory (is_surely_own t version) low its)
 
 current_outer : (p : Places) (t : TryState) (addr : Addr) (ask : Ask WalkAnswer) → t.step ≡ LoadsCurrent addr → t.home.bucket < p.buckets → IsWalkOuter p false t.walk → IsTryOuter p (current_ledto p t addr ask)
 unfolding current_ledto
@@ -219,9 +223,14 @@ answer_outer p t (Done (walk.Value value)) at low row = ends_outer p t (told_val
 answer_outer p t (Done its) at low row = ends_outer p t _ low
 answer_outer p t ask at low row = stays_outer p t LoadsAnswer at low row
 
+phase_outer : (p : Places) (t : TryState) (said : PhaseSaid) → t.home.bucket < p.buckets → IsTryOuter p (phase_loaded p t said)
+unfolding phase_loaded
+phase_outer p t said low = either_outer (is_still_in said t.request.version) p (walks p t) (ends p t answer.Shift) (walks_outer p t low) (ends_outer p t answer.Shift low)
+
 shared_outer : (p : Places) (t : TryState) (ask : Ask LatchAnswer) → t.step ≡ TakesShared → t.home.bucket < p.buckets → IsLatchOuter p t.latching → IsTryOuter p (shared_ledto p t ask)
 unfolding shared_ledto
-shared_outer p t (Done Taken) at low row = walks_outer p (record t { has_shared = true }) low
+shared_outer p t (Done Taken) at low row =
+    either_outer (is_next_marked t.request.version) p (record t { has_shared = true; step = LoadsPhase }) (walks p (record t { has_shared = true })) (record { low = low; row = tt }) (walks_outer p (record t { has_shared = true }) low)
 shared_outer p t (Done its) at low row = ends_outer p t answer.Shift low
 shared_outer p t ask at low row = stays_outer p t TakesShared at low row
 
@@ -259,6 +268,7 @@ next_outer : (p : Places) (room : ℕ) (t : TryState) (step : Trying) (reply : �
 unfolding trying_next
 next_outer p room t (Ended its) reply at low row = stays_outer p t (Ended its) at low tt
 next_outer p room t TakesShared reply at low row = shared_outer p (latch_moved t reply) (latch_next_ask t.latching reply) at low (latch_next_outer p t.latching reply row)
+next_outer p room t LoadsPhase reply at low row = phase_outer p t (phase_said reply) low
 next_outer p room t Walks reply at low row =
     let after = walk_next_outer p (is_read t.request.op) t.walk reply row in
     walk_ledto_outer p (record t { walk = walk_next p t.walk reply }) (walk_ask p (walk_next p t.walk reply)) at low after (walk_tells p (is_read t.request.op) (walk_next p t.walk reply) after)
@@ -279,6 +289,7 @@ next_outer p room t (DropsShared its) reply at low row = unshared_outer p (latch
 effect_outer : (p : Places) (t : TryState) (step : Trying) → TryRow p t step → TryRow p (record t { effect = None }) step
 effect_outer p t (Ended its) row = tt
 effect_outer p t TakesShared row = row
+effect_outer p t LoadsPhase row = tt
 effect_outer p t Walks row = row
 effect_outer p t (LoadsSafe addr version) row = row
 effect_outer p t (SwapsValue addr) row = tt

@@ -7,6 +7,8 @@ use Rattle.fkv_base.specs.declared.numbers.Version.{Version}
 use Rattle.fkv_map.specs.declared.operations.Reply.{Reply}
 use Rattle.fkv_map.specs.Map.{absent_word}
 use Rattle.fkv_map.specs.Keys.{key_of, reply_from}
+use Rattle.fkv_words.specs.declared.phase_words.PhaseSaid.{PhaseSaid}
+use Rattle.fkv_words.specs.PhaseWords.{phase_said}
 use Rattle.fkv_plane.specs.declared.asks.Ask.{Ask}
 use Rattle.fkv_plane.specs.declared.asks.Ask.TheVariants.{Done}
 use Rattle.fkv_plane.specs.declared.places.Places.{Places}
@@ -29,14 +31,14 @@ use Rattle.fkv_ops.specs.declared.requests.Seen.{Seen}
 use Rattle.fkv_ops.specs.declared.trying.OldValue.{OldValue}
 use Rattle.fkv_ops.specs.declared.trying.OldValue.TheVariants.{InMemory, Known}
 use Rattle.fkv_ops.specs.declared.trying.Trying.{Trying}
-use Rattle.fkv_ops.specs.declared.trying.Trying.TheVariants.{Ended, TakesShared, Walks, LoadsSafe, SwapsValue, LoadsCurrent, ChangesValue, LoadsAnswer, TakesExclusive, LoadsOld, Appends, DropsExclusive, DropsShared}
+use Rattle.fkv_ops.specs.declared.trying.Trying.TheVariants.{Ended, TakesShared, LoadsPhase, Walks, LoadsSafe, SwapsValue, LoadsCurrent, ChangesValue, LoadsAnswer, TakesExclusive, LoadsOld, Appends, DropsExclusive, DropsShared}
 use Rattle.fkv_ops.specs.declared.walking.WalkAnswer.{WalkAnswer}
 use Rattle.fkv_ops.specs.declared.walking.WalkAnswer.TheVariants as walk
 use Rattle.fkv_ops.specs.Values.{value_of}
 use Rattle.fkv_ops.specs.Requests.{is_read, is_blind}
 use Rattle.fkv_ops.specs.Walking.{walk_ask, walk_next, walk_on}
 use Rattle.fkv_ops.specs.Appending.{append_ask, append_next}
-use Rattle.fkv_ops.specs.Trying.{TryState, with_latch, is_wait, ended_without, ends, takes_effect, walks, wants_shared, try_begun, shared_ledto, must_shift, wants_exclusive, appends, copies_from, copies, awaits, held_used, met_nowhere, met_disk, changes, is_own_version, region_met, met_record, walked, has_walked, walk_ledto, safe_loaded, current_ledto, value_changed, told_value, answer_ledto, exclusive_ledto, old_ledto, append_ledto, exclusive_dropped, shared_dropped, latch_moved, trying_next, try_next, new_try}
+use Rattle.fkv_ops.specs.Trying.{TryState, with_latch, is_wait, ended_without, ends, takes_effect, walks, wants_shared, try_begun, shared_ledto, must_shift, wants_exclusive, appends, copies_from, copies, awaits, held_used, met_nowhere, met_disk, changes, is_own_version, region_met, met_record, walked, has_walked, walk_ledto, safe_loaded, current_ledto, value_changed, told_value, answer_ledto, exclusive_ledto, old_ledto, append_ledto, exclusive_dropped, shared_dropped, latch_moved, trying_next, try_next, new_try, is_next_marked, is_still_in, phase_loaded, is_surely_own}
 use Rattle.law_world.proofs.OfGuardSessions.WalksSeen.{IsWalkAbove, TellsAbove, AsksAbove, walk_tells_above, walk_next_above}
 
 -- by its step: its walk goes by the head that was seen, and what it has come to change lies at or above the read-only offset
@@ -138,7 +140,7 @@ walk_ledto_above p seen t (Done its) at same above tells =
 walk_ledto_above p seen t ask at same above tells = stays_above seen t Walks at same above
 
 safe_above : (p : Places) (seen : Seen) (t : TryState) (addr : Addr) (version : Version) (safe : ℕ) → t.seen ≡ seen → IsTryAbove seen (safe_loaded p t addr version safe)
-safe_above p seen t addr version safe same = either_above (nat_le safe addr.0) seen (ends p t (answer.Wait reason.Fuzzy)) (copies p t InMemory (is_own_version t version)) (ends_above p seen t _ same) (copies_above p seen t InMemory (is_own_version t version) same)
+safe_above p seen t addr version safe same = either_above (nat_le safe addr.0) seen (ends p t (answer.Wait reason.Fuzzy)) (copies p t InMemory (is_surely_own t version)) (ends_above p seen t _ same) (copies_above p seen t InMemory (is_surely_own t version) same)
 
 current_above : (p : Places) (seen : Seen) (t : TryState) (addr : Addr) (ask : Ask WalkAnswer) → t.step ≡ LoadsCurrent addr → t.seen ≡ seen → t.seen.offsets.read_only.0 ≤ addr.0 → IsTryAbove seen (current_ledto p t addr ask)
 unfolding current_ledto
@@ -157,9 +159,14 @@ answer_above p seen t (Done (walk.Value value)) at same = ends_above p seen t (t
 answer_above p seen t (Done its) at same = ends_above p seen t _ same
 answer_above p seen t ask at same = stays_above seen t LoadsAnswer at same tt
 
+phase_above : (p : Places) (seen : Seen) (t : TryState) (said : PhaseSaid) → t.seen ≡ seen → IsTryAbove seen (phase_loaded p t said)
+unfolding phase_loaded
+phase_above p seen t said same = either_above (is_still_in said t.request.version) seen (walks p t) (ends p t answer.Shift) (walks_above p seen t same) (ends_above p seen t answer.Shift same)
+
 shared_above : (p : Places) (seen : Seen) (t : TryState) (ask : Ask LatchAnswer) → t.step ≡ TakesShared → t.seen ≡ seen → IsTryAbove seen (shared_ledto p t ask)
 unfolding shared_ledto
-shared_above p seen t (Done Taken) at same = walks_above p seen (record t { has_shared = true }) same
+shared_above p seen t (Done Taken) at same =
+    either_above (is_next_marked t.request.version) seen (record t { has_shared = true; step = LoadsPhase }) (walks p (record t { has_shared = true })) (record { same = same; above = tt }) (walks_above p seen (record t { has_shared = true }) same)
 shared_above p seen t (Done its) at same = ends_above p seen t answer.Shift same
 shared_above p seen t ask at same = stays_above seen t TakesShared at same tt
 
@@ -197,6 +204,7 @@ next_above : (p : Places) (room : ℕ) (seen : Seen) (t : TryState) (step : Tryi
 unfolding trying_next
 next_above p room seen t (Ended its) reply at same above = stays_above seen t (Ended its) at same tt
 next_above p room seen t TakesShared reply at same above = shared_above p seen (latch_moved t reply) (latch_next_ask t.latching reply) at same
+next_above p room seen t LoadsPhase reply at same above = phase_above p seen t (phase_said reply) same
 next_above p room seen t Walks reply at same above =
     let after = walk_next_above p t.seen.offsets.head.0 t.walk reply above in
     walk_ledto_above p seen (record t { walk = walk_next p t.walk reply }) (walk_ask p (walk_next p t.walk reply)) at same after (walk_tells_above p t.seen.offsets.head.0 (walk_next p t.walk reply) after)
@@ -219,6 +227,7 @@ effect_above t (LoadsCurrent addr) above = above
 effect_above t (ChangesValue addr old) above = above
 effect_above t (Ended its) above = tt
 effect_above t TakesShared above = tt
+effect_above t LoadsPhase above = tt
 effect_above t (LoadsSafe addr version) above = tt
 effect_above t LoadsAnswer above = tt
 effect_above t (TakesExclusive old) above = tt

@@ -61,7 +61,7 @@ use Rattle.fkv_latch.specs.Latching.{latch_ask}
 use Rattle.fkv_ops.specs.declared.appending.Appending.{Appending}
 use Rattle.fkv_ops.specs.declared.appending.Appending.TheVariants as appending
 use Rattle.fkv_ops.specs.declared.trying.Trying.{Trying}
-use Rattle.fkv_ops.specs.declared.trying.Trying.TheVariants.{Ended, TakesShared, Walks, LoadsSafe, SwapsValue, LoadsCurrent, ChangesValue, LoadsAnswer, TakesExclusive, LoadsOld, Appends, DropsExclusive, DropsShared}
+use Rattle.fkv_ops.specs.declared.trying.Trying.TheVariants.{Ended, TakesShared, LoadsPhase, Walks, LoadsSafe, SwapsValue, LoadsCurrent, ChangesValue, LoadsAnswer, TakesExclusive, LoadsOld, Appends, DropsExclusive, DropsShared}
 use Rattle.fkv_ops.specs.declared.walking.Walking.{Walking}
 use Rattle.fkv_ops.specs.declared.walking.Walking.TheVariants as walking
 use Rattle.fkv_ops.specs.Appending.{AppendState, appending_ask}
@@ -333,6 +333,7 @@ try_within : (p : Places) (t : TryState) (step : Trying) → TryRow p t step →
 unfolding trying_ask
 try_within p t (Ended its) row = tt
 try_within p t TakesShared row = passed_within p (latch_ask t.latching) _ (latch_within p t.latching row)
+try_within p t LoadsPhase row = omega arith
 try_within p t Walks row = passed_within p (walk_ask p t.walk) _ (walk_within p (is_read t.request.op) t.walk t.walk.step row)
 try_within p t (LoadsSafe addr version) row = omega arith
 try_within p t (SwapsValue addr) row = record_within p addr.0 rec.Value

@@ -115,6 +115,7 @@ try_off : (p : Places) (t : TryState) (step : Trying) → IsOffSlots (trying_ask
 unfolding trying_ask
 try_off p t (try.Ended its) = tt
 try_off p t try.TakesShared = passed_off _ _ (latch_off t.latching)
+try_off p t try.LoadsPhase = tt
 try_off p t try.Walks = passed_off _ _ (walk_off p t.walk t.walk.step)
 try_off p t (try.LoadsSafe addr version) = tt
 try_off p t (try.SwapsValue addr) = tt

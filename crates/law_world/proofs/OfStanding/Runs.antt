@@ -1,6 +1,6 @@
 -- One event after another: one commit stands at each moment.
 use Rattle.std.proofs.Common.{◌≡◌, ℕ, ◌^◌, List, [], ◌∷◌, ◌++◌, Bool, true, false, refl, sym, ◌∙◌, ap, subst}
-use Rattle.std.specs.Prelude.{if◌then◌else◌, length, Option}
+use Rattle.std.specs.Prelude.{if◌then◌else◌, Option}
 use Rattle.fkv_base.specs.declared.faults.Fault.TheVariants as fault
 use Rattle.fkv_base.specs.declared.shapes.Shape.{Shape}
 use Rattle.fkv_words.specs.PhaseWords.{phase_said}
@@ -25,7 +25,7 @@ use Rattle.fkv_keeper.specs.declared.answers.KeeperTold.{KeeperTold}
 use Rattle.fkv_keeper.specs.declared.answers.KeeperTold.TheVariants.{Turned, TurnRefused, CommitRefused}
 use Rattle.fkv_keeper.specs.declared.keepers.Keeping.{Keeping}
 use Rattle.fkv_keeper.specs.declared.keepers.Keeping.TheVariants.{Ended, Starts, Maintains, LoadsPhase, Enters, Copies, Seeks, Waits, Writes, Finishes}
-use Rattle.fkv_keeper.specs.Keeping.{KeeperState, ended, copy_driven, commit_asked, turn_asked, maintain_ledto, keeping_next, keeping_given, keeping_called, copy_told}
+use Rattle.fkv_keeper.specs.Keeping.{KeeperState, ended, copy_driven, commit_asked, turn_asked, maintain_ledto, keeping_next, keeping_given, keeping_called, copy_told, asked_for}
 use Rattle.fkv_keeper.specs.KeeperAsks.{keeping_calls}
 use Rattle.fkv_keeper.specs.KeeperLaws.{IsRefusal}
 use Rattle.fkv_keeper.specs.KeeperRun.{KeeperEvent, BeginsTurn, BeginsCommit, Replies, Gets, Calls, is_in_hand, begins, keeper_happens, keeper_run, Writing, writing_after, writing}
@@ -186,10 +186,10 @@ module _ (shape : Shape) (p : Places) (opened : List ℕ) (buckets : p.buckets �
       turn_on told false e b = goes_maintains shape p opened s (record s { maintain = maintain_begun s.maintain; is_drain_full = false; step = Maintains }) was its w calls (knows_at (Ended told) e).0 refl works is.commit is.copy (knows_at (Ended told) e).1
 
       commit_on : (kind : CommitKind) (told : KeeperTold) (broken : Bool) → s.step ≡ Ended told → s.is_broken ≡ broken
-          → GoesTo shape p opened was its w calls (if broken then ended s (CommitRefused fault.Broken) else record s { start = start_begun s.start kind (length s.lost); step = Starts })
+          → GoesTo shape p opened was its w calls (if broken then ended s (CommitRefused fault.Broken) else record s { start = start_begun s.start (asked_for s kind); step = Starts })
       commit_on kind told true e b = let clash : true ≡ false = sym b ∙ works in absurd (cc)
       commit_on kind told false e b =
-          goes_plain shape p opened s (record s { start = start_begun s.start kind (length s.lost); step = Starts }) was its w calls (Ended told) Starts (at (Ended told) e refl) (knows_at (Ended told) e).1 tt refl works refl is.commit is.copy
+          goes_plain shape p opened s (record s { start = start_begun s.start (asked_for s kind); step = Starts }) was its w calls (Ended told) Starts (at (Ended told) e refl) (knows_at (Ended told) e).1 tt refl works refl is.commit is.copy
 
       begins_turn_on : (step : Keeping) → s.step ≡ step → Shows step (begins s (is_in_hand step) (turn_asked s)) (writing_after step BeginsTurn (begins s (is_in_hand step) (turn_asked s)) w) calls
       begins_turn_on (Ended told) e = turn_on told s.is_broken e refl
@@ -228,7 +228,7 @@ module _ (shape : Shape) (p : Places) (opened : List ℕ) (buckets : p.buckets �
       refuses_turn true e = refuses (TurnRefused fault.Broken) tt refl
       refuses_turn false e = let clash : true ≡ false = sym broken ∙ e in absurd (cc)
 
-      refuses_commit : (kind : CommitKind) (b : Bool) → s.is_broken ≡ b → GoesTo shape p opened was its w calls (if b then ended s (CommitRefused fault.Broken) else record s { start = start_begun s.start kind (length s.lost); step = Starts })
+      refuses_commit : (kind : CommitKind) (b : Bool) → s.is_broken ≡ b → GoesTo shape p opened was its w calls (if b then ended s (CommitRefused fault.Broken) else record s { start = start_begun s.start (asked_for s kind); step = Starts })
       refuses_commit kind true e = refuses (CommitRefused fault.Broken) tt refl
       refuses_commit kind false e = let clash : true ≡ false = sym broken ∙ e in absurd (cc)
 

@@ -21,7 +21,7 @@ class CShape(Structure):
 
 
 class COpened(Structure):
-    _fields_ = [(it, c_uint64) for it in ("number", "damage", "damaged_at")]
+    _fields_ = [(it, c_uint64) for it in ("number", "damage", "damaged_at", "entries")]
 
 
 class CRenewed(Structure):
@@ -73,12 +73,13 @@ class CKeeping(Structure):
 
 
 STATS = ("commits", "commits_left", "commit_us", "commit_bytes", "in_hand_us", "late", "joined", "abandoned", "turns", "helped", "cold_reads",
-         "fetched", "file_bytes", "begin", "head", "flushed", "read_only", "tail", "overflow")
+         "fetched", "file_bytes", "begin", "head", "flushed", "read_only", "tail", "overflow", "entries")
 REASONS = 6
 
 
 class CStats(Structure):
-    _fields_ = [*((it, c_uint64) for it in STATS), ("stopped", c_int32), ("waited", c_uint64 * REASONS)]
+    _fields_ = [*((it, c_uint64) for it in STATS), ("stopped", c_int32), ("waited", c_uint64 * REASONS),
+                ("pending", c_uint64 * REASONS)]
 
 
 # What each call takes. It gives an int32_t, unless RESULTS says otherwise.

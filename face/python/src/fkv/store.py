@@ -82,8 +82,10 @@ class Stats:
     read_only: int
     tail: int
     overflow: int
+    entries: int
     stopped: Optional[Fault]  # why no commit is finished any more
-    waited: tuple[int, ...]  # calls that had to wait: updates by their first reason, reads at 0
+    waited: tuple[int, ...]  # requests that calls had to wait for: updates by their first reason, reads at 0
+    pending: tuple[int, ...]  # those of them that are pending just now
 
 
 def _progress(call: Optional[Callable[[Progress], None]]) -> Any:
@@ -255,7 +257,8 @@ class Store:
         its = native.CStats()
         with self._held() as at:
             check(lib.fkv_stats_of(at, its))
-        return Stats(*(getattr(its, name) for name in native.STATS), Fault(-its.stopped) if its.stopped else None, tuple(its.waited))
+        stopped = Fault(-its.stopped) if its.stopped else None
+        return Stats(*(getattr(its, name) for name in native.STATS), stopped, tuple(its.waited), tuple(its.pending))
 
     def pairs(self) -> Iterator[tuple[int, int]]:
         """The pairs of the last finished commit, each key once, in no order. They are read at once; sessions go on meanwhile."""

@@ -8,17 +8,18 @@ append-requires-clause-at g c =
     let k = g.L.Line.seat c.args.line.now in
     let its = c.requires.at.0 in
     let goes = c.requires.at.1 in
-    let at = c.requires.at.2 in
+    let addr = c.requires.at.2 in
+    let at = c.requires.at.3 in
     let so : c.is_blind-blind.result ≡ true = search rules in (
       its,
       goes,
-      disk_reserves its c.args.slot.place c.args.slot.entry at.0 (g.L.Line.stands c.args.line.now) at.3 at.1 at.2 (calm_in its k c.args.op c.args.going.now goes c.requires.calm) (updates_in its k c.args.op c.args.going.now _ goes c.requires.updates)
+      disk_reserves its c.args.slot.place c.args.slot.entry addr (g.L.Line.stands c.args.line.now) at.2 at.0 at.1 (calm_in its k c.args.op c.args.going.now goes c.requires.calm) (updates_in its k c.args.op c.args.going.now _ goes c.requires.updates)
           (blind_in its k c.args.op c.args.going.now _ goes (sym c.is_blind-blind.ensures ∙ so)) (goes.moves_on ∙ c.if-going.false),
     )
 
 pub returns-clause-done : goal.returns-clause-done
-returns-clause-done g c = λ its goes at.
+returns-clause-done g c = λ its goes addr at.
     let k = g.L.Line.seat c.args.line.now in
     let so : c.is_blind-blind.result ≡ true = search rules in
-    c.append.ensures.done its goes (disk_reserves its c.args.slot.place c.args.slot.entry at.0 (g.L.Line.stands c.args.line.now) at.3 at.1 at.2 (calm_in its k c.args.op c.args.going.now goes c.requires.calm) (updates_in its k c.args.op c.args.going.now _ goes c.requires.updates)
+    c.append.ensures.done its goes (disk_reserves its c.args.slot.place c.args.slot.entry addr (g.L.Line.stands c.args.line.now) at.2 at.0 at.1 (calm_in its k c.args.op c.args.going.now goes c.requires.calm) (updates_in its k c.args.op c.args.going.now _ goes c.requires.updates)
     (blind_in its k c.args.op c.args.going.now _ goes (sym c.is_blind-blind.ensures ∙ so)) (goes.moves_on ∙ c.if-going.false))

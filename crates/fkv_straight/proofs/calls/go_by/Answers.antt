@@ -4,35 +4,15 @@ use Rattle.fkv_ops.specs.Requests.{is_read}
 use Rattle.fkv_session.specs.Alike.{lasting}
 use Rattle.fkv_session.specs.Sessions.{Sitter}
 use Rattle.fkv_straight.proofs.MayGoes.{begins_alike, goes_alike}
-use Rattle.fkv_straight.proofs.Endings.{none_so, read_ended, update_asks, update_caught_up, waiting_ended, waiting_goes, waiting_seat}
+use Rattle.fkv_straight.proofs.Endings.{update_asks, update_caught_up, waiting_ended, waiting_goes, waiting_seat}
 use Rattle.fkv_straight.proofs.Goings.{goes_by_still}
 use Rattle.fkv_straight.proofs.calls.go_by.Goals as goal
-
-pub read-requires-clause-goes : goal.read-requires-clause-goes
-read-requires-clause-goes g c = goes_alike c.args.machine.now.seat (g.L.Line.seat c.args.line.now) c.args.machine.now.state (g.L.Line.stands c.args.line.now) c.args.op c.args.going.now c.requires.may c.requires.seat c.requires.alike
-
-pub read-requires-clause-begins : goal.read-requires-clause-begins
-read-requires-clause-begins g c = begins_alike c.args.machine.now.seat (g.L.Line.seat c.args.line.now) c.args.machine.now.state (g.L.Line.stands c.args.line.now) c.args.op c.args.going.now c.requires.may c.requires.seat c.requires.alike
 
 pub update_by_phase-straight-requires-clause-goes : goal.update_by_phase-straight-requires-clause-goes
 update_by_phase-straight-requires-clause-goes g c = goes_alike c.args.machine.now.seat (g.L.Line.seat c.args.line.now) c.args.machine.now.state (g.L.Line.stands c.args.line.now) c.args.op c.args.going.now c.requires.may c.requires.seat c.requires.alike
 
 pub update_by_phase-straight-requires-clause-begins : goal.update_by_phase-straight-requires-clause-begins
 update_by_phase-straight-requires-clause-begins g c = begins_alike c.args.machine.now.seat (g.L.Line.seat c.args.line.now) c.args.machine.now.state (g.L.Line.stands c.args.line.now) c.args.op c.args.going.now c.requires.may c.requires.seat c.requires.alike
-
-pub returns-in-Read : goal.returns-in-Read
-returns-in-Read g c =
-    let k = g.L.Line.seat c.args.line.now in
-    let m = c.args.machine.now in
-    let l = lasting (g.L.Line.stands c.args.line.now) in
-    record {
-      seat = c.read.ensures.seat;
-      led = c.read.ensures.led;
-      machine = refl;
-      goes_by = λ its by. by;
-      ended = read_ended k m.state (g.L.Line.stands c.read.new.line) l c.read.result c.requires.alike c.read.ensures.ended;
-      stopped = none_so (m ≡ m) c.read.result refl;
-    }
 
 pub returns-in-Done : goal.returns-in-Done
 returns-in-Done g c =

@@ -8,7 +8,7 @@ use Rattle.fkv_straight.specs.Met.{IsCopied}
 use Rattle.fkv_straight.proofs.Changes.{calm_stays, met_by}
 use Rattle.fkv_straight.proofs.Copies.{met_safe, safe_asks, safe_comes, still_copied, own_copied, is_low, is_own}
 use Rattle.fkv_straight.proofs.Goings.{calm_in, goes_at, leads_on, place_asks, updates_in}
-use Rattle.fkv_straight.proofs.copying.copy_below.Goals.{else-going-via-then-going+else-its-going, else-going-via-else-going}
+use Rattle.fkv_straight.proofs.copying.copy_below.Goals.{else-going-via-then-going+else-not-own, else-going-via-else-going}
 use Rattle.fkv_straight.proofs.copying.copy_below.Goals as goal
 
 pub load-safe-requires-clause-asked : goal.load-safe-requires-clause-asked
@@ -33,7 +33,7 @@ copy-requires-clause-at g c =
     let has = safe_comes its c.args.its c.load-safe.result s u at (leads_on its k c.args.op c.args.going.now k s u c.load-safe.result goes refl c.load-safe.ensures.next) in
     let below : nat_le c.load-safe.result c.args.its.addr ≡ false = (let h = c.if-safe-its.false in grind (arith, nat_tests, h)) in
     let copied : IsCopied its c.args.its u = elim c.else-going.branch [
-      | else-going-via-then-going+else-its-going w ↦ own_copied its c.args.its c.load-safe.result u has below (is_own its k c.args.op c.args.going.now c.args.its goes w.if-its-going.false)
+      | else-going-via-then-going+else-not-own w ↦ own_copied its c.args.its c.load-safe.result u has below (is_own its k c.args.op c.args.going.now c.args.its goes (sym c.is_surely_own-own.ensures ∙ w.if-not-own.false))
       | else-going-via-else-going w ↦ still_copied its c.args.its c.load-safe.result u has below (goes.moves_on ∙ w.if-going.false)
     ] in
     (its, goes_at its k c.args.op c.args.going.now (g.L.Line.seat c.load-safe.new.self) goes c.load-safe.ensures.seat, copied)
@@ -48,7 +48,7 @@ returns-clause-done g c = λ its goes met.
     let has = safe_comes its c.args.its c.load-safe.result s u at (leads_on its k c.args.op c.args.going.now k s u c.load-safe.result goes refl c.load-safe.ensures.next) in
     let below : nat_le c.load-safe.result c.args.its.addr ≡ false = (let h = c.if-safe-its.false in grind (arith, nat_tests, h)) in
     let copied : IsCopied its c.args.its u = elim c.else-going.branch [
-      | else-going-via-then-going+else-its-going w ↦ own_copied its c.args.its c.load-safe.result u has below (is_own its k c.args.op c.args.going.now c.args.its goes w.if-its-going.false)
+      | else-going-via-then-going+else-not-own w ↦ own_copied its c.args.its c.load-safe.result u has below (is_own its k c.args.op c.args.going.now c.args.its goes (sym c.is_surely_own-own.ensures ∙ w.if-not-own.false))
       | else-going-via-else-going w ↦ still_copied its c.args.its c.load-safe.result u has below (goes.moves_on ∙ w.if-going.false)
     ] in
     c.copy.ensures.done its (goes_at its k c.args.op c.args.going.now (g.L.Line.seat c.load-safe.new.self) goes c.load-safe.ensures.seat) copied

@@ -5,7 +5,7 @@ use Rattle.fkv_session.specs.Alike.{lasting}
 use Rattle.fkv_session.specs.Sessions.{Sitter}
 use Rattle.fkv_straight.specs.declared.hot.Due.{Due}
 use Rattle.fkv_straight.specs.Course.{course_of, Goes}
-use Rattle.fkv_straight.specs.Hot.{IsDue}
+use Rattle.fkv_straight.specs.Hot.{HasRoom, IsDue}
 use Rattle.fkv_straight.specs.Standing.{ComesTo, IsWaiting}
 use Rattle.fkv_straight.proofs.Endings.{update_asks, update_caught_up, waiting_ended, waiting_goes}
 use Rattle.fkv_straight.proofs.MayGoes.{goes_alike}
@@ -59,3 +59,20 @@ returns-in-Lost-clause-ended g c =
     let its = course_of k left.start c.args.op (call.Op c.args.op) in
     let due = subst (λ (d : Due). IsDue its d (g.L.Line.stands c.args.line.now)) c.in-Lost.is left.due in
     waiting_ended k c.args.machine.now c.wait-in-Lost.new.machine left.start (g.L.Line.stands c.args.line.now) c.args.op c.wait-in-Lost.result due.0 left.alike c.wait-in-Lost.ensures.waits due.1
+
+pub ask_for-requires-clause-at : goal.ask_for-requires-clause-at
+ask_for-requires-clause-at g c =
+    let left = c.requires.left in
+    let its = course_of (g.L.Line.seat c.args.line.now) left.start c.args.op (call.Op c.args.op) in
+    let due = subst (λ (d : Due). IsDue its d (g.L.Line.stands c.args.line.now)) c.in-OnDisk.is left.due in
+    (left.start, left.alike, due.1)
+
+pub ask_for-requires-clause-room : goal.ask_for-requires-clause-room
+ask_for-requires-clause-room g c = subst (λ (d : Due). HasRoom d (g.L.Line.kept c.args.line.now)) c.in-OnDisk.is c.requires.left.room
+
+pub ask_for-requires-clause-reads : goal.ask_for-requires-clause-reads
+ask_for-requires-clause-reads g c =
+    let left = c.requires.left in
+    let its = course_of (g.L.Line.seat c.args.line.now) left.start c.args.op (call.Op c.args.op) in
+    let due = subst (λ (d : Due). IsDue its d (g.L.Line.stands c.args.line.now)) c.in-OnDisk.is left.due in
+    due.0

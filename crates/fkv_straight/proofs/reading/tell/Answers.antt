@@ -40,3 +40,9 @@ returns-in-Nowhere-clause-ended g c = λ its goes calls at.
     let u = g.L.Line.stands c.args.line.now in
     let slot = c.in-Nowhere.field-0 in
     nowhere_ends its slot.place slot.entry u calls (subst (λ (m : Met). HasMet its m u) c.in-Nowhere.is at) (reads_calm its k c.args.op c.args.going.now goes c.requires.reads) (updates_in its k c.args.op c.args.going.now _ goes c.requires.reads)
+
+pub returns-in-OnDisk-clause-left : goal.returns-in-OnDisk-clause-left
+returns-in-OnDisk-clause-left g c = λ its at.
+    let slot = c.in-OnDisk.slot in
+    let met = subst (λ (m : Met). HasMet its m (g.L.Line.stands c.args.line.now)) c.in-OnDisk.is at in
+    (slot.place, met.0, met.1, met.2)

@@ -1,10 +1,11 @@
 -- The sessions of the table that was opened go on from the store's points.
 use Rattle.std.proofs.Common.{refl, [], ◌≡◌, ◌∙◌}
-use Rattle.fkv_threading.proofs.Told.{is_played}
+use Rattle.fkv_threading.specs.Told.{TellsBegun, TellsFault, TellsFinish}
+use Rattle.fkv_threading.proofs.Told.{is_played, last_of_none}
 use Rattle.fkv_threading.proofs.playing.play.Goals as goal
 
 pub invariant_of-keeping : goal.invariant_of-keeping
-invariant_of-keeping g c = (c.in_ok-table.ensures.keeper.idle, record { runs = []; kept = c.in_ok-table.ensures.keeper.nothing_seen; last = refl; last_begun = refl; refused = refl })
+invariant_of-keeping g c = (c.in_ok-table.ensures.keeper.idle, record { runs = []; kept = c.in_ok-table.ensures.keeper.nothing_seen; last = last_of_none TellsFinish; last_begun = last_of_none TellsBegun; refused = last_of_none TellsFault })
 
 pub returns-clause-ok : goal.returns-clause-ok
 returns-clause-ok g c =

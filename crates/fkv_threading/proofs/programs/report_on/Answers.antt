@@ -1,5 +1,5 @@
 -- What is recovered is the store that an honest device holds. If it is refused, its image has the fault.
-use Rattle.std.proofs.Common.{◌≡◌, List, subst, IfOk, rules}
+use Rattle.std.proofs.Common.{◌≡◌, List, subst, IfOk}
 use Rattle.std.proofs.lemmas.Result.{err_from_is_err_and}
 use Rattle.fkv_base.specs.declared.numbers.Key.{Key}
 use Rattle.fkv_base.specs.declared.numbers.Value.{Value}
@@ -19,12 +19,15 @@ returns-clause-ok g c =
 pub returns-in_err-opened-clause-err : goal.returns-in_err-opened-clause-err
 returns-in_err-opened-clause-err g c =
     let p = err_from_is_err_and c.from_residual.result c.from_residual.ensures.1 in
-    rw (p.1, p.2) (unrecovered g.D.Device c.args.device.now _ _ c.in_err-opened.field-0.0 c.in_err-opened.ensures.err)
+    rw (p.1, p.2) (unrecovered g.D.Device c.args.logs.now c.args.device.now _ _ c.in_err-opened.field-0.0 c.in_err-opened.ensures.err)
 
 pub returns-in_err-pairs-clause-err : goal.returns-in_err-pairs-clause-err
 returns-in_err-pairs-clause-err g c =
-    let why = unread g.D.Device c.args.device.now _ _ c.in_err-pairs.field-0.0 c.in_err-pairs.ensures.err in
-    search (rules, why)
+    let p = err_from_is_err_and c.from_residual-in_err-pairs.result c.from_residual-in_err-pairs.ensures.1 in
+    rw (p.1, p.2) (unread g.D.Device c.args.logs.now c.args.device.now _ _ c.in_err-pairs.field-0.0 c.in_err-pairs.ensures.err)
 
 pub returns-clause-err : goal.returns-clause-err
-returns-clause-err g c = uncompared g.D.Device c.args.device.now c.report_of.result c.report_of.ensures.cause
+returns-clause-err g c =
+    uncompared g.D.Device c.args.logs.now c.args.device.now c.report_of.result c.in_ok-opened.opened c.in_ok-pairs.pairs.items c.deref.result.now
+    (held g.D.Device.honest g.D.Device.seen c.args.device.now c.recover.new.d c.in_ok-opened.opened c.in_ok-pairs.pairs.items c.in_ok-opened.ensures.ok c.in_ok-opened.ensures.quiet.premise c.in_ok-opened.ensures.quiet.same_bytes c.in_ok-pairs.ensures.ok)
+    c.deref.ensures.value c.report_of.ensures.cause

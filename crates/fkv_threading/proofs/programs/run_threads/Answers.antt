@@ -10,11 +10,11 @@ use Rattle.fkv_threading.proofs.programs.run_threads.Goals as goal
 pub returns-clause-whole : goal.returns-clause-whole
 returns-clause-whole g c =
     let is : c.args.script.now.opening ≡ Some (openings.Shape c.in-Some-Shape.sizes) = search rules in
-    result_written (IsEndOfRun _ _ _) c.args.script.now.lines.items c.deref.result.now c.args.script.now.opening c.in-Some-Shape.sizes _ _ c.write_reported.result c.report_in_memory-reported.result is c.deref.ensures.value (ended _ _ _ _ _ c.report_in_memory-reported.result c.report_in_memory-reported.ensures.ok c.report_in_memory-reported.ensures.err) c.write_reported.ensures.text c.write_reported.ensures.status
+    result_written (IsEndOfRun _ _ _ _) c.args.script.now.lines.items c.deref.result.now c.args.script.now.opening c.in-Some-Shape.sizes _ _ c.write_reported.result c.report_in_memory-reported.result is c.deref.ensures.value (ended _ _ _ _ _ _ c.report_in_memory-reported.result c.report_in_memory-reported.ensures.ok c.report_in_memory-reported.ensures.err) c.write_reported.ensures.text c.write_reported.ensures.status
 
 pub returns-clause-part : goal.returns-clause-part
 returns-clause-part g c =
     let is : c.args.script.now.opening ≡ Some (openings.Shape c.in-Some-Shape.sizes) = search rules in
     on_err_weaker c.write_reported.result
-    (run_breaks (IsEndOfRun _ _ _) c.args.script.now.lines.items c.deref.result.now c.args.script.now.opening c.in-Some-Shape.sizes _ _ c.report_in_memory-reported.result is c.deref.ensures.value (ended _ _ _ _ _ c.report_in_memory-reported.result c.report_in_memory-reported.ensures.ok c.report_in_memory-reported.ensures.err))
+    (run_breaks (IsEndOfRun _ _ _ _) c.args.script.now.lines.items c.deref.result.now c.args.script.now.opening c.in-Some-Shape.sizes _ _ c.report_in_memory-reported.result is c.deref.ensures.value (ended _ _ _ _ _ _ c.report_in_memory-reported.result c.report_in_memory-reported.ensures.ok c.report_in_memory-reported.ensures.err))
     c.write_reported.ensures.part

@@ -1,6 +1,7 @@
 -- The store is the same, but for what memory has.
-use Rattle.std.proofs.Common.{arith}
+use Rattle.std.proofs.Common.{ℕ, ◌-◌, ◌∙◌, ap, arith}
 use Rattle.fkv_opening.proofs.Shown.{log_short}
+use Rattle.fkv_warming.specs.Records.{records_from}
 use Rattle.fkv_warming.proofs.From.{from_in_log, from_in_ring, from_some}
 use Rattle.fkv_warming.proofs.Words.{is_warm}
 use Rattle.fkv_warming.proofs.warming.warm.Goals as goal
@@ -40,5 +41,6 @@ returns-clause-ok g c = λ claim store. record {
   };
   entries = store.entries;
   lost = store.lost;
-  warm = is_warm (g.D.Device.seen c.args.d.now) _ (c.in_ok-words.ensures.ok claim);
+  warm = is_warm (g.D.Device.seen c.args.d.now) _
+      (c.in_ok-words.ensures.ok claim ∙ (let first = c.first_warm-first.result in ap (λ (v : ℕ). records_from (g.D.Device.seen c.args.d.now) c.args.opened.shape v first.0 (c.args.opened.tail.0 - first.0)) c.mark-version.ensures.mark));
 }

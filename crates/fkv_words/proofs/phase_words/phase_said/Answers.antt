@@ -1,5 +1,5 @@
 -- What a phase word says is what is read where one is spelled.
-use Rattle.std.proofs.Common.{◌≡◌, ℕ, ◌<◌, ◌≤◌, ◌^◌, ◌%◌, ◌/◌, arith, refl, sym, ap, subst, ◌∙◌, Bool, true, false}
+use Rattle.std.proofs.Common.{◌≡◌, ℕ, ◌<◌, ◌≤◌, ◌^◌, ◌%◌, ◌/◌, arith, refl, sym, subst, Bool, true, false}
 use Rattle.std.specs.Prelude.{◌==◌, ◌&&◌, nat_le, if◌then◌else◌, Option, Some, None}
 use Rattle.std.proofs.lemmas.Bool.Decides.{nat_tests}
 use Rattle.fkv_base.specs.Limits.{last_version}
@@ -9,8 +9,8 @@ use Rattle.fkv_words.specs.declared.wide_phase.WidePhase.{WidePhase}
 use Rattle.fkv_words.specs.Phases.{phase_number}
 use Rattle.fkv_words.specs.Layout.{wide_word}
 use Rattle.fkv_words.specs.declared.phase_words.PhaseSaid.TheVariants.{Says, Spoiled}
-use Rattle.fkv_words.specs.PhaseWords.{phase_numbered, phase_with, phase_said, has_spare_bits, is_version, version_in}
-use Rattle.fkv_words.proofs.Said.{spelled_as, spelled_says}
+use Rattle.fkv_words.specs.PhaseWords.{phase_numbered, phase_with, phase_said, has_spare_bits, version_in}
+use Rattle.fkv_words.proofs.Said.{spelled_says}
 use Rattle.fkv_words.proofs.phase_words.phase_said.Goals as goal
 
 -- the number of the phase that a number has
@@ -26,21 +26,12 @@ named_number n its is = tested (n == 0) (n == 1) (n == 2) (n == 3) (n == 4) refl
     tested false false false false true ea eb ed ee ef is = (let h : phase.WaitFlush ≡ its = cc in subst (λ x. phase_number x ≡ n) h (let m : n ≡ 4 = grind (arith, nat_tests, ef) in omega (arith, m)))
     tested false false false false false ea eb ed ee ef is = cc
 
-pub returns-then-its-le-LAST : goal.returns-then-its-le-LAST
-returns-then-its-le-LAST c =
+pub returns-in-Some : goal.returns-in-Some
+returns-in-Some c =
     let its = c.in-Some.its in
     let is : wide_word its ≡ c.args.word = (c.unpack.ensures its).0 c.in-Some.is in
-    let few = c.if-its-le-LAST.true in
+    let few = its.version_fits in
     sym (spelled_says c.args.word its.version.0 its.phase is its.some_version (omega (arith, few)))
-
-pub returns-else-its-le-LAST : goal.returns-else-its-le-LAST
-returns-else-its-le-LAST c =
-    let its = c.in-Some.its in
-    let is : wide_word its ≡ c.args.word = (c.unpack.ensures its).0 c.in-Some.is in
-    let many = c.if-its-le-LAST.false in
-    let late : nat_le its.version.0 last_version ≡ false = (let h : ¬ (its.version.0 ≤ last_version) = (λ low. omega (arith, many, low)) in grind (arith, nat_tests, h)) in
-    let there : is_version its.version.0 ≡ false = (let a : nat_le 1 its.version.0 ≡ true = (let some = its.some_version in grind (arith, nat_tests, some)) in rw (a, late) refl) in
-    sym (spelled_as c.args.word its.version.0 its.phase is ∙ ap (λ (b : Bool). if b then Says its.phase (record { 0 = its.version.0 }) else Spoiled) there)
 
 pub returns-in-None : goal.returns-in-None
 unfolding phase_said

@@ -8,7 +8,7 @@ use Rattle.fkv_world.proofs.Shown.{keeper_runs}
 use Rattle.fkv_world.specs.OwnEvents.{keeper_events}
 use Rattle.fkv_world.specs.Runs.{World, run}
 use Rattle.fkv_world.specs.World.{Event}
-use Rattle.law_causes.specs.Causes.{HasCommitCause, lost_in_hand}
+use Rattle.law_causes.specs.Causes.{HasCommitCause}
 use Rattle.law_causes.specs.Lives.{keeper_before, kind_of_life, told_in_life}
 use Rattle.law_causes.proofs.OfCauses.Runs.{run_comes}
 use Rattle.law_causes.proofs.laws.law_world_refused.Goals as goal
@@ -20,7 +20,7 @@ own_run opening events event before newest = keeper_runs opening events ∙ ap (
 pub returns-clause-commits : goal.returns-clause-commits
 returns-clause-commits c = λ opening events event before why opened newest calling ends.
     let same = own_run opening events event before newest in
-    subst (λ (s : KeeperState). HasCommitCause before (kind_of_life opening (event ∷ before)) (lost_in_hand s) (told_in_life opening (event ∷ before)) why) (sym same)
+    subst (λ (s : KeeperState). HasCommitCause before (kind_of_life opening (event ∷ before)) s (told_in_life opening (event ∷ before)) why) (sym same)
     (run_comes opening.now.shape opening.now.places opening.now.keeper before event (Ended (CommitRefused why)) opened.keeper calling (sym (ap (λ (s : KeeperState). s.step) same) ∙ ends))
 
 pub returns-clause-turns : goal.returns-clause-turns

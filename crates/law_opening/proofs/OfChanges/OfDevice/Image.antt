@@ -1,10 +1,8 @@
 -- The image of an opened store has each record of the log with which its life begins.
-use Rattle.std.proofs.Common.{◌≡◌, ◌∙◌, refl, sym, subst, ap, ℕ, List}
+use Rattle.std.proofs.Common.{◌≡◌, ◌∙◌, refl, sym, subst, ℕ, List}
 use Rattle.fkv_base.specs.declared.shapes.Shape.{Shape}
 use Rattle.fkv_disk.specs.Bytes.{bytes_at}
-use Rattle.fkv_marks.proofs.Shown.{mark_small}
 use Rattle.law_refine.specs.Below.fkv_log.RecordWords.{RecordWords}
-use Rattle.law_refine.specs.Below.fkv_ops.HeaderSaid.TheVariants.{Says}
 use Rattle.law_paper.specs.Below.fkv_opening.Opened.{IsStoreOf}
 use Rattle.law_paper.specs.Below.fkv_opening.TheOpened.{Opened}
 use Rattle.law_opening.specs.Log.OpeningLog.{opening_log}
@@ -21,7 +19,7 @@ use Rattle.law_refine.specs.Below.law_local.Tries.MailRows.{LeadsTo}
 use Rattle.fkv_words.specs.Layout.{header_word}
 use Rattle.law_refine.specs.Below.fkv_world.World.{Now}
 use Rattle.law_opening.specs.Changes.Images.{IsInImage}
-use Rattle.law_refine.proofs.OfRecords.Numbers.{filled_shows}
+use Rattle.law_refine.proofs.OfRecords.Numbers.{header_back}
 
 -- a record's three words
 abbrev words_of : Record → RecordWord → ℕ
@@ -37,8 +35,7 @@ leads_so : (x : Record) → LeadsTo x.header.previous.0 (header_word x.header)
 unfolding as_written
 leads_so x = record {
   version = record { 0 = x.header.version.0 };
-  says = (filled_shows (words_of x) (as_written x) (record { header = refl; key = refl; value = refl })).header
-      ∙ ap (λ (n : ℕ). Says (record { 0 = x.header.previous.0 }) (record { 0 = n })) (mark_small x.header.version.0 x.header.version_fits);
+  says = header_back x.header;
 }
 
 spelled_there : (shape : Shape) (bytes : List ℕ) (a version : ℕ) (x : Record) → record_bytes x ≡ bytes_at bytes (record_place shape a) 24 → IsInImage shape bytes a (cell_of version x)

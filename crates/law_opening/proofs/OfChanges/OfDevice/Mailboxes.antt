@@ -5,6 +5,8 @@ use Rattle.std.proofs.lemmas.List.{get_or-map}
 use Rattle.std.proofs.lemmas.List.Elements.{All-get_or}
 use Rattle.fkv_base.specs.Limits.{last_serial}
 use Rattle.fkv_base.specs.declared.numbers.Serial.{Serial}
+use Rattle.fkv_marks.specs.Marks.{mark}
+use Rattle.fkv_marks.proofs.Shown.{mark_fits}
 use Rattle.fkv_core.specs.OpeningPlaces.{StandAsTold}
 use Rattle.fkv_core.specs.Openings.{IsOpeningWorld}
 use Rattle.law_refine.specs.Below.fkv_flush.GuardMail.{AreEmpty}
@@ -31,9 +33,9 @@ either_small false m most small some = some
 abbrev pub cut_told : (o : Opened) (session parity : ℕ) → session < o.shape.sessions → CutWord
 cut_told o session parity there = record {
   serial = record { 0 = if nat_eq (o.number.0 % 2) parity then point_of o session else 0 };
-  version = record { 0 = if nat_eq (o.number.0 % 2) parity then o.number.0 else 0 };
+  version = record { 0 = if nat_eq (o.number.0 % 2) parity then mark o.number.0 else 0 };
   serial_fits = either_small (nat_eq (o.number.0 % 2) parity) (point_of o session) (2 ^ 48) (point_small o session there) (omega arith);
-  version_fits = let few = o.few_commits in either_small (nat_eq (o.number.0 % 2) parity) o.number.0 (2 ^ 13) (omega (arith, few)) (omega arith);
+  version_fits = either_small (nat_eq (o.number.0 % 2) parity) (mark o.number.0) (2 ^ 13) (mark_fits o.number.0) (omega arith);
 }
 
 abbrev pub words_told : (o : Opened) (session : ℕ) → session < o.shape.sessions → SessionWords

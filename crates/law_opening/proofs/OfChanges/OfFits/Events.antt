@@ -6,7 +6,6 @@ use Rattle.law_refine.specs.Below.fkv_log.ReserveAnswer.{ReserveAnswer}
 use Rattle.law_refine.specs.Below.fkv_log.ReserveAnswer.TheVariants.{Reserved}
 use Rattle.fkv_map.specs.Fits.{OpFits}
 use Rattle.fkv_map.specs.Keys.{reply_from}
-use Rattle.fkv_map.specs.declared.history.HistoryEntry.{HistoryEntry}
 use Rattle.fkv_map.specs.declared.operations.Op.{Op}
 use Rattle.fkv_map.specs.declared.operations.Op.TheVariants.{Read}
 use Rattle.law_refine.specs.Below.fkv_ops.Appending.{AppendState}
@@ -41,27 +40,27 @@ use Rattle.law_refine.specs.Below.law_local.Sessions.Inputs.{AttemptsBy, TriesFo
 use Rattle.law_refine.specs.Below.law_local.Sessions.Known.{is_attempting}
 use Rattle.law_refine.specs.Below.law_local.Tries.TryRows.{cell_of}
 use Rattle.law_log.specs.Ghosts.{Changes, Drops, Log, Reserves}
-use Rattle.law_refine.specs.Events.Appends.{append_ghosts, entry_made, reserved_ghosts}
+use Rattle.law_refine.specs.Events.Appends.{append_ghosts, entry_made, reserved_ghosts, NewRecord, new_record}
 use Rattle.law_refine.specs.Events.Lines.{read_in_hand, read_waiting}
 use Rattle.law_refine.specs.Events.Sessions.{attempt_ghosts, sitting_ghosts, step_ghosts, ticket_of, tried_ghosts, value_ghosts}
 use Rattle.law_refine.specs.Events.Tries.{try_ghosts}
 use Rattle.law_refine.proofs.OfEvents.Searches.{append_all, search_all}
 
 -- the record of words that fit
-cell_fits : (words : RecordWords) → WordsOk words → CellFits (cell_of words)
-cell_fits words ok = (ok.0, said_fits words.value ok.1)
+cell_fits : (version : ℕ) (words : RecordWords) → WordsOk words → CellFits (cell_of version words)
+cell_fits version words ok = (ok.0, said_fits words.value ok.1)
 
 -- ---- an append
-reserved_make : (a : AppendState) (entry : HistoryEntry) (ask : Ask ReserveAnswer) → (OpFits entry.op → WordsOk a.its_words) → AllMakeFit (reserved_ghosts a entry ask)
-reserved_make a entry (Done (Reserved addr)) makes = by_test (is_for_entry a addr)
+reserved_make : (a : AppendState) (made : NewRecord) (ask : Ask ReserveAnswer) → (OpFits made.entry.op → WordsOk a.its_words) → AllMakeFit (reserved_ghosts a made ask)
+reserved_make a made (Done (Reserved addr)) makes = by_test (is_for_entry a addr)
   where
-    by_test : (b : Bool) → AllMakeFit (if b then Reserves addr.0 entry (cell_of a.its_words) ∷ [] else Drops addr.0 ∷ Reserves addr.0 entry (cell_of a.its_words) ∷ [])
-    by_test true = (λ fits. cell_fits a.its_words (makes fits), tt)
-    by_test false = (tt, (λ fits. cell_fits a.its_words (makes fits), tt))
-reserved_make a entry ask makes = tt
+    by_test : (b : Bool) → AllMakeFit (if b then Reserves addr.0 made.entry (cell_of made.version a.its_words) ∷ [] else Drops addr.0 ∷ Reserves addr.0 made.entry (cell_of made.version a.its_words) ∷ [])
+    by_test true = (λ fits. cell_fits made.version a.its_words (makes fits), tt)
+    by_test false = (tt, (λ fits. cell_fits made.version a.its_words (makes fits), tt))
+reserved_make a made ask makes = tt
 
-append_make : (room : ℕ) (a : AppendState) (entry : HistoryEntry) (step : Appending) (reply : ℕ) → (OpFits entry.op → WordsOk a.its_words) → AllMakeFit (append_ghosts room a entry step reply)
-append_make room a entry step reply makes = append_all AllMakeFit tt (λ addr. (tt, tt)) (λ addr. (tt, tt)) room a entry step reply (λ ask. reserved_make a entry ask makes)
+append_make : (room : ℕ) (a : AppendState) (made : NewRecord) (step : Appending) (reply : ℕ) → (OpFits made.entry.op → WordsOk a.its_words) → AllMakeFit (append_ghosts room a made step reply)
+append_make room a made step reply makes = append_all AllMakeFit tt (λ addr. (tt, tt)) (λ addr. (tt, tt)) room a made step reply (λ ask. reserved_make a made ask makes)
 
 -- ---- a try
 module _ (log : Log) (flushed : ℕ) where
@@ -74,7 +73,7 @@ module _ (log : Log) (flushed : ℕ) where
       by_test true = (tt, tt)
       by_test false = tt
   try_make p room session reader pending t (Appends its) reply same ok =
-      append_make room t.append (entry_made session pending its) t.append.step reply (λ fits. ok (subst (λ (r : Request). OpFits r.op) (sym same) fits))
+      append_make room t.append (new_record session pending its) t.append.step reply (λ fits. ok (subst (λ (r : Request). OpFits r.op) (sym same) fits))
   try_make p room session reader pending t step reply same ok = tt
 
   -- ---- an attempt

@@ -15,7 +15,7 @@ use Rattle.fkv_map.specs.Map.{absent_word}
 use Rattle.fkv_map.specs.declared.operations.Reply.{Reply}
 use Rattle.law_refine.specs.Below.fkv_ops.Appending.{append_ask, append_next}
 use Rattle.law_refine.specs.Below.fkv_ops.Requests.{is_blind, is_read}
-use Rattle.law_refine.specs.Below.fkv_ops.Trying.{TryState, answer_ledto, append_ledto, awaits, changes, copies, copies_from, current_ledto, ended_without, ends, appends, exclusive_dropped, exclusive_ledto, full_at, has_walked, held_used, is_own_version, is_wait, met_disk, met_nowhere, met_record, must_shift, new_try, old_ledto, region_met, safe_loaded, shared_dropped, shared_ledto, takes_effect, told_value, try_ask, try_begun, try_next, trying_ask, trying_next, value_changed, walk_ledto, walked, walks, wants_exclusive, wants_shared, with_latch}
+use Rattle.law_refine.specs.Below.fkv_ops.Trying.{TryState, answer_ledto, append_ledto, awaits, changes, copies, copies_from, current_ledto, ended_without, ends, appends, exclusive_dropped, exclusive_ledto, full_at, has_walked, held_used, is_own_version, is_wait, met_disk, met_nowhere, met_record, must_shift, new_try, old_ledto, region_met, safe_loaded, shared_dropped, shared_ledto, takes_effect, told_value, try_ask, try_begun, try_next, trying_ask, trying_next, value_changed, walk_ledto, walked, walks, wants_exclusive, wants_shared, with_latch, is_next_marked, latch_shared, is_still_in, phase_loaded, is_surely_own}
 use Rattle.law_refine.specs.Below.fkv_ops.Values.{value_of}
 use Rattle.law_refine.specs.Below.fkv_ops.Walking.{walk_ask, walk_next, walk_on, walk_rested}
 use Rattle.law_refine.specs.Below.fkv_ops.Reason.TheVariants as reason
@@ -31,9 +31,11 @@ use Rattle.law_refine.specs.Below.fkv_ops.Seen.{Seen}
 use Rattle.law_refine.specs.Below.fkv_ops.OldValue.{OldValue}
 use Rattle.law_refine.specs.Below.fkv_ops.OldValue.TheVariants.{InMemory, Known}
 use Rattle.law_refine.specs.Below.fkv_ops.TheTrying.{Trying}
-use Rattle.law_refine.specs.Below.fkv_ops.TheTrying.TheVariants.{Ended, TakesShared, Walks, LoadsSafe, SwapsValue, LoadsCurrent, ChangesValue, LoadsAnswer, TakesExclusive, LoadsOld, Appends, DropsExclusive, DropsShared}
+use Rattle.law_refine.specs.Below.fkv_ops.TheTrying.TheVariants.{Ended, TakesShared, LoadsPhase, Walks, LoadsSafe, SwapsValue, LoadsCurrent, ChangesValue, LoadsAnswer, TakesExclusive, LoadsOld, Appends, DropsExclusive, DropsShared}
 use Rattle.law_refine.specs.Below.fkv_ops.WalkAnswer.{WalkAnswer}
 use Rattle.law_refine.specs.Below.fkv_ops.WalkAnswer.TheVariants as walk
+use Rattle.fkv_words.specs.declared.phase_words.PhaseSaid.{PhaseSaid}
+use Rattle.fkv_words.specs.PhaseWords.{phase_said}
 use Rattle.fkv_plane.specs.declared.asks.Ask.{Ask}
 use Rattle.fkv_plane.specs.declared.asks.Ask.TheVariants.{Done}
 use Rattle.fkv_plane.specs.declared.places.Places.{Places}
@@ -196,9 +198,9 @@ module _ (log : Log) (flushed : ℕ) (p : Places) where
   safe_ok : (t : TryState) (addr : Addr) (version : Version) (safe : ℕ) → Base t → Ok (safe_loaded p t addr version safe)
   safe_ok t addr version safe base = by_test (nat_le safe addr.0)
     where
-      by_test : (b : Bool) → Ok (if b then ends p t (answer.Wait reason.Fuzzy) else copies p t InMemory (is_own_version t version))
+      by_test : (b : Bool) → Ok (if b then ends p t (answer.Wait reason.Fuzzy) else copies p t InMemory (is_surely_own t version))
       by_test true = ends_ok t (answer.Wait reason.Fuzzy) base tt
-      by_test false = copies_ok t InMemory (is_own_version t version) base tt
+      by_test false = copies_ok t InMemory (is_surely_own t version) base tt
 
   current_ok : (t : TryState) (addr : Addr) (ask : Ask WalkAnswer) → t.step ≡ LoadsCurrent addr → Base t → Ok (current_ledto p t addr ask)
   unfolding current_ledto
@@ -240,9 +242,24 @@ module _ (log : Log) (flushed : ℕ) (p : Places) where
   append_ok t its ask at base ok = still t (Appends its) at base ok
 
   -- ---- latches
+  latch_ok : (t : TryState) → Base t → Ok (latch_shared p t)
+  latch_ok t base = by_mark (is_next_marked t.request.version)
+    where
+      by_mark : (b : Bool) → Ok (if b then record t { step = LoadsPhase } else walks p t)
+      by_mark true = (base, tt)
+      by_mark false = ((base.0, tt), tt)
+
+  phase_ok : (t : TryState) (said : PhaseSaid) → Base t → Ok (phase_loaded p t said)
+  unfolding phase_loaded
+  phase_ok t said base = by_word (is_still_in said t.request.version)
+    where
+      by_word : (b : Bool) → Ok (if b then walks p t else ends p t answer.Shift)
+      by_word true = ((base.0, tt), tt)
+      by_word false = ends_ok t answer.Shift base tt
+
   shared_ok : (t : TryState) (ask : Ask LatchAnswer) → t.step ≡ TakesShared → Base t → Ok (shared_ledto p t ask)
   unfolding shared_ledto
-  shared_ok t (Done latch.Taken) at base = ((base.0, tt), tt)
+  shared_ok t (Done latch.Taken) at base = latch_ok (record t { has_shared = true }) base
   shared_ok t (Done its) at base = ends_ok t answer.Shift base tt
   shared_ok t ask at base = still t TakesShared at base tt
 
@@ -262,6 +279,7 @@ module _ (log : Log) (flushed : ℕ) (p : Places) where
   unfolding trying_next
   row_ok room t (Ended its) reply at known told base ok value = still (record t { effect = None }) (Ended its) at base ok
   row_ok room t TakesShared reply at known told base ok value = shared_ok (record t { effect = None; latching = latch_next t.latching reply }) (latch_next_ask t.latching reply) at base
+  row_ok room t LoadsPhase reply at known told base ok value = phase_ok (record t { effect = None }) (phase_said reply) base
   row_ok room t Walks reply at known told base ok value =
       walk_led_ok (record t { effect = None; walk = walk_next p t.walk reply }) (walk_ask p (walk_next p t.walk reply)) at (base.0, walk_ok log flushed p t.walk reply value.0 known told base.1 value.1) refl
   row_ok room t (LoadsSafe addr version) reply at known told base ok value = safe_ok (record t { effect = None }) addr version reply base
@@ -302,6 +320,7 @@ module _ (log : Log) (flushed : ℕ) (p : Places) where
   row_answers t (TakesExclusive old) its ok e = shift its (passed_answer (latch_ask t.latching) answer.Shift its e)
   row_answers t LoadsOld its ok e = shift its (passed_answer (walk_ask p t.walk) answer.Shift its e)
   row_answers t (Appends it) its ok e = shift its (passed_answer (append_ask p t.append) answer.Shift its e)
+  row_answers t LoadsPhase its ok e = cc
   row_answers t (LoadsSafe addr version) its ok e = cc
   row_answers t (SwapsValue addr) its ok e = cc
   row_answers t (ChangesValue addr old) its ok e = cc

@@ -22,7 +22,6 @@ shows_cell_from least from image a cell up its = record {
   leads = its.leads;
   low = its.low;
   same = λ high. its.same (omega (arith, up, high));
-  fits = λ high. its.fits (omega (arith, up, high));
 }
 
 pub shows_from : (home : ℕ → ℕ) (least from : ℕ) (image : scan.Log) (g : Log) → least ≤ from → ShowsLog home least image g → ShowsLog home from image g

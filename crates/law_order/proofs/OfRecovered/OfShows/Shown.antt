@@ -34,7 +34,6 @@ shows_later home from later image g up shows = record {
     leads = its.leads;
     low = its.low;
     same = λ on. its.same (omega (arith, up, on));
-    fits = λ on. its.fits (omega (arith, up, on));
   });
   decided = λ a on. shows.decided a (omega (arith, up, on));
   dropped = λ a cell is on. shows.dropped a cell is (omega (arith, up, on));

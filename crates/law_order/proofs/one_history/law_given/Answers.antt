@@ -14,4 +14,7 @@ returns c = record {
   ahead = c.law_versions_counted.ensures.below;
   beside = c.law_latched_in_tries.ensures.beside_none;
   safe = c.law_views_see_tails.ensures.view;
+  begun = c.law_begun.ensures.begun;
+  ended = c.law_commits_ended.ensures;
+  later = c.law_commits_cut.ensures.later;
 }

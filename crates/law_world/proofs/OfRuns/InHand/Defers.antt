@@ -1,7 +1,6 @@
 -- Behind an action that it has put a defer goes on: it arms the slot. So do the parts of a commit that defer.
 use Rattle.std.proofs.Common.{◌≡◌, ℕ, ◌+◌, ◌∙◌, ◌++◌, ◌∷◌, [], refl, ap, sym, subst, Bool, true, false, length}
 use Rattle.std.specs.Prelude.{not, ⊤, nat_lt, nat_le, ◌==◌, max, if◌then◌else◌}
-use Rattle.fkv_base.specs.Limits.{last_version}
 use Rattle.fkv_base.specs.declared.numbers.Addr.{Addr}
 use Rattle.fkv_base.specs.declared.numbers.Version.{Version}
 use Rattle.fkv_base.specs.declared.phases.Phase.TheVariants.{Rest}
@@ -37,6 +36,7 @@ use Rattle.fkv_commit.specs.Entering.{EnterState, enter_ask, enter_next, enterin
 use Rattle.fkv_commit.specs.Seeking as seeking
 use Rattle.fkv_commit.specs.Seeking.{SeekState, owing_from, point_taken, with_point, points_from, seek_ask, seek_next, seeking_ask, seeking_next, slot_led}
 use Rattle.fkv_commit.specs.Starting as starting
+use Rattle.fkv_base.specs.Limits.{last_of}
 use Rattle.fkv_commit.specs.Starting.{StartState, phase_found, start_ask, start_next, starting_ask, starting_next, is_lost_full}
 use Rattle.law_world.proofs.OfRuns.InHand.Asks.{AtSlot, at_more, off_at, passed_at, raise_off}
 use Rattle.law_world.proofs.OfRuns.InHand.Moved.{arm_off}
@@ -128,7 +128,7 @@ either_start true s t one other = one
 either_start false s t one other = other
 
 found_fits : (s : StartState) (said : PhaseSaid) → StartNow (phase_found s said)
-found_fits s (Says Rest number) = either_start (nat_le last_version number.0) _ _ tt (either_start (is_lost_full s.kind s.lost) _ _ tt tt)
+found_fits s (Says Rest number) = either_start (nat_le (last_of s.asked.class) number.0) _ _ tt (either_start (is_lost_full s.asked number.0) _ _ tt tt)
 found_fits s said = tt
 
 slot_fits : (number : Version) (s : StartState) (ask : Ask DeferAnswer) → s.step ≡ start.Seeks number → DeferNow s.defer → StartNow (starting.seek_led number s ask)

@@ -18,6 +18,12 @@ pub returns-in-Walks-clause-asks : goal.returns-in-Walks-clause-asks
 unfolding trying_ask
 returns-in-Walks-clause-asks c = asked_left c.args.self.now.places c.args.self.now.state c.passed-in-Walks.result (search rules)
 
+pub returns-in-LoadsPhase-clause-asks : goal.returns-in-LoadsPhase-clause-asks
+unfolding trying_ask
+returns-in-LoadsPhase-clause-asks c =
+    let some : 0 < try_asks_left c.args.self.now.places c.args.self.now.state = (try_left c.args.self.now.places c.args.self.now.state).0 (search rules) in
+    (λ asks. some, λ left. refl)
+
 pub returns-in-LoadsSafe-clause-asks : goal.returns-in-LoadsSafe-clause-asks
 unfolding trying_ask
 returns-in-LoadsSafe-clause-asks c =

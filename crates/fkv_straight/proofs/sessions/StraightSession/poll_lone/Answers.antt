@@ -3,7 +3,7 @@ use Rattle.std.proofs.Common.{◌≡◌, ◌∙◌, rules}
 use Rattle.fkv_map.specs.declared.operations.Call.TheVariants as call
 use Rattle.fkv_straight.proofs.Endings.{begun_alike}
 use Rattle.fkv_straight.proofs.Goings.{some_on}
-use Rattle.fkv_straight.proofs.sessions.StraightSession.poll.Goals as goal
+use Rattle.fkv_straight.proofs.sessions.StraightSession.poll_lone.Goals as goal
 
 pub invariant_of-self : goal.invariant_of-self
 invariant_of-self g c = some_on _ _ c.self.inside.going c.poll_by-straight.ensures.goes_by c.self.invariant

@@ -1,7 +1,0 @@
--- the map of the pairs that were looked at
-use Rattle.std.proofs.Common.{◌≡◌, take}
-use Rattle.fkv_thread_scripts.specs.Keys.{map_of}
-use Rattle.fkv_thread_scripts.proofs.maps.map_of.Given as goal
-
-abbrev pub invariant-loop-pair : goal.invariant-loop-pair
-invariant-loop-pair l = l.map ≡ map_of (take l.pair-index l.pairs)
