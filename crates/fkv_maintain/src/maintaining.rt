@@ -12,7 +12,7 @@ ghost use Rattle.fkv_maintain.specs.declared.maintaining.MaintainAnswer.TheVaria
 ghost use Rattle.fkv_maintain.specs.declared.maintaining.Maintaining.TheVariants.{Through, Broken, Flushes};
 ghost use Rattle.fkv_plane.specs.Passing.{is_done};
 ghost use Rattle.fkv_plane.specs.declared.asks.Ask.TheVariants.{Done};
-ghost use Rattle.fkv_maintain.specs.Maintaining.{maintain_begun, maintain_ask, maintain_next, maintain_given, maintain_called, maintain_asked, maintain_calls, maintain_calls_asked, maintain_made, device_asked, scan_ledto, claim_ledto, flush_ledto, shift_ledto, turn_ledto, serve_begun, serve_ledto, turn_form, maintain_word_due};
+ghost use Rattle.fkv_maintain.specs.Maintaining.{maintain_begun, maintain_serving, maintain_ask, maintain_next, maintain_given, maintain_called, maintain_asked, maintain_calls, maintain_calls_asked, maintain_made, device_asked, scan_ledto, claim_ledto, flush_ledto, shift_ledto, turn_ledto, serve_begun, serve_ledto, turn_form, maintain_word_due};
 
 use fkv_base::{Addr, Fault, Shape};
 use fkv_disk::{Device, DeviceAsk};
@@ -115,6 +115,19 @@ impl Maintain {
         self.is_drain_full = false;
         self.step = Maintaining::Scans;
         self.scan.start();
+        self.ask()
+    }
+
+    /// The first ask of a turn that only serves: it scans, flushes and moves nothing.
+    #[tactic(auto, using(crate::proofs::PartsFollow::serve_begins))]
+    pub fn start_serving(&mut self) -> Ask<MaintainAnswer>
+        ensures next { self.new ≡ record self.old { state = maintain_serving self.old.state } }
+        ensures ask { result ≡ maintain_ask self.old.shape self.old.places self.new.state }
+        ensures left { GoesOnWhereLeft (maintain_asks_left self.old.shape self.new.state) result }
+        ensures bounded { maintain_asks_left self.old.shape self.new.state ≤ most_maintain_asks self.old.shape }
+    {
+        self.is_drain_full = false;
+        self.serves();
         self.ask()
     }
 
