@@ -439,6 +439,14 @@ int32_t fkv_commit(fkv_keeper *keeper, uint32_t log_only, uint64_t *number);
 int32_t fkv_turn(fkv_keeper *keeper, fkv_turned *turned, uint64_t *points, size_t room);
 
 /*
+ * A commit of a living store rests before each sync of its writes: there a turn is over. While fkv_rests answers 1, fkv_serve makes a turn that
+ * serves reads and does nothing else, and fkv_turn goes on with the writes behind that: its sync comes next. So a caller may sync the file by
+ * itself meanwhile, and serve. If that sync has succeeded, and nothing was written since it began, it answers the one that is posted.
+ */
+int32_t fkv_serve(fkv_keeper *keeper, fkv_turned *turned, uint64_t *points, size_t room);
+int32_t fkv_rests(fkv_keeper *keeper);
+
+/*
  * Takes how the posted call has gone, and goes on with the turn, as fkv_turn does. `failed` isn't 0 where it has failed. After a
  * read `bytes` are what was read, `size` of them, and else `size` is 0. `bytes` isn't NULL, and `points` neither.
  *

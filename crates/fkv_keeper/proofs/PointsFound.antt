@@ -28,7 +28,7 @@ use Rattle.fkv_keeper.specs.Keeping.{KeeperState, start_ledto, seek_ledto, keepi
 use Rattle.fkv_keeper.specs.KeeperRun.{KeeperEvent, Replies, is_in_hand, keeper_happens, keeper_run, IsOpened}
 use Rattle.fkv_keeper.specs.CheckpointLaws.{IsBegun, IsCommitAfter}
 use Rattle.fkv_keeper.specs.PartLaws.{IsSeekBegun, IsWaitBegun, IsPartBegun, undone_by, taken_after, taken_by, SafeEnd, end_of, end_begun, end_taken, end_after, seek_after, Found, found_by, found_after, points_found, found_of, HasFound}
-use Rattle.fkv_keeper.proofs.KeeperRuns.{happens_at, happens_so}
+use Rattle.fkv_keeper.proofs.Happens.{happens_at, happens_so}
 use Rattle.fkv_keeper.proofs.CheckpointMoves.{IsMove, each_move}
 use Rattle.fkv_keeper.proofs.PartMoves.{IsPart, each_part}
 

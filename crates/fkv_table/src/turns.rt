@@ -32,7 +32,13 @@ impl Keeper {
     }
 
     /// Makes the turn's steps of words up to the next call of the device, or to the turn's end, and tells which. The device isn't called.
-    pub fn drive<D: Device>(&mut self, table: &Table<D>, pass: &mut KeeperPass<D>) -> TurnAsk
+    /// Where the writes of a commit rest they go on only if the caller says so.
+    pub fn drive<D: Device>(
+        &mut self,
+        table: &Table<D>,
+        pass: &mut KeeperPass<D>,
+        goes_on: bool,
+    ) -> TurnAsk
         requires at_work { said.IsKeeperAtWork (said.opening_of D.seen) table.now.table.shared.key table.now.table.shared.table_id pass.old.seat.table_id
             pass.old.seat.me self.old.machine }
         ensures at_work { said.IsKeeperAtWork (said.opening_of D.seen) table.now.table.shared.key table.now.table.shared.table_id pass.new.seat.table_id
@@ -43,10 +49,22 @@ impl Keeper {
         ensures left { said.keeper_asks_left self.new.machine.shape self.new.machine.places self.new.machine.state ≤ said.keeper_asks_left
             self.old.machine.shape self.old.machine.places self.old.machine.state }
     {
-        match word_steps(&table.table.shared, &mut pass.seat, &mut self.machine) {
+        match word_steps(
+            &table.table.shared,
+            &mut pass.seat,
+            &mut self.machine,
+            goes_on,
+        ) {
             KeeperTold::Device => TurnAsk::Device,
             _ => TurnAsk::Over(turn_told(&mut self.machine)),
         }
+    }
+
+    /// Whether the writes of the commit in hand rest, before a sync.
+    pub fn rests(&self) -> bool
+        ensures { result ≡ self.now.machine.state.rests }
+    {
+        self.machine.rests()
     }
 
     /// Whether the next piece is a call of the device.
@@ -140,7 +158,7 @@ impl Keeper {
     {
         self.start_turn(table, pass);
         'pieces: loop {
-            match self.drive(table, pass) {
+            match self.drive(table, pass, true) {
                 TurnAsk::Device => self.device_step(table, pass, d),
                 TurnAsk::Over(answer) => return answer,
             }
