@@ -41,7 +41,7 @@ use Rattle.fkv_keeper.specs.declared.keepers.Keeping.{Keeping}
 use Rattle.fkv_keeper.specs.declared.keepers.Keeping.TheVariants.{Ended, Starts, Maintains, LoadsPhase, Enters, Copies, Seeks, Waits, Writes, Finishes}
 use Rattle.fkv_keeper.specs.Keeping.{KeeperState, is_copy_resting, copy_driven, copy_told, copied, points_known, ended, turned, turn_asked, commit_asked, start_ledto, maintain_ledto, copies, part_begun, must_rest, writes_taken_up, phase_ledto, enter_ledto, copy_ledto, seek_ledto, writes_begun, wait_ledto, finished, finish_ledto, keeping_next, keeping_given, write_ledto, writes_called, keeping_called}
 use Rattle.fkv_keeper.specs.KeeperRun.{KeeperEvent, BeginsTurn, BeginsCommit, Replies, Gets, Calls, begins, keeper_happens}
-use Rattle.fkv_keeper.specs.CheckpointLaws.{IsCopyPhase, IsCopyTakenUp, IsCopyDriven, IsCopyAfter, IsCopyBegun, IsBegun, IsFinished, IsCommitAfter, CopiesOnce, KeepsLists, MayFollow, MayStep, IsPhaseLoaded, DoesOneThing}
+use Rattle.fkv_keeper.specs.CheckpointLaws.{IsCopyPhase, IsCopyTakenUp, IsCopyBegun, IsBegun, IsFinished, IsCommitAfter, CopiesOnce, KeepsLists, MayFollow, MayStep, IsPhaseLoaded, DoesOneThing}
 use Rattle.fkv_keeper.proofs.Happens.{happens_at, happens_so}
 use Rattle.fkv_keeper.proofs.Rests.{come_follows, each_rests, may_step}
 
@@ -57,8 +57,8 @@ record IsMoved (p : Places) (s : KeeperState) (event : KeeperEvent) (a : KeeperS
   one : IsStepped s event a
 
 -- where it is by no writes that rest
-stepped : (s a : KeeperState) → MayFollow s.step a.step → MayStep s.rests s.step a.step
-stepped s a follows = may_step s.rests s.step a.step follows
+stepped : (s : KeeperState) (after : Keeping) → MayFollow s.step after → MayStep s.rests s.step after
+stepped s after follows = may_step s.rests s.step after follows
 
 -- a state with this commit, this copy, these lists and these points
 record IsQuiet (step : Keeping) (s t : KeeperState) : Type 0 where
@@ -78,7 +78,7 @@ quiet : (p : Places) (s : KeeperState) (step : Keeping) (event : KeeperEvent) (a
 quiet p s step event a e its follows begins once = record {
   copies = record { begins = begins; copy = inl its.copy; commit = same_commit s a s.commit its.commit };
   lists = record { lists = inl (its.last, its.lost); used = λ other. its.used; points = λ other next. its.points (λ seeks. other (e ∙ seeks)) };
-  one = record { follows = stepped s a (subst (λ (x : Keeping). MayFollow x a.step) (sym e) follows); once = λ loads. once (subst (λ (x : Keeping). IsPhaseLoaded x event) e loads) };
+  one = record { follows = stepped s a.step (subst (λ (x : Keeping). MayFollow x a.step) (sym e) follows); once = λ loads. once (subst (λ (x : Keeping). IsPhaseLoaded x event) e loads) };
 }
 
 -- one with which a call ends

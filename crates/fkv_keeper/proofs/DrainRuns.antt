@@ -39,7 +39,7 @@ use Rattle.fkv_keeper.specs.declared.answers.KeeperTold.{KeeperTold}
 use Rattle.fkv_keeper.specs.declared.answers.KeeperTold.TheVariants.{Turned, CommitRefused}
 use Rattle.fkv_keeper.specs.declared.keepers.Keeping.{Keeping}
 use Rattle.fkv_keeper.specs.declared.keepers.Keeping.TheVariants.{Ended, Starts, Maintains, LoadsPhase, Enters, Copies, Seeks, Waits, Writes, Finishes}
-use Rattle.fkv_keeper.specs.Keeping.{asked_for, KeeperState, must_rest, parts_begun, is_copy_resting, copy_asked, copy_driven, copy_told, device_passed, end_told, keeping_ask, ended, turned, turn_over, turn_asked, commit_asked, start_ledto, maintain_ledto, copies, part_begun, phase_ledto, enter_ledto, copy_ledto, seek_ledto, writes_begun, wait_ledto, finished, finish_ledto, keeping_next, keeping_given, write_ledto, writes_called, keeping_called}
+use Rattle.fkv_keeper.specs.Keeping.{asked_for, KeeperState, must_rest, parts_begun, is_copy_resting, copy_driven, copy_told, device_passed, end_told, keeping_ask, ended, turned, turn_over, turn_asked, commit_asked, start_ledto, maintain_ledto, copies, part_begun, phase_ledto, enter_ledto, copy_ledto, seek_ledto, writes_begun, wait_ledto, finished, finish_ledto, keeping_next, keeping_given, write_ledto, writes_called, keeping_called}
 use Rattle.fkv_keeper.specs.KeeperRun.{KeeperEvent, BeginsTurn, BeginsCommit, Replies, Gets, Calls, is_in_hand, is_calling, keeper_happens, keeper_run, IsOpened}
 use Rattle.fkv_keeper.specs.DrainLaws.{HasSoughtAll, told_anew, told_after, call_told}
 use Rattle.fkv_keeper.proofs.DrainSought.{passed_told, still_sought, now_sought}

@@ -1,6 +1,6 @@
 -- The points, the end and the epoch of the commit in hand are those that the search has told which has begun last.
 use Rattle.std.proofs.Common.{◌≡◌, ℕ, ◌∙◌, ◌⊎◌, inl, inr, List, [], ◌∷◌, refl, ap, sym, subst, Bool, true, false, length}
-use Rattle.std.specs.Prelude.{not, ◌+◌, Option, Some, None, ◌==◌, ◌++◌, nat_lt, max, if◌then◌else◌, ⊤}
+use Rattle.std.specs.Prelude.{not, ◌+◌, Option, Some, None, ◌==◌, nat_lt, max, if◌then◌else◌, ⊤}
 use Rattle.fkv_base.specs.declared.numbers.Addr.{Addr}
 use Rattle.fkv_base.specs.declared.numbers.Serial.{Serial}
 use Rattle.fkv_base.specs.declared.numbers.Version.{Version}

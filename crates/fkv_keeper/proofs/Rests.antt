@@ -8,7 +8,6 @@ use Rattle.fkv_base.specs.declared.shapes.Shape.{Shape}
 use Rattle.fkv_words.specs.declared.phase_words.PhaseSaid.{PhaseSaid}
 use Rattle.fkv_words.specs.declared.phase_words.PhaseSaid.TheVariants.{Says}
 use Rattle.fkv_words.specs.PhaseWords.{phase_said}
-use Rattle.fkv_record.specs.declared.lost_ranges.LostRange.{LostRange}
 use Rattle.fkv_plane.specs.declared.actions.Action.{Action}
 use Rattle.fkv_plane.specs.declared.asks.Ask.{Ask}
 use Rattle.fkv_plane.specs.declared.asks.Ask.TheVariants.{Done}
@@ -26,12 +25,12 @@ use Rattle.fkv_commit.specs.declared.waiting.WaitAnswer.{WaitAnswer}
 use Rattle.fkv_commit.specs.declared.waiting.WaitAnswer.TheVariants as wait
 use Rattle.fkv_commit.specs.Entering.{enter_ask, enter_next}
 use Rattle.fkv_commit.specs.Finishing.{finish_ask, finish_next}
-use Rattle.fkv_commit.specs.Seeking.{SeekState, seek_ask, seek_next}
+use Rattle.fkv_commit.specs.Seeking.{seek_ask, seek_next}
 use Rattle.fkv_commit.specs.Starting.{start_begun, start_ask, start_next}
 use Rattle.fkv_commit.specs.Waiting.{wait_ask, wait_next}
 use Rattle.fkv_manifest.specs.declared.answers.WriteAnswer.{WriteAnswer}
 use Rattle.fkv_manifest.specs.declared.answers.WriteAnswer.TheVariants as write
-use Rattle.fkv_manifest.specs.Committing.{CommitWriter, commit_next, commit_answer}
+use Rattle.fkv_manifest.specs.Committing.{commit_next, commit_answer}
 use Rattle.fkv_maintain.specs.declared.maintaining.MaintainAnswer.{MaintainAnswer}
 use Rattle.fkv_maintain.specs.declared.maintaining.MaintainAnswer.TheVariants as maintain
 use Rattle.fkv_maintain.specs.Maintaining.{MaintainState, maintain_ask, maintain_next, maintain_given, maintain_called}
@@ -43,8 +42,7 @@ use Rattle.fkv_keeper.specs.declared.answers.KeeperTold.{KeeperTold}
 use Rattle.fkv_keeper.specs.declared.answers.KeeperTold.TheVariants.{Begun, TurnRefused, CommitRefused}
 use Rattle.fkv_keeper.specs.declared.keepers.Keeping.{Keeping}
 use Rattle.fkv_keeper.specs.declared.keepers.Keeping.TheVariants.{Ended, Starts, Maintains, LoadsPhase, Enters, Copies, Seeks, Waits, Writes, Finishes}
-use Rattle.fkv_keeper.specs.declared.last_commits.Checkpoint.{Checkpoint}
-use Rattle.fkv_keeper.specs.Keeping.{KeeperState, Finality, come_to, is_copy_resting, copy_driven, copy_told, asked_for, ended, turned, parts_begun, turn_asked, commit_asked, start_ledto, maintain_ledto, copies, copies_next, part_begun, writes_taken_up, phase_ledto, enter_ledto, copy_ledto, seek_ledto, writes_begun, wait_ledto, finished, finish_ledto, keeping_next, keeping_given, must_rest, rested, write_ledto, writes_called, keeping_called}
+use Rattle.fkv_keeper.specs.Keeping.{KeeperState, come_to, is_copy_resting, copy_driven, copy_told, asked_for, ended, turned, parts_begun, turn_asked, commit_asked, start_ledto, maintain_ledto, copies, copies_next, part_begun, writes_taken_up, phase_ledto, enter_ledto, copy_ledto, seek_ledto, writes_begun, wait_ledto, finished, finish_ledto, keeping_next, keeping_given, must_rest, rested, write_ledto, writes_called, keeping_called}
 use Rattle.fkv_keeper.specs.KeeperRun.{KeeperEvent, BeginsTurn, BeginsCommit, Replies, Gets, Calls, keeper_happens}
 use Rattle.fkv_keeper.specs.KeeperLaws.{MayRest}
 use Rattle.fkv_keeper.specs.CheckpointLaws.{MayFollow, MayStep}
@@ -206,7 +204,7 @@ pub each_rests : (shape : Shape) (p : Places) (s : KeeperState) (event : KeeperE
 each_rests shape p s event = subst (λ (x : KeeperState). RestsBy s event x) (happens_so shape p s event) (happens_rests shape p s s.step event refl)
 
 not_both : {X : Type 0} (b : Bool) → b ≡ false → b ≡ true → X
-not_both b no yes = let clash : true ≡ false = sym yes ∙ no in cc
+not_both b low high = let clash : true ≡ false = sym high ∙ low in cc
 
 -- so they begin to rest in one way alone
 pub begins_rest : (shape : Shape) (p : Places) (s : KeeperState) (event : KeeperEvent) → s.rests ≡ false → (keeper_happens shape p s event).rests ≡ true → BeginsRest s event (keeper_happens shape p s event)
