@@ -1,10 +1,10 @@
 //! Crashes behind each turn of a commit, in a store whose commits rest before each sync and in one whose commits don't.
-use crate::lines::Line::{Commit, Finish, Get, LogCommit, Refresh, Turn, Up};
+use crate::lines::Line::{Commit, Finish, Get, LogCommit, Poll, Refresh, Turn, Up};
 use crate::lines::{Line, turned};
 use crate::stores::{Store, crash, hold, opened_store, play, store_of, whole};
 use fkv_base::{Fault, Shape, Value};
 use fkv_core::Told;
-use fkv_session::Answer;
+use fkv_session::{Answer, Finished};
 use std::alloc::Global;
 use std::process::Abort;
 use std::test::Fail;
@@ -57,6 +57,21 @@ fn turns_of(alloc: Global, is_living: bool, begins: Line) -> Result<u64, Fault> 
     Ok(MANY)
 }
 
+/// What key 1 has, by a read that waits for a turn if the record is in the file alone.
+fn read(store: &mut Store) -> Option<u64> {
+    if let Some(Told::Session(0, Answer::Found(Value(value)))) = whole(store, Get(0, 1)) {
+        return Some(value);
+    }
+    let _ = whole(store, Turn);
+    match whole(store, Poll(0)) {
+        Some(Told::Session(0, Answer::Polled(finished, 0))) => match finished.as_slice() {
+            [Finished::Read(_, Some(Value(value)))] => Some(*value),
+            _ => None,
+        },
+        _ => None,
+    }
+}
+
 /// What key 1 has behind a crash there.
 fn recovered(
     alloc: Global,
@@ -64,16 +79,12 @@ fn recovered(
     begins: Line,
     turns: u64,
     torn: u8,
-) -> Result<Option<Told>, Fault> {
+) -> Result<Option<u64>, Fault> {
     let (store, _) = behind_turns(alloc, is_living, begins, turns)?;
     let mut store = store_of(alloc, crash(store, torn)?)?;
-    let told = whole(&mut store, Get(0, 1));
+    let value = read(&mut store);
     let _ = store.end();
-    Ok(told)
-}
-
-fn is_found(told: &Option<Told>, value: u64) -> bool {
-    *told == Some(Told::Session(0, Answer::Found(Value(value))))
+    Ok(value)
 }
 
 /// Behind each turn a crash leaves the old commit, and behind the last one the new one. Where the gate was opened, and its sync isn't made yet, it leaves
@@ -87,9 +98,9 @@ fn crashes_leave_a_commit(
 ) -> Result<(), Fault> {
     for turns in 0..last + 1 {
         for torn in TORN {
-            let told = recovered(alloc, is_living, begins, turns, torn)?;
+            let value = recovered(alloc, is_living, begins, turns, torn)?;
             let is_new = turns == last || (is_living && turns + 1 == last && torn == 165);
-            hold!(rt; is_found(&told, if is_new { 11 } else { 10 }));
+            hold!(rt; value == Some(if is_new { 11 } else { 10 }));
         }
     }
     Ok(())
