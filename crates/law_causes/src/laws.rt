@@ -33,7 +33,8 @@ pub fn law_of_refusals()
 {}
 
 /// What the keeper tells of the call that has begun last, once that is over. If it tells of a turn that it is refused, the turn has ended so, for a cause that
-/// stands then; and so it is with a commit. So a turn is refused with `Broken`, `Device`, `EpochsSpent` or `Memory`, and with nothing else. Who asks for the device is in a turn.
+/// stands then; and so it is with a commit. So a turn is refused with `Broken`, `Device`, `EpochsSpent` or `Memory`, and with nothing else. Who asks for the
+/// device is in a turn.
 pub fn law_of_last_calls()
     ensures { RefusalsHaveCauses }
 {}

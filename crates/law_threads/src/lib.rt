@@ -5,6 +5,7 @@ ghost use Rattle.std.specs.Prelude.{List};
 ghost use Rattle.law_threads.specs.Said as said;
 
 pub use law_order::{law_device_opens, law_guard_opens};
+use law_causes::law_of_last_calls;
 use law_order::{
     law_durable_never_falls, law_order, law_prefix, law_world_requests, law_world_sessions,
 };
@@ -32,6 +33,8 @@ pub fn law_threads<K>()
     ensures turns { (at : K → said.World) (key : K) (seen seen' : List said.Happening) → said.AreAllowed (said.plane at) seen' → said.RecoversWithin at key seen seen' }
     ensures finished { (at : K → said.World) → said.OfEachTurn at }
     ensures kinds { (at : K → said.World) → said.TellsKinds at }
+    ensures refused { (at : K → said.World) → said.OfEachRefusal at }
+    ensures goes_on { (at : K → said.World) → said.GoesOnFromWhatWasSeen at }
     ensures views { (at : K → said.World) → said.SharesOneHistory at }
 {
     law_order();
@@ -39,4 +42,5 @@ pub fn law_threads<K>()
     law_durable_never_falls();
     law_world_sessions();
     law_world_requests();
+    law_of_last_calls();
 }
