@@ -185,6 +185,12 @@ public:
         fkv_seen seen;
         check(fkv_wake(at_, &seen));
     }
+    /* The two have then seen what either had seen: what the one was told as done is in force for the other's later calls. Throws std::invalid_argument
+       if the other isn't another session of the same opening. */
+    void meet(Session &other) {
+        if (file_ != other.file_ || at_ == other.at_) throw std::invalid_argument("the session is of another opening of a store");
+        check(fkv_meet(at_, other.at_));
+    }
     /* The serial of the session's last update. */
     std::uint64_t serial() const { return told_by(fkv_serial); }
     /* The serial up to which a crash from now on keeps the session's updates. */

@@ -52,6 +52,25 @@ static void use_keys(fkv::Session &session) {
     session.wake();
 }
 
+/* A session does what the other then finds, in a thread that ends before they meet. */
+static void use_two(fkv::Store &store) {
+    fkv::Session first = store.join(0), second = store.join(3);
+    std::uint64_t left = 0;
+    std::thread([&] { left = first.increment(11, 5).value; }).join();
+    second.meet(first);
+    WANT(left == 5 && second.read(11) == 5u);
+    WANT(second.remove(11).serial > 0);
+    first.meet(second);
+    WANT(!first.read(11));
+    bool is_refused = false;
+    try {
+        first.meet(first);
+    } catch (const std::invalid_argument &) {
+        is_refused = true;
+    }
+    WANT(is_refused);
+}
+
 static void use_store(const std::string &path) {
     fkv::Store store = fkv::Store::open_or_make(path, fkv::Wish{1000, 4});
     WANT(refused([&] { fkv::Store::open(path); }).system() == EWOULDBLOCK);
@@ -89,6 +108,7 @@ static void use_store(const std::string &path) {
         first = std::move(second);
         WANT(first.get() == its && second.get() == nullptr && store.join(2).get() != its);
     }
+    use_two(store);
     {
         fkv::Session session = store.join(2);
         WANT(refused([&] { store.renew(); }).fault() == FKV_HANDLE_OUT && session.read(8) == 4u);

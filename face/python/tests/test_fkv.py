@@ -365,6 +365,26 @@ class Stores(OverFile):
             self.assertEqual([shared[it] for it in range(50)], [120] * 50)
             shared.close()
 
+    def test_meetings(self):
+        told, mutex = [0, 0], threading.Lock()
+
+        def tell(sessions, own):
+            for _ in range(200):
+                with mutex:
+                    mine, other = sessions[own], sessions[1 - own]
+                    told[own] = mine.increment(own)
+                    mine.meet(other)
+                    self.assertEqual(mine.get(1 - own, 0), told[1 - own])
+
+        with self.open() as store, store.join() as first, store.join() as second:
+            threads = [threading.Thread(target=tell, args=((first, second), it)) for it in (0, 1)]
+            for it in threads:
+                it.start()
+            for it in threads:
+                it.join()
+            self.assertEqual(told, [200, 200])
+            self.assertRaises(ValueError, first.meet, first)
+
     def test_what_nobody_closed(self):
         warnings.simplefilter("always")
         with warnings.catch_warnings(record=True) as said:

@@ -263,6 +263,7 @@ unsafe extern "C" {
     pub fn fkv_wake(session: *mut Session, seen: *mut Seen) -> i32;
     pub fn fkv_durable(session: *mut Session, serial: *mut u64) -> i32;
     pub fn fkv_serial(session: *mut Session, serial: *mut u64) -> i32;
+    pub fn fkv_meet(session: *mut Session, other: *mut Session) -> i32;
     pub fn fkv_spread(key: u64) -> u64;
     pub fn fkv_spread_back(word: u64) -> u64;
     pub fn fkv_version() -> *const c_char;

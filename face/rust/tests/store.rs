@@ -1,6 +1,6 @@
 //! The crate over real files: each call once, and what it refuses.
 use fkv::{
-    Error, Finished, How, Keeper, Keeping, Phase, Read, RenewedKeys, Shape, Store, Update, Work,
+    Error, Finished, How, Keeper, Keeping, Phase, Read, RenewedKeys, Session, Shape, Store, Update, Work,
     formats, renew, spread, spread_back, version,
 };
 use std::io::ErrorKind;
@@ -377,6 +377,52 @@ fn a_session_that_is_dropped_without_a_keeper_holds_up_no_commit() {
         assert_eq!(session.read(key).unwrap(), Some(key));
     }
     drop((session, keeper));
+}
+
+/// Adds to the session's own key, tells how far it has come, and finds what the other was told.
+fn tell(session: &mut Session, other: &mut Session, told: &mut [u64; 2], own: usize) {
+    told[own] = session.increment(own as u64, 1).unwrap().value;
+    session.meet(other).unwrap();
+    let of_other = told[1 - own];
+    let found = session.read(1 - own as u64).unwrap();
+    assert_eq!(found.unwrap_or(0), of_other);
+    session.tick().unwrap();
+}
+
+#[test]
+fn who_was_told_of_an_update_finds_it() {
+    let path = Path::new("told");
+    let store = path.store();
+    let keeper = store.start(Keeping::default()).unwrap();
+    let sessions = [store.join(0).unwrap(), store.join(1).unwrap()];
+    let both = Mutex::new((sessions, [0, 0]));
+    thread::scope(|threads| {
+        for own in [0, 1] {
+            let both = &both;
+            threads.spawn(move || {
+                for _ in 0..200 {
+                    let (sessions, told) = &mut *both.lock().unwrap();
+                    let [first, second] = sessions;
+                    match own {
+                        0 => tell(first, second, told, 0),
+                        _ => tell(second, first, told, 1),
+                    }
+                }
+            });
+        }
+    });
+    let (sessions, told) = both.into_inner().unwrap();
+    assert_eq!(told, [200, 200]);
+    drop((sessions, keeper));
+}
+
+#[test]
+#[should_panic(expected = "another opening")]
+fn a_session_of_another_store_is_refused() {
+    let (path, other_path) = (Path::new("session"), Path::new("other_session"));
+    let (store, other) = (path.store(), other_path.store());
+    let (mut session, mut others) = (store.join(0).unwrap(), other.join(0).unwrap());
+    let _ = session.meet(&mut others);
 }
 
 #[test]

@@ -117,6 +117,7 @@ CALLS = {
     "fkv_add_many": [c_void_p, WORD, c_size_t, WORD, c_size_t, POINTER(CEachUpdate), c_size_t],
     "fkv_sleep": [c_void_p], "fkv_wake": [c_void_p, POINTER(CSeen)],
     "fkv_durable": [c_void_p, WORD], "fkv_serial": [c_void_p, WORD],
+    "fkv_meet": [c_void_p, c_void_p],
 }
 RESULTS = {"fkv_version": c_char_p, "fkv_formats": c_char_p, "fkv_name_of": c_char_p, "fkv_text_of": c_char_p, "fkv_shape_of": CShape,
            "fkv_last_commit": c_uint64, "fkv_abandon": None}
