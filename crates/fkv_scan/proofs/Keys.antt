@@ -1,5 +1,5 @@
 -- Maps by numbers: what a test of keys says.
-use Rattle.std.proofs.Common.{◌≡◌, ◌≢◌, ◌⊎◌, inl, inr, ⊎_elim, ℕ, Bool, true, false, cond, Option, Some, None, refl, sym, ap, ◌∙◌}
+use Rattle.std.proofs.Common.{◌≡◌, ◌⊎◌, inl, inr, ⊎_elim, ℕ, Bool, true, false, cond, Option, Some, None, refl, sym, ap, ◌∙◌}
 use Rattle.std.specs.Ordering.{nat_cmp, is_eq}
 use Rattle.std.specs.declared.cmp.Ordering.{Ordering}
 use Rattle.std.specs.declared.cmp.Ordering.TheVariants.{Less, Equal, Greater}
@@ -24,13 +24,6 @@ at_itself h = ap is_eq (sym (nat_cmp_is h h Equal refl))
 
 pub at_same : (h q : ℕ) → h ≡ q → is_eq (nat_cmp h q) ≡ true
 at_same h q same = ap (λ n. is_eq (nat_cmp h n)) (sym same) ∙ at_itself h
-
-other_by : (b : Bool) (h q : ℕ) → is_eq (nat_cmp h q) ≡ b → h ≢ q → b ≡ false
-other_by true h q same other = absurd (other (is_same h q same))
-other_by false h q same other = refl
-
-pub at_other : (h q : ℕ) → h ≢ q → is_eq (nat_cmp h q) ≡ false
-at_other h q other = other_by (is_eq (nat_cmp h q)) h q refl other
 
 pub some_is : {X : Type 0} (new x : X) → Some new ≡ Some x → new ≡ x
 some_is new x is = cc

@@ -1,7 +1,6 @@
 -- A valid record is taken in.
-use Rattle.std.proofs.Common.{◌≡◌, ℕ, ◌+◌, ◌≤◌, List, Bool, true, false, cond, Option, Some, refl, sym, ap, subst, ◌∙◌}
+use Rattle.std.proofs.Common.{◌≡◌, ◌≢◌, ℕ, ◌+◌, ◌≤◌, List, Bool, true, false, Option, Some, refl, sym, ap, subst, ◌∙◌}
 use Rattle.std.specs.Prelude.{nat_lt, ◌↔◌}
-use Rattle.std.specs.Ordering.{nat_cmp, is_eq}
 use Rattle.fkv_base.specs.declared.numbers.Addr.{Addr}
 use Rattle.fkv_base.specs.declared.numbers.Version.{Version}
 use Rattle.fkv_record.specs.declared.lost_ranges.LostRange.{LostRange}
@@ -15,10 +14,9 @@ use Rattle.fkv_scan.specs.Known.{Knows, KnowsOf}
 use Rattle.fkv_scan.specs.Parts.{Tells, IsTakenIn}
 use Rattle.fkv_scan.specs.Steps.{links, met, known_or}
 use Rattle.fkv_scan.proofs.Meeting.{links_is, links_is_not}
-use Rattle.fkv_scan.proofs.Keys.{at_itself, at_other}
 use Rattle.fkv_scan.proofs.Knowing.{knows_met, knows_or}
 
-module _ (log : Log) (m : MetRecord) (tells : Tells log m) (at : ℕ → Option HomeScan) (known : HomeScan) (ranges : List LostRange) (is_lost leads : Bool) (known_is : known ≡ known_or (at m.home)) (ranges_are : ranges ≡ log.lost)
+module _ (log : Log) (m : MetRecord) (tells : Tells log m) (at : ℕ → Option HomeScan) (ranges : List LostRange) (is_lost leads : Bool) (ranges_are : ranges ≡ log.lost)
     (lost_is : is_lost ≡ nat_lt 0 (losses ranges m.addr.0 m.version.0)) (leading : is_lost ≡ true → log.start ≤ m.previous.0 → (leads ≡ true) ↔ Has (IsValid log m.home) m.previous.0)
     (knows : KnowsOf log m.home m.addr.0 (at m.home)) where
   abbrev x : Record
@@ -30,11 +28,14 @@ module _ (log : Log) (m : MetRecord) (tells : Tells log m) (at : ℕ → Option 
   lost_too : is_lost ≡ nat_lt 0 (losses_of log m.addr.0 x)
   lost_too = lost_is ∙ ap (λ r. nat_lt 0 (losses r m.addr.0 m.version.0)) ranges_are ∙ ap (λ n. nat_lt 0 (losses log.lost m.addr.0 n)) tells.version
 
+  abbrev known : HomeScan
+  known = known_or (at m.home)
+
   version_is : m.version ≡ record { 0 = version_of log x }
   version_is = ap (λ n. record { 0 = n }) tells.version
 
   knowing : Knows log own m.addr.0 known
-  knowing = subst (λ h. Knows log h m.addr.0 known) tells.home (subst (λ s. Knows log m.home m.addr.0 s) (sym known_is) (knows_or log m.home m.addr.0 (at m.home) knows))
+  knowing = subst (λ h. Knows log h m.addr.0 known) tells.home (knows_or log m.home m.addr.0 (at m.home) knows)
 
   leading_too : is_lost ≡ true → log.start ≤ x.header.previous.0 → (leads ≡ true) ↔ Has (IsValid log own) x.header.previous.0
   leading_too = subst (λ (p : Addr). is_lost ≡ true → log.start ≤ p.0 → (leads ≡ true) ↔ Has (IsValid log own) p.0) tells.previous
@@ -53,17 +54,15 @@ module _ (log : Log) (m : MetRecord) (tells : Tells log m) (at : ℕ → Option 
       (subst (λ (p : Addr). Knows log own (m.addr.0 + 1) (met known m.addr p m.version is_lost log.start log.version)) (sym tells.previous)
       (subst (λ (v : Version). Knows log own (m.addr.0 + 1) (met known m.addr x.header.previous v is_lost log.start log.version)) (sym version_is) of_record))
 
-  pub taken_off : links known m.previous m.version.0 is_lost leads log.start ≡ false → IsTakenIn log m at at false
-  taken_off off = (
-    record { held = x; fits = tells.fits; valid = tells.valid; here = links_is_not log m.addr.0 x known leads knowing is_lost lost_too leading_too (links_too ∙ off) },
-    λ q other. refl,
+  -- whether it is on its chain, with what is known then
+  pub taken_in : (next : ℕ → Option HomeScan) (linked : Bool) → linked ≡ links known m.previous m.version.0 is_lost leads log.start
+      → (linked ≡ true → next m.home ≡ Some (met known m.addr m.previous m.version is_lost log.start log.version)) → ((q : ℕ) → m.home ≢ q → next q ≡ at q) → IsTakenIn log m at next linked
+  taken_in next true is told others = (
+    record { held = x; fits = tells.fits; linked = λ valid. taken_on (sym is) },
+    subst (λ o. KnowsOf log m.home (m.addr.0 + 1) o) (sym (told refl)) (known_on (sym is)),
+    others,
   )
-
-  pub taken : (next : ℕ → Option HomeScan) (new : HomeScan) → links known m.previous m.version.0 is_lost leads log.start ≡ true → new ≡ met known m.addr m.previous m.version is_lost log.start log.version
-      → ((q : ℕ) → next q ≡ cond (is_eq (nat_cmp m.home q)) (Some new) (at q)) → IsTakenIn log m at next true
-  taken next new on new_is updates = (
-    record { held = x; fits = tells.fits; linked = λ valid. taken_on on },
-    subst (λ o. KnowsOf log m.home (m.addr.0 + 1) o) (sym (updates m.home ∙ ap (λ b. cond b (Some new) (at m.home)) (at_itself m.home)))
-        (subst (λ s. Knows log m.home (m.addr.0 + 1) s) (sym new_is) (known_on on)),
-    λ q other. updates q ∙ ap (λ b. cond b (Some new) (at q)) (at_other m.home q other),
+  taken_in next false is told others = (
+    record { held = x; fits = tells.fits; valid = tells.valid; here = links_is_not log m.addr.0 x known leads knowing is_lost lost_too leading_too (links_too ∙ sym is) },
+    others,
   )

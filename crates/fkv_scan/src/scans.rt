@@ -72,12 +72,11 @@ fn meet_all<D: Device>(
     let mut from = slot.first.0;
     while from < slot.end.0 {
         let to = part_end(from, slot.end.0);
-        let start = Addr(from);
-        from = to;
-        match meet_part(alloc, d, shape, slot, homes, start, Addr(to)) {
+        match meet_part(alloc, d, shape, slot, homes, Addr(from), Addr(to)) {
             Ok(is_newer) => newer = newer || is_newer,
             Err(fault) => return Err(fault),
         }
+        from = to;
     }
     Ok(newer)
 }

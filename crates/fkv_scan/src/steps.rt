@@ -1,7 +1,8 @@
 //! One record of the scan.
-ghost use Rattle.std.specs.Prelude.{◌≡◌, ◌≤◌, ◌<◌, ◌^◌, ◌↔◌, List, true, nat_lt, IfOk, IfErr};
+ghost use Rattle.std.specs.Prelude.{◌≡◌, ◌≢◌, ℕ, ◌≤◌, ◌<◌, ◌^◌, ◌↔◌, List, true, nat_lt, IfOk, OnOk, IfErr, OnErr, Some, Err};
 ghost use Rattle.std.specs.Ordering.{nat_cmp};
 ghost use Rattle.std.specs.BTreeMap.{get};
+ghost use Rattle.fkv_base.specs.declared.faults.Fault.TheVariants.{Memory};
 ghost use Rattle.fkv_record.specs.declared.manifest_slots.ManifestSlot.{ManifestSlot};
 ghost use Rattle.fkv_record.specs.declared.triples.Triple.{Triple};
 ghost use Rattle.fkv_scan.specs.Log.{log_in};
@@ -9,7 +10,7 @@ ghost use Rattle.fkv_scan.specs.Records.{IsValid, losses};
 ghost use Rattle.fkv_scan.specs.Scan.{Has};
 ghost use Rattle.fkv_scan.specs.Known.{KnowsOf};
 ghost use Rattle.fkv_scan.specs.Parts.{Tells, IsTakenIn};
-ghost use Rattle.fkv_scan.specs.Steps.{known_or};
+ghost use Rattle.fkv_scan.specs.Steps.{known_or, links, met};
 ghost use Rattle.fkv_disk.specs.Kinds.{OnlyReads};
 ghost use Rattle.fkv_disk.specs.Quiet.{IsQuiet, IsHindrance};
 
@@ -55,14 +56,26 @@ pub(crate) fn stands<D: Device>(
     })
 }
 
-/// What is known of a home.
-fn known_of(homes: &BTreeMap<u64, HomeScan>, home: u64) -> HomeScan
-    ensures { result ≡ known_or (get nat_cmp homes.now home) }
+/// Takes what a valid record tells into what is known of its home, by one look-up, if the record is on the chain of that home.
+/// Whether it is.
+fn put_in(
+    homes: &mut BTreeMap<u64, HomeScan>,
+    found: &MetRecord,
+    is_lost: bool,
+    leads: bool,
+    slot: &ManifestSlot,
+) -> Result<bool, Fault>
+    ensures linked { IfOk result (λ on. on ≡ links (known_or (get nat_cmp homes.old found.now.home)) found.now.previous found.now.version.0 is_lost leads slot.now.first.0) }
+    ensures known { IfOk result (λ on. on ≡ true → get nat_cmp homes.new found.now.home ≡ Some (met (known_or (get nat_cmp homes.old found.now.home)) found.now.addr found.now.previous found.now.version is_lost slot.now.first.0 slot.now.number)) }
+    ensures others { OnOk result ((q : ℕ) → found.now.home ≢ q → get nat_cmp homes.new q ≡ get nat_cmp homes.old q) }
+    ensures err { OnErr result (result ≡ Err Memory) }
 {
-    match homes.get(&home) {
-        Some(known) => *known,
-        None => HomeScan::unled(),
+    let known = homes.entry(found.home)?.or_insert(HomeScan::unled());
+    let linked = known.links(found, is_lost, leads, slot.first);
+    if linked {
+        *known = known.met(found, is_lost, slot.first, slot.number);
     }
+    Ok(linked)
 }
 
 /// Whether a lost record that leads into the scan leads to a valid record of its home. Of another record it says nothing.
@@ -100,12 +113,8 @@ pub(crate) fn take_in<D: Device>(
     ensures quiet { IsQuiet D.honest D.seen D.may_leave D.moment D.left_since D.failed d.old d.new }
     ensures reads { OnlyReads D.refuses D.expects d.old d.new }
 {
-    let known = known_of(homes, met.home);
     let lost = is_lost(&slot.lost.ranges, met.addr, met.version);
     let leads = leads_within(d, shape, slot, lost, met.previous, met.home)?;
-    if !known.links(met, lost, leads, slot.first) {
-        return Ok(false);
-    }
-    homes.insert(met.home, known.met(met, lost, slot.first, slot.number))?;
-    Ok(true)
+    let linked = put_in(homes, met, lost, leads, slot)?;
+    Ok(linked)
 }
