@@ -62,11 +62,10 @@ pub fn read_triples<D: Device>(
         let Some(triple) = triple_at(d, shape, slot, i)? else {
             return Err(Fault::Damaged(Damage::Triple, i));
         };
-        let home = triple_home(&triple);
-        if homes.contains_key(&home) {
+        let before = homes.insert(triple_home(&triple), i)?;
+        if before.is_some() {
             return Err(Fault::Damaged(Damage::Triple, i));
         }
-        homes.insert(home, i)?;
         triples.push(triple)?;
     }
     Ok(triples)
