@@ -21,8 +21,9 @@ use fkv_record::ManifestSlot;
 use std::alloc::Global;
 use std::collections::BTreeMap;
 
-/// How many addresses a part has at most. What is kept of its records takes 32 bytes each, and as many while they are sorted.
-const PART: u64 = 1 << 20;
+/// How many addresses a part has at most. What is kept of its records takes 32 bytes each, and twice as many while they are sorted:
+/// 16 MiB.
+const PART: u64 = 1 << 18;
 
 /// Where the part ends that begins at the one address, where all end at the other.
 pub(crate) fn part_end(from: u64, end: u64) -> u64
