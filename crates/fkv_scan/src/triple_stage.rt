@@ -62,7 +62,8 @@ pub fn read_triples<D: Device>(
         let Some(triple) = triple_at(d, shape, slot, i)? else {
             return Err(Fault::Damaged(Damage::Triple, i));
         };
-        let before = homes.insert(triple_home(&triple), i)?;
+        let home = triple_home(&triple);
+        let before = homes.insert(home, i)?;
         if before.is_some() {
             return Err(Fault::Damaged(Damage::Triple, i));
         }

@@ -25,7 +25,7 @@ returns-then-is_some-clause-err g c = λ claim.
     let same = ap (λ image. checkpoint_in image c.args.shape c.args.slot.now) (quiet.same_bytes claim) in
     let reads = subst (λ at. (x : Triple) → (c.in_ok-triple.field-0 ≡ Some x) ↔ IsTripleAt at c.loop-i.i x) same (c.in_ok-triple.ensures.ok (quiet.premise.0 claim)) in
     fault_again here c.loop-i.triples.items (get nat_cmp c.loop-i.homes) c.loop-i.i c.args.slot.now.end.0 c.loop-i.invariant.seen (c.loop-i.invariant.read claim) c.in_ok-triple.field-0 reads c.loop-i-test.true
-    c.in-Some.triple c.triple_home.result c.in-Some.is c.triple_home.ensures (ap is_some (sym c.in_ok-before.ensures.old) ∙ sym c.is_some.ensures ∙ c.if-is_some.true)
+    c.in-Some.triple c.triple_home-home.result c.in-Some.is c.triple_home-home.ensures (ap is_some (sym c.in_ok-before.ensures.old) ∙ sym c.is_some.ensures ∙ c.if-is_some.true)
 
 pub loop-i-preserved : goal.loop-i-preserved
 loop-i-preserved g c =
@@ -35,7 +35,7 @@ loop-i-preserved g c =
       quiet = quiet_on g.D.Device.honest g.D.Device.seen g.D.Device.may_leave g.D.Device.moment g.D.Device.left_since g.D.Device.failed c.args.d.now c.loop-i.d c.triple_at.new.d quiet c.in_ok-triple.ensures.quiet;
       reads = more_reads g.D.Device.refuses g.D.Device.expects c.args.d.now c.loop-i.d c.triple_at.new.d c.loop-i.invariant.reads c.in_ok-triple.ensures.reads;
       seen = subst (λ triples. AreSeen triples (get nat_cmp c.insert.new.self) (c.loop-i.i + 1) c.args.slot.now.end.0) (sym pushed)
-          (seen_next c.loop-i.triples.items (get nat_cmp c.loop-i.homes) c.loop-i.i c.args.slot.now.end.0 c.loop-i.invariant.seen c.in-Some.triple c.triple_home.result c.triple_home.ensures
+          (seen_next c.loop-i.triples.items (get nat_cmp c.loop-i.homes) c.loop-i.i c.args.slot.now.end.0 c.loop-i.invariant.seen c.in-Some.triple c.triple_home-home.result c.triple_home-home.ensures
           (ap is_some (sym c.in_ok-before.ensures.old) ∙ sym c.is_some.ensures ∙ c.if-is_some.false) (get nat_cmp c.insert.new.self) (c.in_ok-triple.ensures.in_log c.in-Some.triple c.in-Some.is) c.in_ok-before.ensures.updates.0);
       read = λ claim.
           let here = checkpoint_in (g.D.Device.seen c.args.d.now) c.args.shape c.args.slot.now in
