@@ -30,7 +30,10 @@ enum {
     /* Bytes that the copy of a full commit takes for each bucket. */
     COPY_SIZE = 112,
     /* An opening has the store's words twice for a moment, and so many bytes for each key. (measured: 170 to 230) */
-    OPENED_SIZE = 200
+    OPENED_SIZE = 200,
+    /* Before it has them, recovery sorts the records behind the checkpoint, so many at once: `PART` of crates/fkv_scan/src/parts.rt. */
+    SORTED_SIZE = 64,
+    MOST_SORTED = 1 << 18
 };
 
 static const uint64_t MOST_DISK_PAGES = UINT64_C(1) << 30;
@@ -150,7 +153,7 @@ int32_t fkv_size_of(const fkv_shape *shape, fkv_size *size) {
     uint64_t keys = keys_of(shape);
     *size = (fkv_size){
         .memory_bytes = memory_of(shape),
-        .opening_bytes = 2 * 8 * words_of(shape) + OPENED_SIZE * keys,
+        .opening_bytes = most(2 * 8 * words_of(shape), SORTED_SIZE * least(shape->page * shape->disk_pages, MOST_SORTED)) + OPENED_SIZE * keys,
         .file_bytes = fkv_log_place(shape) + RECORD_SIZE * shape->page * shape->disk_pages,
         .keys = keys,
         .records = shape->page * shape->disk_pages - 1,
