@@ -68,23 +68,31 @@ enum Judged {
     Spoiled,
 }
 
-/// What a word is to the search.
-#[inline]
+/// What a word is to the search. The tag comes first: most words that end a search have it.
+#[inline(always)]
 fn judge(word: u64, tag: u64) -> Judged
     ensures here { result ≡ Here → (word ≡ 0) ⊎ ((is_entry word ≡ true) × (word / 2 ^ 48 ≡ tag)) }
     ensures other { result ≡ Other → (is_entry word ≡ true) × ¬ (word / 2 ^ 48 ≡ tag) }
 {
-    if word == 0 {
-        return Judged::Here;
-    }
-    let entry = is_entry(word);
-    if !entry {
+    if word >> 48 == tag {
+        let entry = is_entry(word);
+        if entry || word == 0 {
+            return Judged::Here;
+        }
         return Judged::Spoiled;
     }
-    if word >> 48 == tag {
-        Judged::Here
-    } else {
+    let addr = addr_of(word);
+    if addr == 0 {
+        if word == 0 {
+            return Judged::Here;
+        }
+        return Judged::Spoiled;
+    }
+    let entry = is_entry(word);
+    if entry {
         Judged::Other
+    } else {
+        Judged::Spoiled
     }
 }
 

@@ -15,16 +15,17 @@ const ADDR_MASK: u64 = (1 << 48) - 1;
 const LAST_MARK: u64 = 8191;
 
 /// Below it are the places of the shared words, of which each has a cache line of its own.
-const PAST_SHARED: usize = 24;
+const PAST_SHARED: i64 = 24;
 
 /// The place. The compiler knows from here on that it isn't a shared word's, nor are those shortly behind it. So no step at one of them asks where it lies.
+/// One test of a number with a sign says that it is neither below nor very large.
 #[inline(always)]
 pub(crate) fn past_shared(place: usize) -> usize
     requires above { 24 ≤ place }
     requires fits { place < 2 ^ 62 }
     ensures { result ≡ place }
 {
-    if place.wrapping_sub(PAST_SHARED) >= 1 << 62 {
+    if (place as i64) < PAST_SHARED {
         unreachable!();
     }
     place
