@@ -296,6 +296,7 @@ static void *keep(void *its_file) {
         if (fkv_has_turns(file)) rest(&run);
         else if (!file->stops) pthread_cond_wait(&file->work, &file->lock);
     }
+    atomic_store(&file->is_behind, false);
     file->runs = false;
     fkv_find_end(file);
     pthread_cond_broadcast(&file->news);

@@ -66,9 +66,9 @@ typedef void fkv_unwarmed_fn(void *user);
 /*
  * Sessions that may be asked for, at most. Each living store of two sessions or more has one of the library's own, by which memory is kept
  * warm (fkv_start): the last one of its file. It is nobody else's, whether memory is kept warm or not. The calls of this header take and
- * tell the other sessions alone. So fkv_make_file and the renewals give a file one session more than its shape says, and a file with n of
- * fkv_image, or of an older library, has n - 1 for users. A store of one session has none for the library, and neither has a specified
- * store (FKVSTOR1): there all are the user's.
+ * tell the other sessions alone. So fkv_make_file and the renewals give a file one session more than its shape says: who opens that by
+ * fkv_open of fkv.h has it too. A file with n of fkv_image, or of an older library, has n - 1 for users. A store of one session has none
+ * for the library, and neither has a specified store (FKVSTOR1): there all are the user's.
  */
 #define FKV_MOST_JOINED 31
 
@@ -321,21 +321,22 @@ typedef struct {
  * made; who polls by himself calls fkv_nudge. While no session is joined it rests 100 milliseconds, or `turn_us` if that is longer. In a
  * commit it rests at most 50 microseconds, and 20 as that begins.
  *
- * Memory is kept warm. Records leave it in their order, and what is only read would so be read from the file some day. So between two turns,
- * before a page's frame is used again, the thread keeps each record there that is the newest of its home, by the library's own session
+ * Memory is kept warm. Records leave it in their order, so what is only read would be read from the file some day. Between two turns, before
+ * a page's frame is used again, the thread keeps each record there that is the newest of its home, by the library's own session
  * (FKV_MOST_JOINED): fkv_keep makes a new record of it. It keeps each key too that fkv_read or fkv_read_many has found in the file alone.
- * Serials, points and values of users stay as they are. An idle store does none of it, and it ends by itself. What it may take:
+ * Serials, points and values of users stay as they are. A store in which nothing is appended and found does none of it. What it may take:
  *
- *   the log     Of all records that the log has room for in the store's life, an eighth at most are the library's, and for reads no more than
- *               half of those that are there. So -FKV_LOG_FULL comes by that eighth earlier at most. Where a sixteenth of that room is left,
- *               or 65,536 records, nothing is kept any more. A renewal begins anew
- *   the thread  half of its time at most, and while a commit waits for sessions none. If a page is about to leave memory, it first looks at
- *               up to 16,384 records all the same, for a few milliseconds
+ *   log     Of all records that the log has room for in the store's life an eighth at most are the library's, and for reads no more than half
+ *           of those that are there. So -FKV_LOG_FULL comes by an eighth of the log earlier at most. Nothing is kept any more where a
+ *           sixteenth of that room is left, or 65,536 records if that is more. A renewal begins anew
+ *   time    Half of the thread's at most, and none while a commit waits for sessions. If it is behind with what is about to leave memory, it
+ *           looks at up to 16,384 records before each turn all the same: a few milliseconds. Updates by calls of this header wait meanwhile,
+ *           0.2 seconds at most, and refresh their sessions. So does who waits for a turn
  *
- * Where memory has no room for the newest records of all homes, more than three in four of those that leave it are such. Then pages are let go
- * as they are, until these are half at most. If several keys have one home, only the last updated of them is kept.
+ * If memory has no room for the newest records of all homes, more than three in four of those that leave it are such. Then pages are let go
+ * as they are, until they are half at most. Of keys that share a home only the last updated is kept.
  *
- * It can't be if the store has no session for it, if its pages in memory are fewer than 4 or all but one mutable, or if its log has room for
+ * It can't be if the store has no session for it, if its pages in memory are fewer than 4 or all but one are mutable, or if its log has room for
  * 65,536 records at most. Then `unwarmed` is called, once for each opening.
  * 0; -FKV_HANDLE_TAKEN where it runs already, -FKV_DEVICE (errno) where the system starts none.
  */

@@ -17,7 +17,7 @@ enum {
     KEEPS = 3,
     /* So many it looks at in a step: usually, and if it is behind. */
     STEP = 1024,
-    LATE_STEP = 8192,
+    LATE_STEP = 16384,
     /* Behind a step it rests as long as that took, and so long at least. */
     LEAST_REST_US = 20,
     /* While requests of its session are pending, it polls at this pace; and if nothing of them is finished for so long, more seldom. */
@@ -243,25 +243,31 @@ static bool may_go_on(fkv_file *file, fkv_offsets *at) {
     return its->serial + SLICE <= records / SHARE && at->tail < records - left;
 }
 
-/* A step: it has its time for it, unless something is about to leave memory. */
+/* The usual work, and as long a rest behind it. */
+static void work(fkv_file *file, const fkv_offsets *at, uint64_t ahead) {
+    struct warmer *its = &file->warmer;
+    struct timespec begun = fkv_now();
+    if (fkv_is_before(begun, its->rests_until) || (its->next >= ahead && !has_found(file, at))) return;
+    go_over(file, ahead, STEP);
+    keep_found(file, at);
+    if (!its->is_awake) its->rests_until = fkv_later(fkv_now(), most(fkv_since(begun), LEAST_REST_US));
+}
+
+/* A step. If it is behind it doesn't rest, and users let it go first. */
 static void step(fkv_file *file, const fkv_offsets *at, bool has_time) {
     struct warmer *its = &file->warmer;
     const fkv_shape *shape = &file->shape;
     uint64_t late = wanted(shape, at), ahead = leaving(shape, at, pages_ahead(shape));
-    struct timespec begun = fkv_now();
-    bool has_rested = !fkv_is_before(begun, its->rests_until);
     its->next = most(its->next, at->head);
     /* (before something is appended nothing leaves memory) */
     if (at->tail == its->begun) ahead = late = 0;
     if (its->next < late) {
+        its->rests_until = (struct timespec){0, 0};
         atomic_store(&file->is_behind, !its->is_crowded);
         go_over(file, late, LATE_STEP);
-    } else if (has_time && has_rested) {
-        go_over(file, ahead, STEP);
-        keep_found(file, at);
+    } else if (has_time) {
+        work(file, at, ahead);
     }
-    uint64_t taken = fkv_since(begun);
-    if (has_rested && !its->is_awake) its->rests_until = fkv_later(fkv_now(), most(taken, LEAST_REST_US));
     its->has_more = its->next < late || (has_time && (its->next < ahead || has_found(file, at)));
 }
 
