@@ -106,11 +106,12 @@ int32_t fkv_size_of(const fkv_shape *shape, fkv_size *size);
 /* ---- The file ------------------------------------------------------------------------------------------------------------- */
 
 /*
- * Makes the file of a new living store of this shape, which has 1 to 31 sessions (FKV_MOST_JOINED). It is written under another name in the same folder, synced, and put in place by a
- * rename that replaces nothing; then the folder is synced. So a crash leaves the whole file or none of this name. It may leave one of
- * another name, `path` with ".new" and eight digits, which no store needs. The file isn't open after the call.
- * 0; -FKV_BAD_SHAPE (of 32 sessions too), -FKV_MEMORY, -FKV_DEVICE (errno EEXIST: there is a file of this name, and it stays as it is). If the folder's
- * sync alone has failed, the new file stays in place, and the next call tells EEXIST. An opening syncs the folder again.
+ * Makes the file of a new living store of this shape, which has 1 to 31 sessions (FKV_MOST_JOINED). It is written under another name in
+ * the same folder, synced, and put in place by a rename that replaces nothing; then the folder is synced. So a crash leaves the whole file or
+ * none of this name. It may leave one of another name, `path` with ".new" and eight digits, which no store needs. The file isn't open after
+ * the call.
+ * 0; -FKV_BAD_SHAPE (of 32 sessions too), -FKV_MEMORY, -FKV_DEVICE (errno EEXIST: there is a file of this name, and it stays as it is). If the
+ * folder's sync alone has failed, the new file stays in place, and the next call tells EEXIST. An opening syncs the folder again.
  */
 int32_t fkv_make_file(const char *path, const fkv_shape *shape);
 
@@ -196,9 +197,9 @@ int32_t fkv_renew_file(const char *old_path, const char *new_path, const fkv_sha
 /*
  * Renews an open store in place: what no room or no commits were left of lives on under its own name. Each session has left before. If the
  * keeper's thread runs, a last commit is made if something isn't kept. Then the renewal is written to a new file, which takes the name of
- * the old one, and the thread goes on. `shape` is as of fkv_renew_file. `renewed` may be NULL. A crash leaves the old store or the new one, with the same pairs and points. Sessions that join then
- * go on with their serials; who joins meanwhile waits. The new store's commits count from 1 again, since each store's file says its number
- * itself.
+ * the old one, and the thread goes on. `shape` is as of fkv_renew_file. `renewed` may be NULL. A crash leaves the old store or the new one,
+ * with the same pairs and points. Sessions that join then go on with their serials; who joins meanwhile waits. The new store's commits count
+ * from 1 again, since each store's file says its number itself.
  *
  * It takes the memory of fkv_each and that of the new store. Another name of the file (a link) stays the old store's.
  * 0; -FKV_HANDLE_OUT while a session is joined or abandoned, and in a hook of the keeper's thread; -FKV_NO_KEEPER where something isn't kept
