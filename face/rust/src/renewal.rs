@@ -37,7 +37,8 @@ pub fn renew(bytes: &[u8], shape: Option<&Shape>, keys: RenewedKeys) -> Result<V
 }
 
 /// Renews the store of one file in a new one, as [`renew`] does, and puts that in place whole. Here `shape` has the sessions that can be
-/// joined. The old file is locked meanwhile, and stays as it is. Refused as [`renew`], and by `Device`: with `WouldBlock` the old store is open, with `AlreadyExists` there is a file of the new name.
+/// joined. The old file is locked meanwhile, and stays as it is. Refused as [`renew`], and by `Device`: with `WouldBlock` the old store is open,
+/// with `AlreadyExists` there is a file of the new name.
 pub fn renew_file(
     old: impl AsRef<Path>,
     new: impl AsRef<Path>,
