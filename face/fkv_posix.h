@@ -331,8 +331,8 @@ typedef struct {
  *           of those that are there. So -FKV_LOG_FULL comes by an eighth of the log earlier at most. Nothing is kept any more where a
  *           sixteenth of that room is left, or 65,536 records if that is more. A renewal begins anew
  *   time    Half of the thread's at most, and none while a commit waits for sessions. If it is behind with what is about to leave memory, it
- *           looks at up to 16,384 records before each turn all the same: a few milliseconds. Updates by calls of this header wait meanwhile,
- *           0.2 seconds at most, and refresh their sessions. So does who waits for a turn
+ *           works for it before each turn all the same, for 2 milliseconds at most. Updates by calls of this header then wait before they
+ *           begin, for 0.2 seconds at most, and refresh their sessions meanwhile
  *
  * If memory has no room for the newest records of all homes, more than three in four of those that leave it are such. Then pages are let go
  * as they are, until they are half at most. Of keys that share a home only the last updated is kept.

@@ -15,9 +15,11 @@ enum {
     SLICE = FKV_MOST_PENDING,
     /* A record that it keeps takes it as long as so many more that it looks at. */
     KEEPS = 3,
-    /* So many it looks at in a step: usually, and if it is behind. */
+    /* So many it looks at in a step. */
     STEP = 1024,
-    LATE_STEP = 16384,
+    /* If it is behind, it hurries so long before a turn, by the time that its thread takes. The clock is asked behind so many looks. */
+    HURRY_US = 2000,
+    HURRY = 256,
     /* Behind a step it rests as long as that took, and so long at least. */
     LEAST_REST_US = 20,
     /* While requests of its session are pending, it polls at this pace; and if nothing of them is finished for so long, more seldom. */
@@ -55,13 +57,17 @@ bool fkv_can_warm(const fkv_file *file) {
 
 /* ---- Which records leave memory ------------------------------------------------------------------------------------------------- */
 
+/* So many pages will have left memory as so many are open. */
+static uint64_t gone_by(const fkv_shape *shape, uint64_t opened) { return opened > shape->frames ? opened - shape->frames : 0; }
+
 /*
  * Those below it do so many pages later than now, and with 0 as soon as the next page is opened: that is the one behind the tail's. While
- * frames are free, sessions open pages by themselves: so it goes by what has left memory too. They are told as far as they are read-only.
+ * frames are free, sessions open pages by themselves, and fast: so it goes by what has left memory too, if few are free. They are told as far
+ * as they are read-only.
  */
 static uint64_t leaving(const fkv_shape *shape, const fkv_offsets *at, uint64_t later) {
-    uint64_t opened = at->tail / shape->page + 2, gone = at->closed / shape->page;
-    uint64_t pages = most(opened > shape->frames ? opened - shape->frames : 0, gone) + later;
+    uint64_t opened = at->tail / shape->page + 2 + later, soon = gone_by(shape, opened + pages_ahead(shape));
+    uint64_t pages = most(gone_by(shape, opened), least(at->closed / shape->page + later, soon));
     return least(pages * shape->page, at->safe_read_only);
 }
 
@@ -181,6 +187,21 @@ static void go_over(fkv_file *file, uint64_t to, size_t looks) {
     for (size_t done = 0; may_keep(file) && file->warmer.next < to && done < looks;) done += look(file, to);
 }
 
+static uint64_t thread_us(void) {
+    struct timespec time;
+    clock_gettime(CLOCK_THREAD_CPUTIME_ID, &time);
+    return (uint64_t)time.tv_sec * 1000000 + (uint64_t)time.tv_nsec / 1000;
+}
+
+/* The same, without a rest. Users let it go first meanwhile. */
+static void hurry(fkv_file *file, uint64_t to) {
+    uint64_t begun = thread_us();
+    file->warmer.rests_until = (struct timespec){0, 0};
+    atomic_store(&file->is_behind, !file->warmer.is_crowded);
+    do go_over(file, to, HURRY);
+    while (may_keep(file) && file->warmer.next < to && thread_us() - begun < HURRY_US);
+}
+
 /* ---- Keys that reads have found ------------------------------------------------------------------------------------------------- */
 
 void fkv_note_found(fkv_file *file, const fkv_session *session, uint64_t key) {
@@ -253,7 +274,7 @@ static void work(fkv_file *file, const fkv_offsets *at, uint64_t ahead) {
     if (!its->is_awake) its->rests_until = fkv_later(fkv_now(), most(fkv_since(begun), LEAST_REST_US));
 }
 
-/* A step. If it is behind it doesn't rest, and users let it go first. */
+/* A step before a turn. */
 static void step(fkv_file *file, const fkv_offsets *at, bool has_time) {
     struct warmer *its = &file->warmer;
     const fkv_shape *shape = &file->shape;
@@ -261,13 +282,8 @@ static void step(fkv_file *file, const fkv_offsets *at, bool has_time) {
     its->next = most(its->next, at->head);
     /* (before something is appended nothing leaves memory) */
     if (at->tail == its->begun) ahead = late = 0;
-    if (its->next < late) {
-        its->rests_until = (struct timespec){0, 0};
-        atomic_store(&file->is_behind, !its->is_crowded);
-        go_over(file, late, LATE_STEP);
-    } else if (has_time) {
-        work(file, at, ahead);
-    }
+    if (its->next < late) hurry(file, late);
+    else if (has_time) work(file, at, ahead);
     its->has_more = its->next < late || (has_time && (its->next < ahead || has_found(file, at)));
 }
 
