@@ -337,8 +337,9 @@ typedef struct {
  * If memory has no room for the newest records of all homes, more than three in four of those that leave it are such. Then pages are let go
  * as they are, until they are half at most. Of keys that share a home only the last updated is kept.
  *
- * It can't be if the store has no session for it, if its pages in memory are fewer than 4 or all but one are mutable, or if its log has room for
- * 65,536 records at most. Then `unwarmed` is called, once for each opening.
+ * It can't be if the store has no session for it, if its pages in memory are fewer than 4, or if its log has room for 65,536 records at most.
+ * Then `unwarmed` is called, once for each opening. It works a quarter of memory ahead: so five eighths hold what is live, or more. Pages that are
+ * mutable are passed over: if no commit makes them read-only, and all but one page are mutable, nothing is kept.
  * 0; -FKV_HANDLE_TAKEN where it runs already, -FKV_DEVICE (errno) where the system starts none.
  */
 int32_t fkv_start(fkv_file *file, const fkv_keeping *keeping);

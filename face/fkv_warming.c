@@ -9,7 +9,7 @@
 enum {
     /* Of fewer pages none could be kept before it is let go. */
     LEAST_FRAMES = 4,
-    /* It works so far ahead of what leaves memory: one page of so many in memory, if these are read-only by then. */
+    /* It works so far ahead of what leaves memory: one page of so many in memory, as far as these are read-only by then. */
     AHEAD = 4,
     /* It looks at so many records in a row, and keeps what it wants of them at once. */
     SLICE = FKV_MOST_PENDING,
@@ -45,34 +45,29 @@ static uint64_t ring_of(const fkv_shape *shape) { return shape->page * shape->fr
 
 static uint64_t records_of(const fkv_shape *shape) { return shape->page * shape->disk_pages; }
 
-/* How many pages ahead of those that leave memory it may be: they are read-only by then, so keeping one of their records makes a new one. */
-static uint64_t pages_ahead(const fkv_shape *shape) {
-    return least(shape->frames - 1 - shape->mutable_pages, most(shape->frames / AHEAD, 1));
-}
+/* So many records ahead of what leaves memory it works. */
+static uint64_t records_ahead(const fkv_shape *shape) { return ring_of(shape) / AHEAD; }
 
 bool fkv_can_warm(const fkv_file *file) {
-    const fkv_shape *shape = &file->shape;
-    return file->has_own && shape->frames >= LEAST_FRAMES && pages_ahead(shape) > 0 && records_of(shape) > LEAST_LEFT;
+    return file->has_own && file->shape.frames >= LEAST_FRAMES && records_of(&file->shape) > LEAST_LEFT;
 }
 
 /* ---- Which records leave memory ------------------------------------------------------------------------------------------------- */
 
-/* So many pages will have left memory as so many are open. */
-static uint64_t gone_by(const fkv_shape *shape, uint64_t opened) { return opened > shape->frames ? opened - shape->frames : 0; }
-
 /*
- * Those below it do so many pages later than now, and with 0 as soon as the next page is opened: that is the one behind the tail's. While
- * frames are free, sessions open pages by themselves, and fast: so it goes by what has left memory too, if few are free. They are told as far
- * as they are read-only.
+ * Those below it do so once so many records more were appended. As the tail comes to a page, the one behind that is opened, and takes the frame of
+ * another. While frames are free sessions open pages by themselves, and fast: so few of them count as if they were full. What leaves is told
+ * as far as it is read-only: a keep of any other record may leave it where it is.
  */
-static uint64_t leaving(const fkv_shape *shape, const fkv_offsets *at, uint64_t later) {
-    uint64_t opened = at->tail / shape->page + 2 + later, soon = gone_by(shape, opened + pages_ahead(shape));
-    uint64_t pages = most(gone_by(shape, opened), least(at->closed / shape->page + later, soon));
-    return least(pages * shape->page, at->safe_read_only);
+static uint64_t leaving(const fkv_shape *shape, const fkv_offsets *at, uint64_t more) {
+    uint64_t opened = at->tail / shape->page + 2, all = at->closed / shape->page + shape->frames;
+    uint64_t open_later = all > opened && all - opened <= shape->frames / 2 ? all - opened : 0;
+    opened = (at->tail + more) / shape->page + 2 + open_later;
+    return opened > shape->frames ? least((opened - shape->frames) * shape->page, at->safe_read_only) : 0;
 }
 
 /* So far it has to have come, so that turns go on in other threads too, and users take what room there is. */
-static uint64_t wanted(const fkv_shape *shape, const fkv_offsets *at) { return leaving(shape, at, pages_ahead(shape) * 3 / 4); }
+static uint64_t wanted(const fkv_shape *shape, const fkv_offsets *at) { return leaving(shape, at, records_ahead(shape) / 4 * 3); }
 
 bool fkv_awaits_warmer(fkv_file *file) {
     uint64_t warmed = atomic_load_explicit(&file->warmed, memory_order_relaxed);
@@ -278,7 +273,7 @@ static void work(fkv_file *file, const fkv_offsets *at, uint64_t ahead) {
 static void step(fkv_file *file, const fkv_offsets *at, bool has_time) {
     struct warmer *its = &file->warmer;
     const fkv_shape *shape = &file->shape;
-    uint64_t late = wanted(shape, at), ahead = leaving(shape, at, pages_ahead(shape));
+    uint64_t late = wanted(shape, at), ahead = leaving(shape, at, records_ahead(shape));
     its->next = most(its->next, at->head);
     /* (before something is appended nothing leaves memory) */
     if (at->tail == its->begun) ahead = late = 0;
