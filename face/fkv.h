@@ -94,7 +94,7 @@ typedef struct {
     uint64_t page;          /* records in a page: a power of two from 4 to 65,536, of a specified store to 1,024 */
     uint64_t frames;        /* pages in memory: a power of two from 2 to 4,096, of a specified store to 64 */
     uint64_t mutable_pages; /* pages whose records are updated in place: 1 to frames - 1 */
-    uint64_t sessions;      /* 1 to 32 */
+    uint64_t sessions;      /* 1 to 32; of fkv_posix.h, which adds one to a file, to 31 */
     uint64_t overflow;      /* buckets that full ones overflow to: 0 to 2^24, of a specified store to 1,024 */
     uint64_t disk_pages;    /* pages that the log may have in the file: 1 to 2^30, of a specified store to 65,536 */
 } fkv_shape;

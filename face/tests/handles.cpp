@@ -141,6 +141,41 @@ static void commit_each(const std::string &path) {
     WANT(session.durable() == made && store.last_commit().number >= seen + 2);
 }
 
+/* A store has as many sessions as were asked for, and no more; of one without one for the library a hook says so, once. */
+static void sessions(const std::string &path) {
+    fkv::Shape shape = fkv::shape_for(fkv::Wish{100, 3});
+    WANT(shape.sessions == 3 && refused([] { fkv::shape_for(fkv::Wish{100, FKV_MOST_JOINED + 1}); }).fault() == FKV_BAD_SHAPE);
+    fkv::Store::make(path, shape);
+    std::atomic<int> told{0};
+    fkv::Keeping keeping;
+    keeping.unwarmed = [&] { told++; };
+    {
+        fkv::Store store = fkv::Store::open(path);
+        fkv::Keeper keeper = store.start(keeping);
+        std::vector<fkv::Session> all;
+        for (int i = 0; i < 3; i++) all.push_back(store.join());
+        WANT(refused([&] { store.join(); }).fault() == FKV_NO_SESSION && refused([&] { store.join(3); }).fault() == FKV_NO_SESSION);
+        WANT(store.shape().sessions == 3 && store.last_commit().points.size() == 3 && store.stats().joined == 7 && store.stats().kept == 0);
+        all.clear();
+        store.renew(fkv::shape_for(fkv::Wish{200, 5}));
+        WANT(store.shape().sessions == 5 && store.last_commit().points.size() == 5);
+        keeper.stop();
+        WANT(told == 0);
+    }
+    std::uint8_t image[FKV_IMAGE_SIZE];
+    shape.sessions = 1;
+    fkv::check(fkv_image(&shape, image, sizeof image));
+    std::FILE *file = std::fopen((path + ".one").c_str(), "wb");
+    WANT(file && std::fwrite(image, sizeof image, 1, file) == 1 && std::fclose(file) == 0);
+    fkv::Store store = fkv::Store::open(path + ".one");
+    for (bool warms : {false, true, true}) {
+        int before = told;
+        keeping.warms = warms;
+        store.start(keeping).stop();
+        WANT(store.shape().sessions == 1 && told == (warms ? 1 : before));
+    }
+}
+
 /* The log is full: the hook says so, once. */
 static void stopped(const std::string &path) {
     fkv::Store::make(path, fkv::Shape{8, 4, 4, 1, 2, 64, 16});
@@ -180,6 +215,7 @@ int main(int count, char **words) {
     WANT(fkv::shape_for(fkv::Wish{}).sessions == 8);
     use_store(path);
     commit_each(path + ".each");
+    sessions(path + ".sessions");
     stopped(path + ".full");
     stop_past_own(path + ".own");
     {

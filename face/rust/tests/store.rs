@@ -73,6 +73,59 @@ fn a_file_is_made_once_and_opened_by_one() {
     assert!(matches!(Store::open(&path.0), Err(Error::NotAStore)));
 }
 
+/// As many sessions as were asked for are given, and no more. Of a file with a single one, a hook says once that nothing keeps memory warm.
+#[test]
+fn so_many_sessions_as_were_asked_for() {
+    for sessions in [1, 2, 3, 31] {
+        let path = Path::new(&format!("sessions-{sessions}"));
+        let shape = Shape { sessions, ..SHAPE };
+        Store::make(&path.0, &shape).unwrap();
+        assert_eq!(u64::from(fs::read(&path.0).unwrap()[40]), sessions + 1);
+        let store = Store::open(&path.0).unwrap();
+        assert_eq!(store.shape(), shape);
+        let all: Vec<_> = (0..sessions).map(|_| store.join_any().unwrap()).collect();
+        assert!(matches!(store.join_any(), Err(Error::NoSession)));
+        assert!(matches!(store.join(sessions), Err(Error::NoSession)));
+        assert_eq!(store.stats().unwrap().joined, (1 << sessions) - 1);
+        assert_eq!(store.last_commit().points, vec![0; sessions as usize]);
+        drop(all);
+        let more = Shape {
+            sessions: 7,
+            ..SHAPE
+        };
+        store.renew(Some(&more)).unwrap();
+        assert_eq!(store.shape(), more);
+    }
+    let many = Shape {
+        sessions: 32,
+        ..SHAPE
+    };
+    assert!(matches!(many.size(), Err(Error::BadShape)));
+    assert!(matches!(Store::make("none", &many), Err(Error::BadShape)));
+    let path = Path::new("sessions-own");
+    Store::make(&path.0, &SHAPE).unwrap();
+    let mut image = fs::read(&path.0).unwrap();
+    // The shape's sessions, and those that have a point in the slot of commit 0.
+    image[40] = 1;
+    image[512 + 48] = 1;
+    fs::write(&path.0, image).unwrap();
+    let store = Store::open(&path.0).unwrap();
+    assert_eq!(store.shape().sessions, 1);
+    let (send, receive) = mpsc::channel();
+    for keeping in [
+        Keeping::default().no_warmer(),
+        Keeping::default(),
+        Keeping::default(),
+    ] {
+        let send = send.clone();
+        let keeper = store
+            .start(keeping.unwarmed(move || send.send(()).unwrap()))
+            .unwrap();
+        keeper.stop().unwrap();
+    }
+    assert_eq!(receive.try_iter().count(), 1);
+}
+
 #[test]
 fn calls_answer_as_a_map() {
     let path = Path::new("calls");
