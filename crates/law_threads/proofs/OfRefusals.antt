@@ -86,10 +86,10 @@ module _ {K : Type 0} (at : K → World) (law : RefusalsHaveCauses) (key : K) (o
       let shape : k.shape ≡ w.now.shape = its.at_work.keeping.shape ∙ ap (λ (x : World). x.now.shape) over.same in
       let places : k.places ≡ w.now.places = its.at_work.keeping.places ∙ ap (λ (x : World). x.now.places) over.same in
       let its_state : k.state ≡ state seen =
-          its.at_work.keeping.state
-          ∙ (ap (λ (es : List Happening). (led (plane at) (at key) es).now.keeper) its.seen
-          ∙ (ap (λ (x : World). x.now.keeper) (led_run at (at key) seen)
-          ∙ (ap (λ (x : World). (run x (events_of seen)).now.keeper) over.same ∙ keeper_runs w (events_of seen)))) in
+      its.at_work.keeping.state
+      ∙ (ap (λ (es : List Happening). (led (plane at) (at key) es).now.keeper) its.seen
+      ∙ (ap (λ (x : World). x.now.keeper) (led_run at (at key) seen)
+      ∙ (ap (λ (x : World). (run x (events_of seen)).now.keeper) over.same ∙ keeper_runs w (events_of seen)))) in
       λ i. record { shape = shape i; places = places i; state = its_state i }
 
   -- so it asks, and tells

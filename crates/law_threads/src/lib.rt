@@ -4,8 +4,8 @@
 ghost use Rattle.std.specs.Prelude.{List};
 ghost use Rattle.law_threads.specs.Said as said;
 
-pub use law_order::{law_device_opens, law_guard_opens};
 use law_causes::law_of_last_calls;
+pub use law_order::{law_device_opens, law_guard_opens};
 use law_order::{
     law_durable_never_falls, law_order, law_prefix, law_world_requests, law_world_sessions,
 };
