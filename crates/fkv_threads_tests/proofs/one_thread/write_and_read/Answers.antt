@@ -7,7 +7,7 @@ pub meet-reader-requires : goal.meet-reader-requires
 meet-reader-requires g c =
     let items = c.args.sessions.items in
     let first = popped items c.pop.new.self.items c.pop.result c.in-Some.writer c.pop.ensures.items c.in-Some.is in
-    let second = popped c.pop.new.self.items c.pop-2.new.self.items c.pop-2.result c.in-Some-pop-2.reader c.pop-2.ensures.items c.in-Some-pop-2.is in
+    let second = popped c.pop.new.self.items c.pop-2.new.self.items c.pop-2.result c.in-Some-pop.reader c.pop-2.ensures.items c.in-Some-pop.is in
     let both = two_last items c.pop.new.self.items c.pop-2.new.self.items _ _ first second in
     let its = c.requires.first in
     let reader = (its.2 _ _ both.1).1 in
