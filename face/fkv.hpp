@@ -190,7 +190,7 @@ public:
     /* The two have then seen what either had seen: what the one was told as done is in force for the other's later calls. Throws std::invalid_argument
        if the other isn't another session of the same opening. */
     void meet(Session &other) {
-        if (file_ != other.file_ || at_ == other.at_) throw std::invalid_argument("the session is of another opening of a store");
+        if (file_ != other.file_ || at_ == other.at_) throw std::invalid_argument("the session isn't another one of this opening");
         check(fkv_meet(at_, other.at_));
     }
     /* The serial of the session's last update. */

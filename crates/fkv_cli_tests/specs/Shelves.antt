@@ -56,7 +56,7 @@ pub record Reports {F : Type 0} (files : Places F) (image : List ℕ) (pieces : 
   pub life : IsLifeInFile files.engine opened device pieces status said ⊎ ((status ≡ 4) × (said ≡ []))
   pub says : text ≡ report_text opening.Open opened.number opened.points.items pairs ++ said
 
--- A new store was made: over a device that was given for this path, which then holds it, and the text is what its life prints there.
+-- A new store was made: a device was given for it, and the text is what its life prints over a device that holds it.
 pub record Makes {F : Type 0} (files : Places F) (path : List ℕ) (shape : Shape) (pieces : List Piece) (status : ℕ) (text : List ℕ) : Type 0 where
   pub opened : Opened
   pub is_new : IsNewStore shape opened

@@ -1,5 +1,5 @@
 -- Two sessions of one table have met.
-use Rattle.std.proofs.Common.{◌≡◌, ◌⊎◌, inl, inr, ℕ, Bool, true, false, List, length, refl, sym, subst, ◌∙◌}
+use Rattle.std.proofs.Common.{◌≡◌, ◌⊎◌, inl, inr, ℕ, Bool, true, false, List, length, ◌++◌, append_assoc, refl, ap, sym, subst, ◌∙◌}
 use Rattle.std.specs.Prelude.{if◌then◌else◌, nat_le}
 use Rattle.atomic_table.specs.Seated.{TableId}
 use Rattle.atomic_table.specs.Table.{Me}
@@ -62,7 +62,8 @@ module _ {K : Type 0} (at : K → World) where
 
   -- a read of the one holds what the other had seen
   pub reads_other : GoesOnFromWhatWasSeen at → ReadsWhatTheOtherSaw at
-  reads_other law one other one' other' after call answer meeting called = λ o n bytes over within.
+  reads_other law one other one' other' later after call answer meeting behind called = λ o n bytes over within.
       let on = meeting.first.goes_on in
       let same : meeting.seen ≡ other'.seen = λ i. (sym meeting.second.its i).seen in
-      law.reads o n bytes (run_of other'.number call answer other'.seen after.seen) one.seen (on.between, sym same ∙ on.whole) (called.in_lives.reads o n bytes over within)
+      let whole : later.seen ≡ (behind.0 ++ on.between) ++ one.seen = behind.1 ∙ (ap (λ (x : List Happening). behind.0 ++ x) (sym same ∙ on.whole) ∙ sym (append_assoc behind.0 on.between one.seen)) in
+      law.reads o n bytes (run_of later.number call answer later.seen after.seen) one.seen (behind.0 ++ on.between, whole) (called.in_lives.reads o n bytes over within)

@@ -1,7 +1,7 @@
 -- Two sessions of one table meet.
 use Rattle.std.specs.Prelude.{◌≡◌, ◌⊎◌, ℕ, List}
 use Rattle.fkv_map.specs.declared.operations.Call.{Call}
-use Rattle.fkv_seats.specs.Rule.{GoesOn}
+use Rattle.fkv_seats.specs.Rule.{GoesOn, IsSeenBy}
 use Rattle.fkv_seats.specs.declared.views.Role.TheVariants.{Sits}
 use Rattle.fkv_session.specs.declared.answers.Answer.{Answer}
 use Rattle.law_threads.specs.Below.fkv_table.Happening.{Happening}
@@ -35,7 +35,8 @@ module _ {K : Type 0} (at : K → World) where
     pub second : HasLearned other seen other'
     pub whose : (seen ≡ one.seen) ⊎ (seen ≡ other.seen)
 
-  -- A read of one behind their meeting gives its key's value after some beginning of the history that holds what the other had seen before it. So it is of what the other was told done.
+  -- Each read by which a session goes on behind a meeting gives its key's value after some beginning of the history that holds what the other had seen before. So it is of what the
+  -- other was told done.
   abbrev pub ReadsWhatTheOtherSaw : Type 0
-  ReadsWhatTheOtherSaw = (one other one' other' after : Sitting K) (call : Call) (answer : Answer) → IsMeetingOf one other one' other' → IsCallOf at other' call answer after
-      → OfThisRun at other'.key (run_of other'.number call answer one.seen after.seen) IsWithin ReadsWhatWasSeen
+  ReadsWhatTheOtherSaw = (one other one' other' later after : Sitting K) (call : Call) (answer : Answer) → IsMeetingOf one other one' other' → IsSeenBy (plane at) other'.seen later.seen → IsCallOf at later call answer after
+      → OfThisRun at later.key (run_of later.number call answer one.seen after.seen) IsWithin ReadsWhatWasSeen

@@ -63,7 +63,7 @@ impl<D: Device + Drop> KeeperSeat<D> {
     /// it. It holds a prefix of the life as it was then (`recovered`). A commit that the turn tells as finished is sealed, with its number and points. Each
     /// point was fair as the commit was in hand (`finished`). Both are so if fewer than 2^64 - 1 calls of sessions begin. What is said of images also asks that
     /// the life began with one that reaches far. A refusal has its cause: a call of the device has failed, in this turn or before it, the epoch's word that the
-    /// turn has loaded is the last, or memory was refused (`refused`).
+    /// turn has loaded is the last, or no memory was granted for a copy of the index (`refused`).
     pub fn turn(&mut self) -> Result<Turn, Fault>
         requires idle { self.old.in_turn ≡ false }
         ensures turned { said.IsTurnOf D.Device self.old result self.new }
@@ -109,8 +109,8 @@ impl<D: Device + Drop> KeeperSeat<D> {
     }
 
     /// Begins a commit of this kind and gives its number; later turns carry it through. It is refused with `Broken`, `CommitRunning`, also in the middle of a
-    /// turn, `VersionsSpent`, `LostFull`, `EpochsSpent` or `DrainFull`. A refusal has its cause: a call of the device has failed before, or the words that this
-    /// call has loaded show why (`refused`). The device isn't called.
+    /// turn, `VersionsSpent`, `LostFull`, `EpochsSpent` or `DrainFull`. Each refusal but in the middle of a turn has its cause: a call of the device has failed
+    /// before, or the words that this call has loaded show why (`refused`). The device isn't called.
     pub fn ask_commit(&mut self, kind: CommitKind) -> Result<Version, Fault>
         ensures asked { said.IsAskedToCommit D.Device kind self.old result self.new }
     {

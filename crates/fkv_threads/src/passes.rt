@@ -18,8 +18,8 @@ pub fn join<D: Device>(table: &Table<D>, first: Pass<D>, second: Pass<D>) -> (Pa
     law_threads::join(table, first, second)
 }
 
-/// If two sessions of one table have met, a read of the one gives its key's value after some beginning of the history that holds what the other had seen
-/// before. What the other was told as done is among that. So a session reads what another was told done, or something newer.
+/// If two sessions of one table have met, each later read of the one gives its key's value after some beginning of the history that holds what the other
+/// had seen before. What the other was told as done is among that. So a session reads what another was told done, or something newer.
 pub fn law_of_meetings<K>()
     ensures { (at : K → said.World) → said.ReadsWhatTheOtherSaw at }
 {

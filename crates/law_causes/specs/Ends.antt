@@ -43,13 +43,13 @@ module _ (shape : Shape) (p : Places) (opening : KeeperState) where
     pub calls : is_calling (keeper_run shape p opening before).step event ≡ true
     pub idle : CallNothing behind (event ∷ before)
 
-  -- The last call is a turn that this event has ended early, and its cause stands then.
+  -- The last call is a turn, this event is the last of it, and the cause stands at this event.
   pub record IsTurnRefused (events : List KeeperEvent) (why : Fault) : Type 0 where
     pub last : LastEvent events
     pub turn : last_call events ≡ Some Turn
     pub cause : (let e = last in HasTurnCause e.before (keeper_run shape p opening e.before) e.event (call_told shape p opening (e.event ∷ e.before)) why)
 
-  -- The last call has asked for a commit of this kind, this event has ended it with a refusal, and its cause stands then.
+  -- The last call has asked for a commit of this kind, this event is the last of it, and the cause stands behind this event.
   pub record IsCommitRefused (events : List KeeperEvent) (kind : CommitKind) (why : Fault) : Type 0 where
     pub last : LastEvent events
     pub commit : last_call events ≡ Some (Commit kind)

@@ -23,7 +23,7 @@ use Rattle.fkv_table.specs.Turns.{asks_device}
 use Rattle.law_threads.specs.Calls.{IsOver, events_of}
 use Rattle.law_threads.specs.Turns.{HasTurned}
 
--- By what its pass has seen the keeper's last call is a turn that has ended early, and the cause stands at the event that has ended it.
+-- By what its pass has seen the keeper's last call is a turn, and the cause stands at the last event of it.
 abbrev pub HasRefusedTurn : World → List Happening → Fault → Type 0
 HasRefusedTurn w seen why = IsTurnRefused w.now.shape w.now.places w.now.keeper (keeper_events w (events_of seen)) why
 
