@@ -94,7 +94,7 @@ typedef struct {
     uint64_t page;          /* records in a page: a power of two from 4 to 65,536, of a specified store to 1,024 */
     uint64_t frames;        /* pages in memory: a power of two from 2 to 4,096, of a specified store to 64 */
     uint64_t mutable_pages; /* pages whose records are updated in place: 1 to frames - 1 */
-    uint64_t sessions;      /* 1 to 32 */
+    uint64_t sessions;      /* 1 to 32; of fkv_posix.h, which adds one to a file, to 31 */
     uint64_t overflow;      /* buckets that full ones overflow to: 0 to 2^24, of a specified store to 1,024 */
     uint64_t disk_pages;    /* pages that the log may have in the file: 1 to 2^30, of a specified store to 65,536 */
 } fkv_shape;
@@ -405,6 +405,15 @@ int32_t fkv_durable(fkv_session *session, uint64_t *serial);
  * is its point. A session that sleeps may ask too. 0; -FKV_NO_SESSION after fkv_end_session.
  */
 int32_t fkv_serial(fkv_session *session, uint64_t *serial);
+
+/*
+ * Two sessions of one opening of a store meet: each has then seen what either had seen. So what the one was told as done is in force for
+ * each later call of the other: a read gives it, or something newer. Reads do so without this call too, if something has ordered the two
+ * threads' calls. With it that is proved, of reads that are answered at once. Both handles are in use by this call: hold the mutex that the
+ * other's thread takes for its calls. They are two, of one opening; nothing tells if they aren't. It never waits, and changes nothing else.
+ * A session that sleeps may meet another. 0; -FKV_NO_SESSION after fkv_end_session of one of them, and then both stay as they are.
+ */
+int32_t fkv_meet(fkv_session *session, fkv_session *other);
 
 /* Puts the session to sleep and gives the handle up. 0; -FKV_PENDING_LEFT. After a 0, fkv_free_session. */
 int32_t fkv_end_session(fkv_session *session);

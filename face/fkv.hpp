@@ -101,6 +101,8 @@ struct Keeping {
     std::function<void(const Commit &)> committed{};
     std::function<void(const Progress &)> progress{};
     std::function<void(std::int32_t fault)> stopped{}; /* once, as commits end for good: FKV_LOG_FULL .. */
+    std::function<void()> unwarmed{};                  /* once, if memory can't be kept warm in this store */
+    bool warms = true;                                 /* memory is kept warm, if it can be */
 };
 
 /* What an update has done. */
@@ -184,6 +186,12 @@ public:
     void wake() {
         fkv_seen seen;
         check(fkv_wake(at_, &seen));
+    }
+    /* The two have then seen what either had seen: what the one was told as done is in force for the other's later calls. Throws std::invalid_argument
+       if the other isn't another session of the same opening. */
+    void meet(Session &other) {
+        if (file_ != other.file_ || at_ == other.at_) throw std::invalid_argument("the session isn't another one of this opening");
+        check(fkv_meet(at_, other.at_));
     }
     /* The serial of the session's last update. */
     std::uint64_t serial() const { return told_by(fkv_serial); }
@@ -280,6 +288,7 @@ public:
         how.commit_ms = static_cast<std::uint32_t>(keeping.commit_each.count());
         how.log_commits = keeping.log_commits;
         how.turn_us = static_cast<std::uint32_t>(keeping.turn_each.count());
+        how.no_warmer = !keeping.warms;
         how.user = const_cast<Keeping *>(kept.get());
         if (keeping.committed)
             how.committed = [](void *user, std::uint64_t number, const std::uint64_t *points, std::size_t sessions) {
@@ -289,6 +298,7 @@ public:
             how.progress = [](void *user, const fkv_progress *its) { static_cast<const Keeping *>(user)->progress(*its); };
         if (keeping.stopped)
             how.stopped = [](void *user, std::int32_t result) { static_cast<const Keeping *>(user)->stopped(-result); };
+        if (keeping.unwarmed) how.unwarmed = [](void *user) { static_cast<const Keeping *>(user)->unwarmed(); };
         check(fkv_start(get(), &how));
         file_->keeping = std::move(kept);
         return Keeper(file_);

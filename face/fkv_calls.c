@@ -62,7 +62,9 @@ static int32_t update_now(fkv_file *file, fkv_session *session, update_fn *updat
     fkv_update own;
     if (!told) told = &own;
     told->serial = 0;
-    int32_t result = update(session, key, which, number, told);
+    int32_t result = atomic_load_explicit(&file->is_behind, memory_order_relaxed) ? fkv_give_way(file, session) : 0;
+    if (result < 0) return result;
+    result = update(session, key, which, number, told);
     if (result == FKV_DONE) return result;
     if (result == -FKV_PENDING_FULL) {
         /* Other calls have left so many. */
@@ -97,8 +99,11 @@ int32_t fkv_merge_now(fkv_file *file, fkv_session *session, uint64_t key, uint32
 
 /* ---- Reads ---------------------------------------------------------------------------------------------------------------------- */
 
-/* Reads that are waited for. */
+/* Reads that are waited for, of these keys. */
 struct awaited {
+    fkv_file *file;
+    const fkv_session *session;
+    const uint64_t *keys;
     fkv_each_read *told;
     size_t count;
     size_t left; /* of them, so many are pending */
@@ -113,14 +118,15 @@ static void take_read(void *its, const fkv_finished *finished) {
         told->result = finished->kind == FKV_READ_FOUND ? FKV_FOUND : FKV_NONE;
         told->value = finished->value;
         awaited->left--;
+        if (told->result == FKV_FOUND) fkv_note_found(awaited->file, awaited->session, awaited->keys[i]);
         return;
     }
 }
 
 /* Waits for a read that is pending: FKV_FOUND (`*value`) or FKV_NONE, or a refusal, and then it stays pending. `*value` was its ticket. */
-static int32_t await_read(fkv_file *file, fkv_session *session, uint64_t *value) {
+static int32_t await_read(fkv_file *file, fkv_session *session, uint64_t key, uint64_t *value) {
     fkv_each_read told = {.value = *value, .result = FKV_PENDING};
-    struct awaited awaited = {&told, 1, 1};
+    struct awaited awaited = {file, session, &key, &told, 1, 1};
     note_waiting(file, session, 0, 1);
     /* It has asked already, so a turn comes before the first poll. */
     fkv_help(file);
@@ -136,7 +142,7 @@ int32_t fkv_read(fkv_file *file, fkv_session *session, uint64_t key, uint64_t *v
         result = fkv_settle(file, session, NULL, NULL);
         if (result == 0) result = fkv_get(session, key, value);
     }
-    return result == FKV_PENDING ? await_read(file, session, value) : result;
+    return result == FKV_PENDING ? await_read(file, session, key, value) : result;
 }
 
 /* One of many: fkv_get_many and its results would take longer for it. Whether it had to wait. */
@@ -146,7 +152,7 @@ static int32_t read_alone(fkv_file *file, fkv_session *session, uint64_t key, fk
     if (told->result == -FKV_PENDING_FULL) told->result = fkv_read(file, session, key, &told->value);
     *waited = told->result == FKV_PENDING;
     if (*waited == 0) return 0;
-    int32_t result = await_read(file, session, &told->value);
+    int32_t result = await_read(file, session, key, &told->value);
     if (result < 0) return result;
     told->result = result;
     return 0;
@@ -157,7 +163,7 @@ static int32_t read_alone(fkv_file *file, fkv_session *session, uint64_t key, fk
  * one by one.
  */
 static int32_t read_batch(fkv_file *file, fkv_session *session, const uint64_t *keys, size_t count, fkv_each_read *told, size_t *waited) {
-    struct awaited awaited = {told, count, 0};
+    struct awaited awaited = {file, session, keys, told, count, 0};
     if (count == 1) return read_alone(file, session, *keys, told, waited);
     int32_t result = fkv_get_many(session, keys, count, told, count);
     for (size_t i = 0; i < count && result == 0; i++) awaited.left += told[i].result == FKV_PENDING;

@@ -46,12 +46,38 @@ struct patience {
     uint32_t of;    /* a bit for each session that waits */
 };
 
+/* Keys that reads of one session have found in the file alone. Its thread puts them, and the keeper's thread takes them. */
+enum { FOUND_KEYS = 64 };
+
+struct found {
+    atomic_uint put; /* so many were ever put, and taken */
+    atomic_uint taken;
+    uint64_t keys[FOUND_KEYS];
+};
+
+/* How far the library's session has come with keeping memory warm. It is the keeper's thread's; without one it is whoever's has the file alone. */
+struct warmer {
+    bool is_on;              /* wanted and possible, since the thread began */
+    bool is_awake;           /* requests of the session are pending, so it has to refresh */
+    bool has_more;           /* there is something to do, from `rests_until` on */
+    bool is_crowded;         /* memory has no room for the newest record of each home */
+    unsigned turn;           /* the session whose keys come next */
+    uint64_t next;           /* the record that it looks at next */
+    uint64_t begun;          /* where the log ended as the thread began */
+    uint64_t serial;         /* of the session's last update */
+    uint64_t since;          /* from that record on so many were looked at, and so many of these were the newest of their homes */
+    uint64_t looked, newest;
+    struct timespec waits;   /* since then nothing of its requests was finished */
+    struct timespec rests_until;
+};
+
 struct fkv_file {
     int fd;
     char *path; /* without links; NULL where the system didn't say */
     uint32_t keys; /* how they are placed: see fkv_open */
     uint64_t warm; /* how many records an opening gives memory: see fkv_open */
-    fkv_shape shape;
+    fkv_shape shape; /* with the sessions of users alone */
+    bool has_own;    /* the session behind these is the library's */
     fkv_store store;
     fkv_keeper keeper; /* of whoever has the turn, and so are the next six */
     uint64_t writes;   /* how many writes of the file turns have begun */
@@ -70,11 +96,19 @@ struct fkv_file {
     atomic_bool turning;     /* somebody has the turn: makes one, or begins a commit */
     atomic_bool in_hand;     /* a commit has begun and isn't finished */
     atomic_int ends;         /* what fkv_tick answers */
+    atomic_bool is_behind;   /* the library's session hurries to keep what is about to leave memory. (without the lock) */
     atomic_ullong begun;     /* how many commits have begun since the opening */
     atomic_int why;          /* errno of a fault that is -FKV_DEVICE. It is written before `ends` */
     /* These are written by who has the turn, and by sessions that read many. */
     atomic_uint slow;        /* so many reads more are asked for ahead: some of the last have waited for a disk */
     atomic_ullong fetched;   /* records that the system was asked for ahead of their reads */
+    char apart_too[64];      /* what the keeper's thread writes often, away from what each tick reads */
+    /* These are written by the keeper's thread, and the second one by sessions that have read too. */
+    atomic_ullong warmed;    /* records below it may leave memory: UINT64_MAX where nobody keeps them */
+    atomic_bool has_found;   /* some session has found keys in the file alone */
+    atomic_ullong kept;      /* updates that the library's session has made */
+    struct warmer warmer;
+    struct found found[FKV_MOST_SESSIONS];
 
     pthread_mutex_t lock;  /* of all that follows */
     pthread_cond_t work;   /* the keeper's thread waits for it: something is asked */
@@ -96,6 +130,7 @@ struct fkv_file {
     uint64_t run;      /* how many threads were started: who ends one ends no later one */
     bool runs;         /* the thread itself resets it as it ends */
     bool stops;        /* it is to end */
+    bool has_told_unwarmed; /* the hook `unwarmed` was called */
     bool nudged;       /* a turn is wanted at once */
     bool is_stirred;   /* something was asked or done since the keeper's last turn */
     bool rests;        /* the writes of the commit in hand rest before a sync */
@@ -137,7 +172,10 @@ int fkv_make_over(const char *path, fill_fn *fill, void *its);
 /* Makes a name in a folder durable. A folder that can't be read can't be synced. 0, or -1 with errno. */
 int fkv_sync_folder_of(const char *path);
 
-/* Renews a store's bytes into `new`, of which `renewed->size` are the store's. 0, or the refusals of fkv_renew. */
+/*
+ * Renews a store's bytes into `new`, of which `renewed->size` are the store's. The point of the library's session is set back in the old ones,
+ * and `shape` has the sessions of users alone. 0, or the refusals of fkv_renew.
+ */
 int32_t fkv_renew_bytes(struct bytes old, const fkv_shape *shape, uint32_t keys, fkv_renewed *renewed, struct bytes *new);
 
 /* Gives such bytes back, if there are some. errno stays. */
@@ -154,6 +192,43 @@ void fkv_give_up(fkv_file *file);
 
 /* The bytes of the file before the log's record of address 0, which there is none of. */
 uint64_t fkv_log_place(const fkv_shape *shape);
+
+/* ---- Of the library's own session ------------------------------------------------------------------------------------------------- */
+
+/* Whether the store of these bytes is a living one. They are a store's. */
+bool fkv_is_living(const uint8_t *bytes);
+
+/* The shape of a file for one that was asked for: it has one session more. 0, or -FKV_BAD_SHAPE where so many can't be asked for. */
+int32_t fkv_with_own(const fkv_shape *asked, fkv_shape *shape);
+
+/* Takes the last session of a store that was just opened for the library, if it has one for it: users are told of the others alone. */
+void fkv_take_own(fkv_file *file, bool is_living);
+
+/* Takes the library's session out of a commit's points, of which there are FKV_MOST_SESSIONS. */
+void fkv_hide_own(const fkv_file *file, uint64_t *points);
+
+/* Sets the point of the library's session back to 0 in a store's bytes, before they are renewed: its place may be another one in the new store. */
+void fkv_forget_own(struct bytes bytes);
+
+/* ---- Of memory that is kept warm, by the library's session. The lock isn't held, but where it is said. ---------------------------------- */
+
+/* Whether that can be in this store. */
+bool fkv_can_warm(const fkv_file *file);
+
+/* A run of the keeper's thread begins. The lock is held. */
+void fkv_begin_warming(fkv_file *file);
+
+/* Does some of it, in the keeper's thread before a turn. `has_time` is false where a commit waits for sessions: then only what can't wait. */
+void fkv_warm(fkv_file *file, bool has_time);
+
+/* Finishes what is pending of the session, as far as that is possible now. Nobody else has it. */
+void fkv_rest_own(fkv_file *file);
+
+/* Whether a turn should be left to the keeper's thread: records would leave memory that it hasn't come to. The lock is held. */
+bool fkv_awaits_warmer(fkv_file *file);
+
+/* A read of this session has found the key in the file alone. */
+void fkv_note_found(fkv_file *file, const fkv_session *session, uint64_t key);
 
 /* ---- Of records that the file alone has. The lock isn't held. --------------------------------------------------------------- */
 
@@ -251,6 +326,9 @@ int32_t fkv_stop_thread(fkv_file *file, uint32_t with_commit);
 
 /* Polls until nothing is pending, up to a time if there is one. If requests are left then, the answer is FKV_PENDING. */
 int32_t fkv_settle_until(fkv_file *file, fkv_session *session, const struct timespec *until, fkv_finished_fn *report, void *user);
+
+/* Lets the library's session go first while it hurries. A session that is about to update refreshes meanwhile. 0, or -FKV_ASLEEP. */
+int32_t fkv_give_way(fkv_file *file, fkv_session *session);
 
 /* Refreshes a session, and notes what it has seen. */
 int32_t fkv_refresh_seat(fkv_file *file, fkv_session *session);

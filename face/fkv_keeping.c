@@ -157,11 +157,12 @@ static void tend_abandoned(struct run *run) {
 
 void fkv_end_abandoned(fkv_file *file) {
     struct timespec until = fkv_later(fkv_now(), ABANDONED_US);
-    while (file->abandoned && !file->stuck && fkv_is_before(fkv_now(), until)) {
+    while ((file->abandoned || file->warmer.is_awake) && !file->stuck && fkv_is_before(fkv_now(), until)) {
         struct turn turn = {0};
         uint64_t done = 0;
         file->abandoned = tend(file, file->abandoned, &done);
-        if (!file->abandoned) return;
+        if (file->warmer.is_awake) fkv_rest_own(file);
+        if (!file->abandoned && !file->warmer.is_awake) return;
         if (fkv_make_turn(file, &turn, NULL, NULL) < 0) return;
         nanosleep(&(struct timespec){0, ABANDONED_TURN_US * 1000}, NULL);
     }
@@ -202,8 +203,10 @@ static uint32_t rest_us(const struct run *run) {
 /* Waits for the next turn, or commit. The file's lock is held. */
 static void rest(const struct run *run) {
     fkv_file *file = run->file;
+    const struct warmer *warmer = &file->warmer;
     if (run->has_called || file->nudged || file->stops) return;
     struct timespec until = fkv_later(fkv_now(), rest_us(run));
+    if (warmer->has_more && fkv_is_before(warmer->rests_until, until)) until = warmer->rests_until;
     if (goes_by_clock(file) && !run->is_put_off && fkv_is_before(run->next, until)) until = run->next;
     pthread_cond_timedwait(&file->work, &file->lock, &until);
 }
@@ -218,11 +221,22 @@ static void finish_commit(const struct run *run, const struct turn *turn) {
     note_finished(run, turn);
 }
 
+/* The library's session does its part. Nothing but what can't wait, while a commit waits for sessions. The lock is held, but meanwhile. */
+static void warm(const struct run *run) {
+    fkv_file *file = run->file;
+    bool has_time = !file->in_hand || run->written > 0;
+    if (!file->has_own) return;
+    pthread_mutex_unlock(&file->lock);
+    fkv_warm(file, has_time);
+    pthread_mutex_lock(&file->lock);
+}
+
 /* A turn, and what it has come to. The file's lock is held, but while the turn goes on. */
 static void go_on(struct run *run) {
     fkv_file *file = run->file;
     struct turn turn = {0};
     tend_abandoned(run);
+    warm(run);
     fkv_take_turn(file);
     bool begins = begin_commit(run);
     bool commits = file->in_hand;
@@ -260,11 +274,22 @@ static void tell_stopped(struct run *run) {
     pthread_mutex_lock(&file->lock);
 }
 
+/* Calls the hook `unwarmed` where that is to be said, once. The file's lock is held, but in the hook. */
+static void tell_unwarmed(fkv_file *file) {
+    const fkv_keeping *keeping = &file->keeping;
+    if (keeping->no_warmer || !keeping->unwarmed || file->has_told_unwarmed || fkv_can_warm(file)) return;
+    file->has_told_unwarmed = true;
+    pthread_mutex_unlock(&file->lock);
+    keeping->unwarmed(keeping->user);
+    pthread_mutex_lock(&file->lock);
+}
+
 static void *keep(void *its_file) {
     struct run run = {.file = its_file};
     fkv_file *file = its_file;
     wake_in_time();
     pthread_mutex_lock(&file->lock);
+    tell_unwarmed(file);
     run.next = fkv_later(fkv_now(), (uint64_t)file->keeping.commit_ms * 1000);
     while (!file->stops) {
         if (fkv_has_turns(file)) go_on(&run);
@@ -272,6 +297,7 @@ static void *keep(void *its_file) {
         if (fkv_has_turns(file)) rest(&run);
         else if (!file->stops) pthread_cond_wait(&file->work, &file->lock);
     }
+    atomic_store(&file->is_behind, false);
     file->runs = false;
     fkv_find_end(file);
     pthread_cond_broadcast(&file->news);
@@ -296,6 +322,7 @@ int fkv_begin_run(fkv_file *file, const fkv_keeping *keeping) {
     file->keeping = keeping ? *keeping : (fkv_keeping){0};
     if (file->keeping.commit_ms > MOST_MS) file->keeping.commit_ms = MOST_MS;
     file->stops = false;
+    fkv_begin_warming(file);
     int failed = start_thread(file);
     file->runs = !failed;
     file->run += !failed;

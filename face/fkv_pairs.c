@@ -27,18 +27,27 @@ void fkv_give_bytes(struct bytes *room) {
     errno = why;
 }
 
+/* The shape that a renewal takes for one that was asked for: all zeros stand for the old store's own, and any other gets one session more. */
+static int32_t shape_for_renewal(const fkv_shape *asked, fkv_shape *shape) {
+    static const fkv_shape none;
+    *shape = none;
+    return asked && memcmp(asked, &none, sizeof none) != 0 ? fkv_with_own(asked, shape) : 0;
+}
+
 /*
  * Renews a store's bytes. What is new has a record for each key, so it is hardly larger than the old one: the first call mostly has room
  * enough. It isn't where the new shape's index is larger.
  */
-int32_t fkv_renew_bytes(struct bytes old, const fkv_shape *shape, uint32_t keys, fkv_renewed *told, struct bytes *new) {
-    static const fkv_shape own;
+int32_t fkv_renew_bytes(struct bytes old, const fkv_shape *asked, uint32_t keys, fkv_renewed *told, struct bytes *new) {
     size_t room = old.size + FKV_IMAGE_SIZE;
+    fkv_shape shape;
+    if (shape_for_renewal(asked, &shape) < 0) return -FKV_BAD_SHAPE;
+    fkv_forget_own(old);
     int32_t result = -FKV_ROOM_SMALL;
     for (int tries = 0; tries < 2 && result == -FKV_ROOM_SMALL; tries++) {
         result = take_room(room, new);
         if (result < 0) return result;
-        result = fkv_renew(old.at, old.size, shape ? shape : &own, keys, told, new->at, new->size);
+        result = fkv_renew(old.at, old.size, &shape, keys, told, new->at, new->size);
         if (result < 0) fkv_give_bytes(new);
         room = (size_t)told->size;
     }

@@ -172,9 +172,11 @@ int fkv_make_over(const char *path, fill_fn *fill, void *its) {
 
 static int write_image(void *image, int fd) { return write_at(fd, 0, image, FKV_IMAGE_SIZE); }
 
-int32_t fkv_make_file(const char *path, const fkv_shape *shape) {
+int32_t fkv_make_file(const char *path, const fkv_shape *asked) {
     uint8_t image[FKV_IMAGE_SIZE];
-    int32_t result = fkv_image(shape, image, sizeof image);
+    fkv_shape shape;
+    int32_t result = fkv_with_own(asked, &shape);
+    if (result == 0) result = fkv_image(&shape, image, sizeof image);
     if (result < 0) return result;
     /* (the rename would tell it too, but after a sync) */
     if (access(path, F_OK) == 0) {
@@ -272,7 +274,7 @@ static bool begins_as_store(const uint8_t *bytes) {
 
 /* How many commits the store of these bytes takes in all its life: the first format is that of specified stores. */
 static uint64_t most_commits_of(const uint8_t *bytes) {
-    return memcmp(bytes, fkv_formats(), FORMAT_SIZE) == 0 ? FKV_MOST_COMMITS : FKV_MOST_LIVING_COMMITS;
+    return fkv_is_living(bytes) ? FKV_MOST_LIVING_COMMITS : FKV_MOST_COMMITS;
 }
 
 /*
@@ -300,7 +302,10 @@ static int32_t open_store(fkv_file *file, const char *path, const fkv_how *how) 
         result = fkv_open(shown.at, shown.size, how->keys, how->warm, &file->store.at, &file->shape, &opened, file->points, FKV_MOST_SESSIONS);
     }
     int why = errno;
-    if (result == 0) file->most_commits = most_commits_of(shown.at);
+    if (result == 0) {
+        file->most_commits = most_commits_of(shown.at);
+        fkv_take_own(file, fkv_is_living(shown.at));
+    }
     if (shown.at) munmap(shown.at, shown.size);
     errno = why;
     file->number = opened.number;
@@ -319,7 +324,7 @@ uint64_t fkv_log_place(const fkv_shape *shape) {
 /* Takes all handles of an open store, and puts its sessions to sleep. */
 static int32_t take_handles(fkv_file *file) {
     int32_t result = fkv_take_keeper(&file->store, &file->keeper.at);
-    for (uint64_t i = 0; i < file->shape.sessions && result == 0; i++) {
+    for (uint64_t i = 0; i < file->shape.sessions + file->has_own && result == 0; i++) {
         result = fkv_take_session(&file->store, i, &file->sessions[i].at);
         /* One that sleeps already stays so. */
         if (result == 0) fkv_sleep(&file->sessions[i]);
@@ -371,6 +376,7 @@ static fkv_file *new_file(void) {
     if (!file) return NULL;
     file->fd = -1;
     atomic_store(&file->ends, -FKV_NO_KEEPER);
+    atomic_store(&file->warmed, UINT64_MAX);
     conditions_of(file, all);
     if (pthread_condattr_init(&by_clock)) goto no_clock;
     pthread_condattr_setclock(&by_clock, CLOCK_MONOTONIC);
@@ -396,6 +402,7 @@ int32_t fkv_open_bytes(const struct bytes *bytes, uint32_t keys, uint64_t warm, 
     file->keys = keys;
     file->warm = warm;
     int32_t result = fkv_open(bytes->at, bytes->size, keys, warm, &file->store.at, &file->shape, &opened, file->points, FKV_MOST_SESSIONS);
+    if (result == 0) fkv_take_own(file, fkv_is_living(bytes->at));
     if (result == 0) result = take_handles(file);
     if (result < 0) {
         fkv_give_up(file);

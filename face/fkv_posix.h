@@ -58,12 +58,24 @@ typedef void fkv_finished_fn(void *user, const fkv_finished *finished);
 /* There are no commits any more, or no room: what fkv_tick answers from now on. */
 typedef void fkv_stopped_fn(void *user, int32_t fault);
 
+/* Nothing keeps this store's memory warm: see fkv_start. */
+typedef void fkv_unwarmed_fn(void *user);
+
 /* ---- Sizes ---------------------------------------------------------------------------------------------------------------- */
+
+/*
+ * Sessions that may be asked for, at most. Each living store of two sessions or more has one of the library's own, by which memory is kept
+ * warm (fkv_start): the last one of its file. It is nobody else's, whether memory is kept warm or not. The calls of this header take and
+ * tell the other sessions alone. So fkv_make_file and the renewals give a file one session more than its shape says: who opens that by
+ * fkv_open of fkv.h has it too. A file with n of fkv_image, or of an older library, has n - 1 for users. A store of one session has none
+ * for the library, and neither has a specified store (FKVSTOR1): there all are the user's.
+ */
+#define FKV_MOST_JOINED 31
 
 /* What a program wants of a new store. A 0 takes the default, which each comment ends with. */
 typedef struct {
     uint64_t keys;                   /* keys that it will have; 65,536 */
-    uint64_t sessions;               /* threads that use it at once, at most 32; 8. A turn takes 0.1 microseconds for each */
+    uint64_t sessions;               /* threads that use it at once, at most 31; 8. A turn takes 0.1 microseconds for each */
     uint64_t memory_bytes;           /* memory that it may take once it is open, at most; as its keys want: some 250 bytes for each */
     uint64_t updates_between_commits; /* keys that are updated between two commits; all of them. The page and the log go by it */
     uint64_t log_bytes;              /* not used yet: kept for how long the log may grow */
@@ -84,21 +96,22 @@ typedef struct {
  * Two rules make a store fast. Memory holds all records between two touches of a key: a key's first update after a commit appends a record,
  * so a key that is touched at random wants memory for several records of each key. With less memory each touch reads the file first. And
  * the index has buckets for all keys: seven fit each, and the overflow buckets take the rest.
- * 0; -FKV_BAD_SHAPE: there are more keys or sessions than any store has, or memory is too small for the index.
+ * 0; -FKV_BAD_SHAPE: there are more keys or sessions than a store may be asked for, or memory is too small for the index.
  */
 int32_t fkv_shape_for(const fkv_wish *wish, fkv_shape *shape);
 
-/* What a store of this shape takes, and holds. 0; -FKV_BAD_SHAPE, -FKV_MEMORY. */
+/* What a store of this shape takes, and holds, with the library's session. 0; -FKV_BAD_SHAPE (of 32 sessions too), -FKV_MEMORY. */
 int32_t fkv_size_of(const fkv_shape *shape, fkv_size *size);
 
 /* ---- The file ------------------------------------------------------------------------------------------------------------- */
 
 /*
- * Makes the file of a new living store of this shape. It is written under another name in the same folder, synced, and put in place by a
- * rename that replaces nothing; then the folder is synced. So a crash leaves the whole file or none of this name. It may leave one of
- * another name, `path` with ".new" and eight digits, which no store needs. The file isn't open after the call.
- * 0; -FKV_BAD_SHAPE, -FKV_MEMORY, -FKV_DEVICE (errno EEXIST: there is a file of this name, and it stays as it is). If the folder's
- * sync alone has failed, the new file stays in place, and the next call tells EEXIST. An opening syncs the folder again.
+ * Makes the file of a new living store of this shape, which has 1 to 31 sessions (FKV_MOST_JOINED). It is written under another name in
+ * the same folder, synced, and put in place by a rename that replaces nothing; then the folder is synced. So a crash leaves the whole file or
+ * none of this name. It may leave one of another name, `path` with ".new" and eight digits, which no store needs. The file isn't open after
+ * the call.
+ * 0; -FKV_BAD_SHAPE (of 32 sessions too), -FKV_MEMORY, -FKV_DEVICE (errno EEXIST: there is a file of this name, and it stays as it is). If the
+ * folder's sync alone has failed, the new file stays in place, and the next call tells EEXIST. An opening syncs the folder again.
  */
 int32_t fkv_make_file(const char *path, const fkv_shape *shape);
 
@@ -136,8 +149,9 @@ int32_t fkv_open_file(const char *path, const fkv_how *how, fkv_file **out);
 
 /*
  * Closes the file. If the keeper's thread runs, and a session has done something that no commit keeps, a last commit is made first. Then
- * the thread ends. Without the thread, what no commit has kept is lost. Requests of an abandoned session that can't be finished hold the
- * store's memory until the process ends: a call of the file has failed, or the index or the log is full. Then it takes a second or two.
+ * the thread ends. Without the thread, what no commit has kept is lost. Requests of an abandoned session, or of the library's, that can't be
+ * finished hold the store's memory until the process ends: a call of the file has failed, or the index or the log is full. Then it takes a
+ * second or two.
  * 0; the fault of the last commit (-FKV_DEVICE, -FKV_VERSIONS_SPENT, -FKV_LOG_FULL ..). The file is closed then too.
  * -FKV_HANDLE_OUT while a session is joined, and in a hook of the keeper's thread. Then the file stays open.
  */
@@ -173,8 +187,8 @@ int32_t fkv_each(fkv_file *file, fkv_pair_fn *each, void *user);
 
 /*
  * Renews the store of the old file in a new one, as fkv_renew does, and puts that in place as fkv_make_file does. The old one is locked
- * meanwhile, and stays as it is. `shape` is NULL or all zeros for its own sizes and class. Of other sizes the new store is a living one.
- * `renewed` may be NULL.
+ * meanwhile, and stays as it is. `shape` is NULL or all zeros for its own sizes and class: the new file has as many sessions then. Of other
+ * sizes the new store is a living one, with 1 to 31 sessions (FKV_MOST_JOINED). The library's session begins anew. `renewed` may be NULL.
  * The refusals are those of fkv_renew but -FKV_ROOM_SMALL; -FKV_DEVICE (errno EWOULDBLOCK: the old store is open; EEXIST: there is a file
  * of the new name).
  */
@@ -183,10 +197,9 @@ int32_t fkv_renew_file(const char *old_path, const char *new_path, const fkv_sha
 /*
  * Renews an open store in place: what no room or no commits were left of lives on under its own name. Each session has left before. If the
  * keeper's thread runs, a last commit is made if something isn't kept. Then the renewal is written to a new file, which takes the name of
- * the old one, and the thread goes on. `shape` is NULL or all zeros for the store's own sizes and class. Of other sizes the new store is a
- * living one. `renewed` may be NULL. A crash leaves the old store or the new one, with the same pairs and points. Sessions that join then
- * go on with their serials; who joins meanwhile waits. The new store's commits count from 1 again, since each store's file says its number
- * itself.
+ * the old one, and the thread goes on. `shape` is as of fkv_renew_file. `renewed` may be NULL. A crash leaves the old store or the new one,
+ * with the same pairs and points. Sessions that join then go on with their serials; who joins meanwhile waits. The new store's commits count
+ * from 1 again, since each store's file says its number itself.
  *
  * It takes the memory of fkv_each and that of the new store. Another name of the file (a link) stays the old store's.
  * 0; -FKV_HANDLE_OUT while a session is joined or abandoned, and in a hook of the keeper's thread; -FKV_NO_KEEPER where something isn't kept
@@ -196,7 +209,7 @@ int32_t fkv_renew_file(const char *old_path, const char *new_path, const fkv_sha
  */
 int32_t fkv_renew_here(fkv_file *file, const fkv_shape *shape, fkv_renewed *renewed);
 
-/* The store's shape. */
+/* The store's shape. Its sessions are those that can be joined. */
 fkv_shape fkv_shape_of(const fkv_file *file);
 
 /* The number of the last finished commit, 0 in a new store, and the last serial of each session that it keeps: see fkv_open. */
@@ -299,6 +312,8 @@ typedef struct {
     fkv_progress_fn *progress;   /* called as a commit begins and after each of its calls of the file, or NULL */
     void *user;                  /* handed to all hooks. The keeper's thread calls them: make them short, and call no fkv_file there */
     fkv_stopped_fn *stopped;     /* called once, as commits end for good or the log is found full, or NULL. See fkv_tick */
+    fkv_unwarmed_fn *unwarmed;   /* called once, as the thread begins, if memory can't be kept warm in this store, or NULL. See below */
+    uint32_t no_warmer;          /* not 0: memory isn't kept warm, though it could be */
 } fkv_keeping;
 
 /*
@@ -306,6 +321,25 @@ typedef struct {
  * happens for 30 milliseconds, rests grow to 20 milliseconds. Whoever waits by a call of this header makes his turns himself, or has them
  * made; who polls by himself calls fkv_nudge. While no session is joined it rests 100 milliseconds, or `turn_us` if that is longer. In a
  * commit it rests at most 50 microseconds, and 20 as that begins.
+ *
+ * Memory is kept warm. Records leave it in their order, so what is only read would be read from the file some day. Between two turns, before
+ * a page's frame is used again, the thread keeps each record there that is the newest of its home, by the library's own session
+ * (FKV_MOST_JOINED): fkv_keep makes a new record of it. It keeps each key too that fkv_read or fkv_read_many has found in the file alone.
+ * Serials, points and values of users stay as they are. A store in which nothing is appended and found does none of it. What it may take:
+ *
+ *   log     Of all records that the log has room for in the store's life an eighth at most are the library's, and for reads no more than half
+ *           of those that are there. So -FKV_LOG_FULL comes by an eighth of the log earlier at most. Nothing is kept any more where a
+ *           sixteenth of that room is left, or 65,536 records if that is more. A renewal begins anew
+ *   time    Half of the thread's at most, and none while a commit waits for sessions. If it is behind with what is about to leave memory, it
+ *           works for it before each turn all the same, for 2 milliseconds at most. Updates by calls of this header then wait before they
+ *           begin, for 0.2 seconds at most, and refresh their sessions meanwhile
+ *
+ * If memory has no room for the newest records of all homes, more than three in four of those that leave it are such. Then pages are let go
+ * as they are, until they are half at most. Of keys that share a home only the last updated is kept.
+ *
+ * It can't be if the store has no session for it, if its pages in memory are fewer than 4, or if its log has room for 65,536 records at most.
+ * Then `unwarmed` is called, once for each opening. It works a quarter of memory ahead: so five eighths hold what is live, or more. Pages that are
+ * mutable are passed over: if no commit makes them read-only, and all but one page are mutable, nothing is kept.
  * 0; -FKV_HANDLE_TAKEN where it runs already, -FKV_DEVICE (errno) where the system starts none.
  */
 int32_t fkv_start(fkv_file *file, const fkv_keeping *keeping);
@@ -383,6 +417,7 @@ typedef struct {
     uint64_t helped;        /* of which so many were made by threads of sessions that waited */
     uint64_t cold_reads;    /* records that were read back from the file */
     uint64_t fetched;       /* records that the system was asked for ahead of their reads, by fkv_read_many */
+    uint64_t kept;          /* records that the library has kept in memory, each by an update of its own session */
     uint64_t file_bytes;    /* bytes of the file */
     uint64_t begin;         /* where the log begins: the address of its first record, which is 1. The next four are of fkv_offsets */
     uint64_t head;          /* records below it are read from the file */

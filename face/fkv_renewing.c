@@ -41,6 +41,7 @@ static void swap(fkv_file *file, fkv_file *fresh) {
     old.fd = file->fd, old.store = file->store, old.keeper = file->keeper;
     memcpy(old.sessions, file->sessions, sizeof old.sessions);
     file->fd = fresh->fd, file->store = fresh->store, file->keeper = fresh->keeper, file->shape = fresh->shape;
+    file->has_own = fresh->has_own, file->warmer = fresh->warmer;
     memcpy(file->sessions, fresh->sessions, sizeof old.sessions);
     memcpy(file->points, fresh->points, sizeof file->points);
     file->most_commits = fresh->most_commits, file->number = fresh->number, file->log_end = fresh->log_end;
@@ -77,11 +78,23 @@ static int32_t replace(fkv_file *file, struct bytes *new) {
     return -FKV_DEVICE;
 }
 
+/* Finishes what is pending of the library's session, which else would hold the old store's memory. A backup may be made meanwhile. */
+static void end_own(fkv_file *file) {
+    pthread_mutex_lock(&file->lock);
+    fkv_take_turn(file);
+    pthread_mutex_unlock(&file->lock);
+    fkv_end_abandoned(file);
+    pthread_mutex_lock(&file->lock);
+    fkv_give_turn(file);
+    pthread_mutex_unlock(&file->lock);
+}
+
 /* The keeper's thread has ended, and all is kept. */
 static int32_t renew(fkv_file *file, const fkv_shape *shape, fkv_renewed *told) {
     static const fkv_how read_all;
     struct bytes old = {NULL, 0}, new = {NULL, 0};
     if (!file->path) return errno = ENOENT, -FKV_DEVICE;
+    end_own(file);
     int32_t result = fsync(file->fd) ? -FKV_DEVICE : fkv_show_bytes(file->fd, &read_all, &old);
     if (result == 0) result = fkv_renew_bytes(old, shape, FKV_AS_THEY_LIE, told, &new);
     fkv_give_bytes(&old);

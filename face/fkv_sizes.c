@@ -30,7 +30,10 @@ enum {
     /* Bytes that the copy of a full commit takes for each bucket. */
     COPY_SIZE = 112,
     /* An opening has the store's words twice for a moment, and so many bytes for each key. (measured: 170 to 230) */
-    OPENED_SIZE = 200
+    OPENED_SIZE = 200,
+    /* Before it has them, recovery sorts the records behind the checkpoint, so many at once: `PART` of crates/fkv_scan/src/parts.rt. */
+    SORTED_SIZE = 64,
+    MOST_SORTED = 1 << 18
 };
 
 static const uint64_t MOST_DISK_PAGES = UINT64_C(1) << 30;
@@ -48,8 +51,9 @@ static uint64_t power_for(uint64_t number) {
 
 static uint64_t buckets_of(const fkv_shape *shape) { return (UINT64_C(1) << shape->bucket_bits) + shape->overflow; }
 
+/* (the library's session beside those that are asked for) */
 static uint64_t words_of(const fkv_shape *shape) {
-    return STORE_WORDS + SESSION_WORDS * shape->sessions + BUCKET_WORDS * buckets_of(shape) + RECORD_WORDS * shape->page * shape->frames;
+    return STORE_WORDS + SESSION_WORDS * (shape->sessions + 1) + BUCKET_WORDS * buckets_of(shape) + RECORD_WORDS * shape->page * shape->frames;
 }
 
 static uint64_t memory_of(const fkv_shape *shape) { return 8 * words_of(shape) + COPY_SIZE * buckets_of(shape); }
@@ -82,7 +86,7 @@ static double overflow_of(double keys) {
 
 /*
  * So many keys fit, all but surely. Each session may keep a spare bucket for itself, and chance takes some more: four times as many as the
- * root of what is wanted.
+ * root of what is wanted. The library's session takes none: it updates keys that the index has.
  */
 static uint64_t keys_of(const fkv_shape *shape) {
     double buckets = (double)(UINT64_C(1) << shape->bucket_bits);
@@ -127,7 +131,7 @@ int32_t fkv_shape_for(const fkv_wish *wish, fkv_shape *shape) {
     uint64_t records = RECORDS_A_KEY * power_for(least(keys, UINT64_C(1) << 32));
     shape->sessions = wish->sessions ? wish->sessions : USUAL_SESSIONS;
     shape->page = MOST_PAGE, shape->disk_pages = MOST_DISK_PAGES;
-    if (shape->sessions > FKV_MOST_SESSIONS) return -FKV_BAD_SHAPE;
+    if (shape->sessions > FKV_MOST_JOINED) return -FKV_BAD_SHAPE;
     shape_index(shape, keys);
     if (keys_of(shape) < keys) return -FKV_BAD_SHAPE;
     records = most(records, LEAST_PAGE * LEAST_FRAMES);
@@ -145,12 +149,14 @@ int32_t fkv_shape_for(const fkv_wish *wish, fkv_shape *shape) {
 
 int32_t fkv_size_of(const fkv_shape *shape, fkv_size *size) {
     uint8_t image[FKV_IMAGE_SIZE];
-    int32_t result = fkv_image(shape, image, sizeof image);
+    fkv_shape its;
+    int32_t result = fkv_with_own(shape, &its);
+    if (result == 0) result = fkv_image(&its, image, sizeof image);
     if (result < 0) return result;
     uint64_t keys = keys_of(shape);
     *size = (fkv_size){
         .memory_bytes = memory_of(shape),
-        .opening_bytes = 2 * 8 * words_of(shape) + OPENED_SIZE * keys,
+        .opening_bytes = most(2 * 8 * words_of(shape), SORTED_SIZE * least(shape->page * shape->disk_pages, MOST_SORTED)) + OPENED_SIZE * keys,
         .file_bytes = fkv_log_place(shape) + RECORD_SIZE * shape->page * shape->disk_pages,
         .keys = keys,
         .records = shape->page * shape->disk_pages - 1,

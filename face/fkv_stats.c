@@ -54,6 +54,7 @@ int32_t fkv_stats_of(fkv_file *file, fkv_stats *stats) {
         .helped = file->helped,
         .cold_reads = file->cold_reads,
         .fetched = atomic_load_explicit(&file->fetched, memory_order_relaxed),
+        .kept = atomic_load_explicit(&file->kept, memory_order_relaxed),
         .file_bytes = is_known ? (uint64_t)known.st_size : 0,
         .begin = FIRST_ADDRESS,
         .head = offsets.head,

@@ -140,6 +140,8 @@ static int32_t end_calls(fkv_file *file, struct turn *turn, int32_t call, tell_t
     uint8_t into[FKV_READ_SIZE] = {0};
     bool has_called = call > FKV_OVER;
     while (call > FKV_OVER) {
+        /* (that may take long) */
+        if (atomic_load_explicit(&file->is_behind, memory_order_relaxed)) atomic_store(&file->is_behind, false);
         int failed = make_call(file, call, &turn->turned, into);
         if (failed) turn->why = errno;
         else note_call(file, turn, call);
@@ -150,6 +152,7 @@ static int32_t end_calls(fkv_file *file, struct turn *turn, int32_t call, tell_t
     /* Where memory was refused, the next turn would at once be refused it again. */
     turn->has_called = has_called && call == FKV_OVER;
     turn->rests = call == FKV_OVER && fkv_rests(&file->keeper);
+    fkv_hide_own(file, turn->points);
     return call;
 }
 
@@ -182,6 +185,7 @@ void fkv_sync_ahead(fkv_file *file) {
 
 void fkv_take_turn(fkv_file *file) {
     while (atomic_load(&file->turning)) {
+        atomic_store(&file->is_behind, false);
         file->is_wanted = true;
         pthread_cond_wait(&file->over, &file->lock);
     }
@@ -215,7 +219,7 @@ int32_t fkv_help(fkv_file *file) {
     bool is_free = why == 0 && !atomic_load(&file->turning) && !file->is_wanted;
     /* A commit's turns sync: these are the keeper's thread's. It makes them one after the other as long as somebody waits. But while it is in a sync, turns serve. */
     bool commits = atomic_load(&file->in_hand);
-    bool is_own = is_free && (!commits || file->is_syncing);
+    bool is_own = is_free && (!commits || file->is_syncing) && !fkv_awaits_warmer(file);
     if (is_own) atomic_store(&file->turning, true);
     else if (is_free && !file->nudged) {
         file->nudged = true;
@@ -229,6 +233,8 @@ int32_t fkv_help(fkv_file *file) {
     pthread_mutex_lock(&file->lock);
     file->helped++;
     fkv_end_turn(file, &turn, result);
+    /* A page was written, so others will soon leave memory. */
+    if (turn.written && atomic_load_explicit(&file->warmed, memory_order_relaxed) != UINT64_MAX) pthread_cond_signal(&file->work);
     pthread_mutex_unlock(&file->lock);
     return 1;
 }

@@ -16,6 +16,8 @@ enum {
     /* The clock is asked from so many polls on. */
     FIRST_POLLS = 8,
     PAUSES = 20,
+    /* An update lets the library's session go first, for so long at most. */
+    GIVES_WAY_US = 200000,
     /* Who waits for a commit that can't be finished, since an update waits for ever, is told so then. */
     STUCK_US = 1000000
 };
@@ -65,6 +67,23 @@ static int32_t wait_for_turn(fkv_file *file, const struct patience *its, uint64_
     fkv_note_stuck(file, never);
     pthread_mutex_unlock(&file->lock);
     return never;
+}
+
+int32_t fkv_give_way(fkv_file *file, fkv_session *session) {
+    struct timespec begun = fkv_now();
+    int32_t result = 0;
+    while (result == 0 && fkv_since(begun) < GIVES_WAY_US) {
+        struct timespec until = fkv_later(fkv_now(), WAIT_US);
+        pthread_mutex_lock(&file->lock);
+        bool is_behind = atomic_load(&file->is_behind) && !fkv_unserved(file);
+        file->waiting++;
+        if (is_behind) pthread_cond_timedwait(&file->served, &file->lock, &until);
+        file->waiting--;
+        pthread_mutex_unlock(&file->lock);
+        if (!is_behind) return 0;
+        result = fkv_refresh_seat(file, session);
+    }
+    return result;
 }
 
 /* Between two polls. `helped` says whether this thread has made a turn meanwhile. */

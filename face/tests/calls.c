@@ -127,6 +127,7 @@ static void updates(void) {
     fkv_session *session = &it.sessions[0];
     WANTS("the number of a new store", it.told.number, 0);
     WANTS("its sessions", it.shape.sessions, SESSIONS);
+    WANTS("a meeting", fkv_meet(session, &it.sessions[1]), 0);
     WANTS("the last serial", fkv_serial(session, &serial), 0);
     WANTS("that serial", serial, 0);
     WANTS("a read of no value", fkv_get(session, 7, &value), FKV_NONE);
@@ -444,6 +445,7 @@ static void hints(uint32_t keys_lie) {
     settle(&it);
     for (int i = 0; i < SESSIONS; i++) WANTS("ending a session", fkv_end_session(&it.sessions[i]), 0);
     WANTS("offsets of an ended session", fkv_hint_offsets(session, &its), -FKV_NO_SESSION);
+    WANTS("a meeting of ended sessions", fkv_meet(session, &it.sessions[SESSIONS - 1]), -FKV_NO_SESSION);
     WANTS("where it says that a key leads", fkv_hint_where(session, 3000), 0);
     WANTS("the keys that it tells", fkv_hint_keys(session, 1, keys, RECORDS), 0);
     fkv_end_keeper(&it.keeper);

@@ -63,7 +63,7 @@ static const char *path_of(const char *name) {
 static void open_store(const char *name, bool is_mapped) {
     fkv_how how = {.mapped = is_mapped, .warm = FKV_COLD};
     WANTS("opening", fkv_open_file(path_of(name), &how, &file), 0);
-    WANTS("starting the keeper", fkv_start(file, NULL), 0);
+    WANTS("starting the keeper", fkv_start(file, &(fkv_keeping){.no_warmer = 1}), 0);
     WANTS("joining", fkv_join(file, 0, &session), 0);
 }
 

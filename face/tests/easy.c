@@ -415,12 +415,12 @@ static void sizes(void) {
     WANTS("its size", fkv_size_of(&shape, &size), 0);
     WANTS("whether it takes no more", size.memory_bytes <= 16 << 20, true);
     WANTS("too little memory", fkv_shape_for(&(fkv_wish){.keys = 100000, .memory_bytes = 1000}, &shape), -FKV_BAD_SHAPE);
-    WANTS("too many sessions", fkv_shape_for(&(fkv_wish){.sessions = 33}, &shape), -FKV_BAD_SHAPE);
+    WANTS("too many sessions", fkv_shape_for(&(fkv_wish){.sessions = FKV_MOST_JOINED + 1}, &shape), -FKV_BAD_SHAPE);
     WANTS("too many keys", fkv_shape_for(&(fkv_wish){.keys = UINT64_C(1) << 40}, &shape), -FKV_BAD_SHAPE);
     WANTS("the size of no shape", fkv_size_of(&(fkv_shape){0}, &size), -FKV_BAD_SHAPE);
-    WANTS("a shape of 1,000 keys", fkv_shape_for(&(fkv_wish){.keys = 1000, .sessions = 32}, &shape), 0);
+    WANTS("a shape of 1,000 keys", fkv_shape_for(&(fkv_wish){.keys = 1000, .sessions = FKV_MOST_JOINED}, &shape), 0);
     wants_room(&shape, "thousand");
-    wants_room(&(fkv_shape){6, 64, 16, 8, 32, 64, 65536}, "crowded");
+    wants_room(&(fkv_shape){6, 64, 16, 8, FKV_MOST_JOINED, 64, 65536}, "crowded");
     wants_room(&(fkv_shape){8, 64, 16, 8, 1, 16, 65536}, "few");
     WANTS("a shape without overflow", fkv_size_of(&(fkv_shape){8, 64, 16, 8, 1, 0, 65536}, &size), 0);
     WANTS("its keys", size.keys, 0);
@@ -454,7 +454,7 @@ static void many(void) {
     WANTS("leaving", fkv_leave(file, session), 0);
     WANTS("closing", fkv_close_file(file), 0);
     WANTS("opening", fkv_open_file(path_of("many"), &(fkv_how){.warm = FKV_COLD}, &file), 0);
-    WANTS("starting the keeper", fkv_start(file, &(fkv_keeping){0}), 0);
+    WANTS("starting the keeper", fkv_start(file, &(fkv_keeping){.no_warmer = 1}), 0);
     session = joined(1);
     WANTS("reads with too little room", fkv_read_many(file, session, keys, COUNT, told, COUNT - 1), -FKV_ROOM_SMALL);
     /* Other requests have taken all places but a few. */

@@ -91,7 +91,7 @@ static void making(void) {
     fkv_shape bad = SHAPE;
     fkv_opened opened;
     fkv_how how = {.opened = &opened};
-    bad.sessions = 33;
+    bad.sessions = FKV_MOST_JOINED + 1;
     WANTS("a file of a bad shape", fkv_make_file(path, &bad), -FKV_BAD_SHAPE);
     WANTS("opening no file", fkv_open_file(path, NULL, &file), -FKV_DEVICE);
     WANTS("why", errno, ENOENT);
@@ -314,10 +314,10 @@ static void own_turns(void) {
     fkv_seen seen;
     fkv_file *file;
     uint64_t points[FKV_MOST_SESSIONS], number, written = 0, value;
-    WANTS("making a file", fkv_make_file(path_of("own_turns"), &shape), 0);
-    int fd = open(path_of("own_turns"), O_RDWR);
-    ssize_t size = read(fd, bytes, sizeof bytes);
-    WANTS("opening its bytes", fkv_open(bytes, (size_t)size, FKV_SPREAD, FKV_COLD, &store.at, &shape, &opened, points, FKV_MOST_SESSIONS), 0);
+    WANTS("its bytes", fkv_image(&shape, bytes, sizeof bytes), 0);
+    int fd = open(path_of("own_turns"), O_RDWR | O_CREAT, 0666);
+    WANTS("writing them", write(fd, bytes, sizeof bytes), sizeof bytes);
+    WANTS("opening its bytes", fkv_open(bytes, sizeof bytes, FKV_SPREAD, FKV_COLD, &store.at, &shape, &opened, points, FKV_MOST_SESSIONS), 0);
     WANTS("taking the session", fkv_take_session(&store, 0, &session.at), 0);
     WANTS("taking the keeper", fkv_take_keeper(&store, &keeper.at), 0);
     WANTS("an upsert", fkv_upsert(&session, 7, 10, &update), FKV_DONE);

@@ -52,6 +52,25 @@ static void use_keys(fkv::Session &session) {
     session.wake();
 }
 
+/* A session does what the other then finds, in a thread that ends before they meet. */
+static void use_two(fkv::Store &store) {
+    fkv::Session first = store.join(0), second = store.join(3);
+    std::uint64_t left = 0;
+    std::thread([&] { left = first.increment(11, 5).value; }).join();
+    second.meet(first);
+    WANT(left == 5 && second.read(11) == 5u);
+    WANT(second.remove(11).serial > 0);
+    first.meet(second);
+    WANT(!first.read(11));
+    bool is_refused = false;
+    try {
+        first.meet(first);
+    } catch (const std::invalid_argument &) {
+        is_refused = true;
+    }
+    WANT(is_refused);
+}
+
 static void use_store(const std::string &path) {
     fkv::Store store = fkv::Store::open_or_make(path, fkv::Wish{1000, 4});
     WANT(refused([&] { fkv::Store::open(path); }).system() == EWOULDBLOCK);
@@ -89,6 +108,7 @@ static void use_store(const std::string &path) {
         first = std::move(second);
         WANT(first.get() == its && second.get() == nullptr && store.join(2).get() != its);
     }
+    use_two(store);
     {
         fkv::Session session = store.join(2);
         WANT(refused([&] { store.renew(); }).fault() == FKV_HANDLE_OUT && session.read(8) == 4u);
@@ -119,6 +139,41 @@ static void commit_each(const std::string &path) {
     std::uint64_t seen = number;
     WANT(comes([&] { return session.tick(), number > seen + 2; }));
     WANT(session.durable() == made && store.last_commit().number >= seen + 2);
+}
+
+/* A store has as many sessions as were asked for, and no more; of one without one for the library a hook says so, once. */
+static void sessions(const std::string &path) {
+    fkv::Shape shape = fkv::shape_for(fkv::Wish{100, 3});
+    WANT(shape.sessions == 3 && refused([] { fkv::shape_for(fkv::Wish{100, FKV_MOST_JOINED + 1}); }).fault() == FKV_BAD_SHAPE);
+    fkv::Store::make(path, shape);
+    std::atomic<int> told{0};
+    fkv::Keeping keeping;
+    keeping.unwarmed = [&] { told++; };
+    {
+        fkv::Store store = fkv::Store::open(path);
+        fkv::Keeper keeper = store.start(keeping);
+        std::vector<fkv::Session> all;
+        for (int i = 0; i < 3; i++) all.push_back(store.join());
+        WANT(refused([&] { store.join(); }).fault() == FKV_NO_SESSION && refused([&] { store.join(3); }).fault() == FKV_NO_SESSION);
+        WANT(store.shape().sessions == 3 && store.last_commit().points.size() == 3 && store.stats().joined == 7 && store.stats().kept == 0);
+        all.clear();
+        store.renew(fkv::shape_for(fkv::Wish{200, 5}));
+        WANT(store.shape().sessions == 5 && store.last_commit().points.size() == 5);
+        keeper.stop();
+        WANT(told == 0);
+    }
+    std::uint8_t image[FKV_IMAGE_SIZE];
+    shape.sessions = 1;
+    fkv::check(fkv_image(&shape, image, sizeof image));
+    std::FILE *file = std::fopen((path + ".one").c_str(), "wb");
+    WANT(file && std::fwrite(image, sizeof image, 1, file) == 1 && std::fclose(file) == 0);
+    fkv::Store store = fkv::Store::open(path + ".one");
+    for (bool warms : {false, true, true}) {
+        int before = told;
+        keeping.warms = warms;
+        store.start(keeping).stop();
+        WANT(store.shape().sessions == 1 && told == (warms ? 1 : before));
+    }
 }
 
 /* The log is full: the hook says so, once. */
@@ -160,6 +215,7 @@ int main(int count, char **words) {
     WANT(fkv::shape_for(fkv::Wish{}).sessions == 8);
     use_store(path);
     commit_each(path + ".each");
+    sessions(path + ".sessions");
     stopped(path + ".full");
     stop_past_own(path + ".own");
     {

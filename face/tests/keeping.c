@@ -16,7 +16,7 @@
 #include <unistd.h>
 
 /* A test that waits for ever is ended by a signal behind so many seconds. */
-enum { WAIT_MS = 300, MOST_SECONDS = 240, MANY_TICKS = 1000, SESSIONS = FKV_MOST_SESSIONS, LAST = SESSIONS - 1, PATH_ROOM = 500 };
+enum { WAIT_MS = 300, MOST_SECONDS = 240, MANY_TICKS = 1000, SESSIONS = FKV_MOST_JOINED, LAST = SESSIONS - 1, PATH_ROOM = 500 };
 
 /* Little memory, so that updates soon wait for the keeper. */
 static const fkv_shape SHAPE = {6, 16, 8, 4, SESSIONS, 64, 4096};

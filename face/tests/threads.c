@@ -1,6 +1,7 @@
 /*
  * Threads that join and leave two stores of one process, and wait for commits: threads FOLDER. Each thread has keys of its own, and
- * finds its values whatever session it gets; what it has waited for is there in the next life.
+ * finds its values whatever session it gets; what it has waited for is there in the next life. Two threads tell each other under a mutex
+ * what they have done, and each finds what it was told.
  */
 #define _POSIX_C_SOURCE 200809L
 #include "fkv_posix.h"
@@ -63,6 +64,51 @@ static void *work(void *its) {
     return NULL;
 }
 
+/* Two threads, each with a session. A mutex orders their calls, and under it each tells the other how far its key has come. */
+struct teller {
+    pthread_t thread;
+    pthread_mutex_t *mutex;
+    fkv_file *file;
+    fkv_session *session;
+    struct teller *other;
+    uint64_t key;
+    uint64_t told;
+};
+
+static void tell_once(struct teller *teller) {
+    const struct teller *other = teller->other;
+    fkv_update update;
+    uint64_t value = 0;
+    WANTS("an increment", fkv_increment(teller->file, teller->session, teller->key, 1, &update), FKV_DONE);
+    teller->told = update.value;
+    WANTS("a meeting", fkv_meet(teller->session, other->session), 0);
+    WANTS("a read", fkv_read(teller->file, teller->session, other->key, &value), other->told ? FKV_FOUND : FKV_NONE);
+    WANTS("what the other told", value, other->told);
+    WANTS("a tick", fkv_tick(teller->file, teller->session), 0);
+}
+
+static void *tell(void *its) {
+    struct teller *teller = its;
+    for (int round = 0; round < ROUNDS * 10; round++) {
+        pthread_mutex_lock(teller->mutex);
+        tell_once(teller);
+        pthread_mutex_unlock(teller->mutex);
+        sched_yield();
+    }
+    return NULL;
+}
+
+static void tell_each_other(fkv_file *file) {
+    pthread_mutex_t mutex = PTHREAD_MUTEX_INITIALIZER;
+    struct teller tellers[2];
+    for (int i = 0; i < 2; i++) {
+        tellers[i] = (struct teller){.mutex = &mutex, .file = file, .session = joined(file), .other = &tellers[1 - i], .key = 1000 + (uint64_t)i};
+    }
+    for (int i = 0; i < 2; i++) WANTS("a thread", pthread_create(&tellers[i].thread, NULL, tell, &tellers[i]), 0);
+    for (int i = 0; i < 2; i++) pthread_join(tellers[i].thread, NULL);
+    for (int i = 0; i < 2; i++) WANTS("leaving", fkv_leave(file, tellers[i].session), 0);
+}
+
 int main(int count, char **words) {
     static struct worker workers[STORES][WORKERS];
     char paths[STORES][PATH_ROOM];
@@ -88,6 +134,7 @@ int main(int count, char **words) {
         fkv_session *session = joined(file);
         for (int j = 0; j < WORKERS; j++) wants_values(file, session, &workers[i][j]);
         WANTS("leaving", fkv_leave(file, session), 0);
+        tell_each_other(file);
         WANTS("closing", fkv_close_file(file), 0);
     }
     return 0;

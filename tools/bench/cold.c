@@ -108,8 +108,9 @@ static void make(void) {
 /* Rounds of both ways, each by 1, 2 and 4 threads. */
 static void time_rounds(const char *where, int is_on_disk) {
     fkv_how how = {.mapped = strcmp(where, "mapped") == 0, .warm = FKV_COLD};
+    fkv_keeping keeping = {.no_warmer = 1};
     must(fkv_open_file(path, &how, &file), "open");
-    must(fkv_start(file, NULL), "start");
+    must(fkv_start(file, &keeping), "start");
     blocks = is_on_disk ? DISK_BLOCKS : BLOCKS;
     for (is_many = 0; is_many < 2; is_many++) {
         for (int threads = 1; threads <= MOST_THREADS; threads *= 2) {
@@ -125,7 +126,7 @@ static void time_rounds(const char *where, int is_on_disk) {
 /* So many blocks of reads by this thread, which makes each turn of the keeper: for callgrind. Before the first count the store is made. */
 static int count_reads(const char *way, int block_count) {
     fkv_how how = {.warm = FKV_COLD};
-    fkv_keeping keeping = {.turn_us = LONG_US};
+    fkv_keeping keeping = {.turn_us = LONG_US, .no_warmer = 1};
     uint64_t seed = 88172645463325252u;
     key_count = COUNTED_KEYS, blocks = block_count, is_many = strcmp(way, "many") == 0;
     if (strcmp(way, "make") == 0) {

@@ -226,7 +226,7 @@ engine's own words. The clauses `limit` and `covered`, and `once`, also speak of
 What the library's calls are told, whichever threads make them. The calls at a table are in one list of events, and each session's *pass* has seen a beginning of it. A
 contract says of a call how the list has grown, and what the laws say of that list.
 
-No law says what a commit's entry in the list means. If it took a log commit for a full one, `law_threads` would be proved as well. A turn asks for an honest device.
+That a commit's entry in the list is of the kind that was asked for is the clause `kinds`. A turn asks for an honest device.
 """,
         "functions": [
             ("law_threads", "lib.rt", "law_threads"),
@@ -235,6 +235,8 @@ No law says what a commit's entry in the list means. If it took a log commit for
             ("fkv_threads", "many.rt", "ops"),
             ("fkv_threads", "keeper_seats.rt", "turn"),
             ("fkv_threads", "passes.rt", "join"),
+            ("fkv_threads", "seated.rt", "meet"),
+            ("fkv_threads", "passes.rt", "law_of_meetings"),
         ],
         "also": [
             ("fkv_threads", "seated.rt", "op"),

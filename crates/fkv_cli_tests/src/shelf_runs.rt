@@ -33,8 +33,9 @@ pub fn run_on_shelf<R: Read + Drop, W: Write, E: Write>(
     run(shelf, alloc, words, input, output, complaints)
 }
 
-/// What a run over a shelf tells, with no premise of a device. A report is of the store that the shelf's bytes hold, with just its pairs.
-/// If the store isn't opened, they have the fault. If a new store was made, there is a device that holds such a one.
+/// What a run over a shelf tells, with no premise of a device. A report is of the store that the shelf's bytes hold, with just its pairs, and behind it stands
+/// what a life over a device that holds this store prints, or nothing if the run breaks off. If the store isn't opened, the bytes have the fault. If a new
+/// store was made, a device was given for it, and the output is what a life prints over a device that holds it.
 pub fn law_of_a_shelf()
     ensures { (shelf : said.Shelf) → said.TellsOf (said.shelf_files ⟦<Fuse<MemDisk> as Device>⟧ ⟦<Fuse<MemDisk> as Breaks>⟧.broken shelf)
         (said.shelf_name shelf) (said.shelf_image shelf) }

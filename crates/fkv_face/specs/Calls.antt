@@ -10,14 +10,16 @@ use Rattle.fkv_map.specs.declared.operations.Op.{Op}
 use Rattle.fkv_map.specs.declared.operations.Op.TheVariants as op
 use Rattle.fkv_handles.specs.Below.fkv_world.Runs.{World}
 use Rattle.fkv_handles.specs.declared.sessions.Session.{Session}
-use Rattle.fkv_handles.specs.Handles.{Opening, sitting_of}
-use Rattle.fkv_handles.specs.Sittings.{IsLastSerial}
+use Rattle.fkv_handles.specs.Handles.{Opening, keys_of}
+use Rattle.fkv_handles.specs.Sittings.{HaveMet, IsLastSerial}
 use Rattle.fkv_face.specs.declared.sessions.Seen.{Seen}
 use Rattle.fkv_face.specs.declared.sessions.Update.{Update}
 use Rattle.fkv_face.specs.declared.told.Numbers.{Numbers}
 use Rattle.fkv_face.specs.Numbers.{fault_told}
 pub use Rattle.fkv_face.specs.Told.{IsToldIn, HasAnswered}
 pub use Rattle.fkv_handles.specs.Below.fkv_threads.Models.{opening}
+pub use Rattle.fkv_handles.specs.Handles.{sitting_of}
+pub use Rattle.fkv_handles.specs.Sittings.{AreOfOneStore}
 pub use Rattle.fkv_map.specs.declared.operations.Call.TheVariants.{Op as Operation}
 
 abbrev pub upsert_of : ℕ → ℕ → Op
@@ -62,6 +64,11 @@ durable = call.Durable
 abbrev pub poll : Call
 poll = call.Poll
 
+-- nothing but a fault is told
+abbrev pub plain_told : Result (Unit {0}) Fault → ℤ
+plain_told (Ok its) = pos 0
+plain_told (Err why) = fault_told why
+
 -- a serial as C is told it, or minus the number of the fault, and 0
 abbrev pub IsSerialAs : Result Serial Fault → ℤ → ℕ → Type 0
 IsSerialAs (Ok serial) result number = (result ≡ pos 0) × (number ≡ serial.0)
@@ -87,6 +94,13 @@ module _ (at : Opening → World) where
   -- one that tells phase and version
   abbrev pub IsSeen : Session → Call → ℤ → Seen → Session → Type 0
   IsSeen before its result seen after = (told : Numbers) × IsToldIn at before its told after × (result ≡ told.result) × (seen ≡ record { phase = told.first; version = told.second })
+
+  -- Two sessions have met, or a handle was ended; their keys lie as before.
+  pub record IsMet (one other : Session) (result : ℤ) (one' other' : Session) : Type 0 where
+    pub its : Result (Unit {0}) Fault
+    pub met : HaveMet at (sitting_of one) (sitting_of other) its (sitting_of one') (sitting_of other')
+    pub keys : (keys_of one' ≡ keys_of one) × (keys_of other' ≡ keys_of other)
+    pub told : result ≡ plain_told its
 
   -- an update
   abbrev pub IsUpdated : Session → Op → ℤ → Update → Session → Type 0

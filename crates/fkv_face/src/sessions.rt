@@ -200,6 +200,19 @@ pub extern "C" fn fkv_serial(session: &mut HeldSession, serial: &mut u64) -> i32
     }
 }
 
+/// Two sessions of one store meet: each has then seen what either had seen, and its next calls stand behind all of that. So each reads what the other was told
+/// done, or something newer. `NoSession` if a handle was ended, and then both stay as they are.
+#[unsafe(no_mangle)]
+pub extern "C" fn fkv_meet(session: &mut HeldSession, other: &mut HeldSession) -> i32
+    requires one_store { says.AreOfOneStore (says.sitting_of session.old.value) (says.sitting_of other.old.value) }
+    ensures met { says.IsMet (says.opening ⟦<Posted<'static> as Device>⟧) session.old.value other.old.value result session.new.value other.new.value }
+{
+    match session.lent().meet(other.lent()) {
+        Ok(()) => DONE,
+        Err(why) => refused(why),
+    }
+}
+
 /// The last serial of the session that a finished commit keeps: its updates up to there survive a crash from now on.
 #[unsafe(no_mangle)]
 pub extern "C" fn fkv_durable(session: &mut HeldSession, serial: &mut u64) -> i32

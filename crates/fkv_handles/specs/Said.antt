@@ -8,7 +8,7 @@ pub use Rattle.fkv_handles.specs.Handles.{IsGiven, IsKeeperGiven, IsToldHonestly
 pub use Rattle.fkv_handles.specs.Kept.{IsAskedBy, IsToldBy, IsTurnedBy}
 pub use Rattle.fkv_handles.specs.Laid.{laid_call, laid_op}
 pub use Rattle.fkv_handles.specs.Opens.{AreFirst, IsOpenedFrom, IsOpeningRefused, IsRecovered}
-pub use Rattle.fkv_handles.specs.Sittings.{IsLastSerial, IsToldCall, finished_in}
+pub use Rattle.fkv_handles.specs.Sittings.{AreOfOneStore, HaveMet, IsLastSerial, IsToldCall, finished_in}
 pub use Rattle.fkv_handles.specs.declared.refusals.Refusal.TheVariants.{HandleOut}
 pub use Rattle.fkv_map.specs.declared.operations.Call.TheVariants.{Op}
 pub use Rattle.fkv_opening.specs.Opened.{IsStoreOf}

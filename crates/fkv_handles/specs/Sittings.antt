@@ -1,5 +1,5 @@
 -- The calls of a session that a handle holds.
-use Rattle.std.specs.Prelude.{◌≡◌, List, [], Option, None, Some, Result, Ok, Err}
+use Rattle.std.specs.Prelude.{◌≡◌, ⊤, List, [], Option, None, Some, Result, Ok, Err}
 use Rattle.fkv_base.specs.declared.faults.Fault.{Fault}
 use Rattle.fkv_base.specs.declared.faults.Fault.TheVariants.{NoSession}
 use Rattle.fkv_base.specs.declared.numbers.Serial.{Serial}
@@ -12,6 +12,7 @@ use Rattle.fkv_session.specs.declared.answers.Told.{Told}
 use Rattle.fkv_threads.specs.Below.fkv_world.Runs.{World}
 use Rattle.fkv_threads.specs.Below.fkv_table.Calls.{IsLastGiven}
 use Rattle.fkv_threads.specs.Calling.{IsCallOf}
+use Rattle.fkv_threads.specs.Meetings.{AreOfOneTable, IsMeetingOf}
 use Rattle.fkv_threads.specs.Models.{Sitting}
 
 -- what the session's last poll has finished: a handle that was ended has none
@@ -19,7 +20,18 @@ abbrev pub finished_in : {K : Type 0} → Option (Sitting K) → List Finished
 finished_in (Some s) = s.finished
 finished_in None = []
 
+-- two that are in use are of one table, and are two
+abbrev pub AreOfOneStore : {K : Type 0} → Option (Sitting K) → Option (Sitting K) → Type 0
+AreOfOneStore (Some one) (Some other) = AreOfOneTable one other
+AreOfOneStore one other = ⊤
+
 module _ {K : Type 0} (at : K → World) where
+  -- Two handles meet. If one was ended, `NoSession` is answered, and both stay as they are.
+  abbrev pub HaveMet : Option (Sitting K) → Option (Sitting K) → Result (Unit {0}) Fault → Option (Sitting K) → Option (Sitting K) → Type 0
+  HaveMet (Some one) (Some other) (Ok its) (Some one') (Some other') = IsMeetingOf at one other one' other'
+  HaveMet (Some one) (Some other) result one' other' = ⊥
+  HaveMet one other result one' other' = (result ≡ Err NoSession) × (one' ≡ one) × (other' ≡ other)
+
   -- The last serial that the session has given. A handle that was ended answers `NoSession`.
   abbrev pub IsLastSerial : Option (Sitting K) → Result Serial Fault → Type 0
   IsLastSerial (Some s) (Ok serial) = IsLastGiven at s.key s.seen s.number serial.0

@@ -81,6 +81,27 @@ impl Session {
         }
     }
 
+    /// Two handles of one store meet, as where a thread has told another one of its calls. Each session has then seen what either had seen, and its next calls
+    /// stand behind all of that. `NoSession` if a handle was ended, and then both stay as they are.
+    pub fn meet(&mut self, other: &mut Session) -> Result<(), Fault>
+        requires one_store { said.AreOfOneStore (said.sitting_of self.old) (said.sitting_of other.old) }
+        ensures met { said.HaveMet (said.opening ⟦<Posted<'static> as Device>⟧) (said.sitting_of self.old) (said.sitting_of other.old) result
+            (said.sitting_of self.new) (said.sitting_of other.new) }
+        ensures keys { (said.keys_of self.new ≡ said.keys_of self.old) × (said.keys_of other.new ≡ said.keys_of other.old) }
+    {
+        let Some(one) = self.seated.take() else {
+            return Err(Fault::NoSession);
+        };
+        let Some(two) = other.seated.take() else {
+            self.seated = Some(one);
+            return Err(Fault::NoSession);
+        };
+        let (one, two) = one.meet(two);
+        self.seated = Some(one);
+        other.seated = Some(two);
+        Ok(())
+    }
+
     /// Runs an operation to its end, as `tell` does a call.
     #[inline(always)]
     pub fn op(&mut self, op: Op) -> Told

@@ -1,7 +1,6 @@
 -- What is known of the homes, from one record to the next.
-use Rattle.std.proofs.Common.{◌≡◌, ◌≢◌, ⊎_elim, ℕ, ◌+◌, ◌<◌, ◌≤◌, Bool, true, false, cond, Option, Some, None, refl, sym, ap, subst, ◌∙◌, arith}
+use Rattle.std.proofs.Common.{◌≡◌, ⊎_elim, ℕ, zero, suc, ◌+◌, ◌-◌, ◌<◌, ◌≤◌, Bool, true, false, Option, Some, None, refl, sym, ap, subst, ◌∙◌, arith}
 use Rattle.std.specs.Prelude.{nat_lt, ◌||◌, if◌then◌else◌}
-use Rattle.std.specs.Ordering.{nat_cmp, is_eq}
 use Rattle.std.proofs.lemmas.Bool.Decides.{nat_tests}
 use Rattle.fkv_base.specs.declared.numbers.Addr.{Addr}
 use Rattle.fkv_record.specs.declared.records.Record.{Record}
@@ -10,10 +9,9 @@ use Rattle.fkv_scan.specs.Log.{Log, record_home}
 use Rattle.fkv_scan.specs.Records.{Stands, version_of, losses_of, IsValid, IsKept, IsCounted}
 use Rattle.fkv_scan.specs.Scan.{HasNone, GoesOn, by_triple, by_none, by_record, IsLinked, IsFit}
 use Rattle.fkv_scan.specs.Scanned.{IsGreatestOf, IsUnmet}
-use Rattle.fkv_scan.specs.Known.{IsWay, Knows, KnowsOf, KnowsAll}
+use Rattle.fkv_scan.specs.Known.{IsWay, Knows, KnowsOf}
 use Rattle.fkv_scan.specs.Steps.{met, unled, known_or}
 use Rattle.fkv_scan.proofs.Greatest.{greatest_here, known_more, none_more}
-use Rattle.fkv_scan.proofs.Keys.{is_same, at_itself}
 use Rattle.fkv_scan.proofs.Ways.{goes_on_more, goes_on_back, NewWay, way_more}
 
 -- a home of which the address tells nothing
@@ -25,6 +23,17 @@ knows_more log its_home a (Some s) knows none = record {
   version = knows.version;
   below = way_more log its_home a s.below knows.below none;
 }
+
+-- a home of which none of the next addresses tells anything
+pub knows_until : (log : Log) (its_home from : ℕ) (o : Option HomeScan) → KnowsOf log its_home from o → (n : ℕ) → ((c : ℕ) (y : Record) → from ≤ c → c < from + n → IsValid log its_home c y → ⊥) → KnowsOf log its_home (from + n) o
+knows_until log its_home from o knows zero none = subst (λ a. KnowsOf log its_home a o) (let e : from ≡ from + zero = omega arith in e) knows
+knows_until log its_home from o knows (suc n) none = subst (λ a. KnowsOf log its_home a o) (let e : from + n + 1 ≡ from + suc n = omega arith in e)
+    (knows_more log its_home (from + n) o (knows_until log its_home from o knows n (λ c y on below. none c y on (omega (arith, below)))) (λ y there. none (from + n) y (omega arith) (omega arith) there))
+
+pub knows_up_to : (log : Log) (its_home from to : ℕ) (o : Option HomeScan) → from ≤ to → KnowsOf log its_home from o → ((c : ℕ) (y : Record) → from ≤ c → c < to → IsValid log its_home c y → ⊥) → KnowsOf log its_home to o
+knows_up_to log its_home from to o upwards knows none =
+    let e : from + (to - from) ≡ to = omega (arith, upwards) in
+    subst (λ a. KnowsOf log its_home a o) e (knows_until log its_home from o knows (to - from) (λ c y on below. none c y on (omega (arith, below, upwards))))
 
 -- a home that isn't met yet goes on nowhere
 unmet_way : (log : Log) (its_home a q : ℕ) → IsUnmet log its_home a → GoesOn log its_home a q → q ≡ 0
@@ -54,9 +63,6 @@ module _ (log : Log) (addr : Addr) (x : Record) (from : log.start ≤ addr.0) (f
 
   here : IsValid log its_home a x
   here = record { stands = fits.stands; valid = valid; same = refl }
-
-  elsewhere : (other : ℕ) → its_home ≢ other → (y : Record) → IsValid log other a y → ⊥
-  elsewhere other apart y there = apart (ap (λ r. record_home log.shape.bucket_bits r) (sym (alone y there.stands)) ∙ there.same)
 
   module _ (s : HomeScan) (knows : Knows log its_home a s) where
     lost_too : 0 < losses_of log a x → (y : Record) → Stands log a y → losses_of log a y ≡ 0 → ⊥
@@ -130,7 +136,7 @@ module _ (log : Log) (addr : Addr) (x : Record) (from : log.start ≤ addr.0) (f
         let e : nat_lt x.header.previous.0 log.start ≡ false = sym is in
         way_within s.below knows.below (grind (arith, nat_tests, e))
 
-    pub knows_met : (is_lost : Bool) → is_lost ≡ nat_lt 0 (losses_of log a x) → Knows log its_home (a + 1) (met s addr x (record { 0 = version_of log x }) is_lost log.start log.version)
+    pub knows_met : (is_lost : Bool) → is_lost ≡ nat_lt 0 (losses_of log a x) → Knows log its_home (a + 1) (met s addr x.header.previous (record { 0 = version_of log x }) is_lost log.start log.version)
     unfolding met
     knows_met is_lost lost = record {
       newest = newest_met is_lost (nat_lt log.version (version_of log x)) lost refl;
@@ -138,17 +144,3 @@ module _ (log : Log) (addr : Addr) (x : Record) (from : log.start ≤ addr.0) (f
       version = version_met is_lost;
       below = below_met (nat_lt x.header.previous.0 log.start) refl;
     }
-
-  of_key : (at next : ℕ → Option HomeScan) (s : HomeScan) (q : ℕ) (same : Bool) → is_eq (nat_cmp its_home q) ≡ same → KnowsAll log a at → Knows log its_home (a + 1) s
-      → next q ≡ cond same (Some s) (at q) → KnowsOf log q (a + 1) (next q)
-  of_key at next s q true same all known is = subst (λ o. KnowsOf log q (a + 1) o) (sym is) (subst (λ h. Knows log h (a + 1) s) (is_same its_home q same) known)
-  of_key at next s q false same all known is = subst (λ o. KnowsOf log q (a + 1) o) (sym is) (knows_more log q a (at q) (all q)
-      (elsewhere q (λ equal. (let yes_it_is : is_eq (nat_cmp its_home q) ≡ true = ap (λ n. is_eq (nat_cmp its_home n)) (sym equal) ∙ at_itself its_home in
-      let never : true ≡ false = sym yes_it_is ∙ same in absurd (cc)))))
-
-  -- all homes, once the record's own is put in
-  pub all_met : (at next : ℕ → Option HomeScan) (is_lost : Bool) → is_lost ≡ nat_lt 0 (losses_of log a x) → KnowsAll log a at
-      → ((q : ℕ) → next q ≡ cond (is_eq (nat_cmp its_home q)) (Some (met (known_or (at its_home)) addr x (record { 0 = version_of log x }) is_lost log.start log.version)) (at q)) → KnowsAll log (a + 1) next
-  all_met at next is_lost lost all updates q =
-      of_key at next (met (known_or (at its_home)) addr x (record { 0 = version_of log x }) is_lost log.start log.version) q (is_eq (nat_cmp its_home q)) refl all
-      (knows_met (known_or (at its_home)) (knows_or log its_home a (at its_home) (all its_home)) is_lost lost) (updates q)

@@ -1,56 +1,68 @@
 -- A valid record is taken in.
-use Rattle.std.proofs.Common.{◌≡◌, ℕ, ◌+◌, ◌≤◌, List, Bool, true, false, cond, Option, Some, sym, ap, subst, ◌∙◌}
+use Rattle.std.proofs.Common.{◌≡◌, ◌≢◌, ℕ, ◌+◌, ◌≤◌, List, Bool, true, false, Option, Some, refl, sym, ap, subst, ◌∙◌}
 use Rattle.std.specs.Prelude.{nat_lt, ◌↔◌}
-use Rattle.std.specs.Ordering.{nat_cmp, is_eq}
 use Rattle.fkv_base.specs.declared.numbers.Addr.{Addr}
 use Rattle.fkv_base.specs.declared.numbers.Version.{Version}
 use Rattle.fkv_record.specs.declared.lost_ranges.LostRange.{LostRange}
 use Rattle.fkv_record.specs.declared.records.Record.{Record}
 use Rattle.fkv_scan.specs.declared.home_scans.HomeScan.{HomeScan}
+use Rattle.fkv_scan.specs.declared.met_records.MetRecord.{MetRecord}
 use Rattle.fkv_scan.specs.Log.{Log, record_home}
 use Rattle.fkv_scan.specs.Records.{version_of, losses, losses_of, IsValid}
 use Rattle.fkv_scan.specs.Scan.{Has, IsLinked}
-use Rattle.fkv_scan.specs.Known.{Knows, KnowsAll, IsMeeting}
+use Rattle.fkv_scan.specs.Known.{Knows, KnowsOf}
+use Rattle.fkv_scan.specs.Parts.{Tells, IsTakenIn}
 use Rattle.fkv_scan.specs.Steps.{links, met, known_or}
 use Rattle.fkv_scan.proofs.Meeting.{links_is, links_is_not}
-use Rattle.fkv_scan.proofs.Knowing.{all_met, knows_or}
+use Rattle.fkv_scan.proofs.Knowing.{knows_met, knows_or}
 
-module _ (log : Log) (addr : Addr) (x : Record) (version : Version) (told : version.0 ≡ version_of log x) (at : ℕ → Option HomeScan) (its_home : ℕ) (known : HomeScan) (ranges : List LostRange) (is_lost leads : Bool)
-    (home_is : its_home ≡ record_home log.shape.bucket_bits x) (known_is : known ≡ known_or (at its_home)) (ranges_are : ranges ≡ log.lost) (lost_is : is_lost ≡ nat_lt 0 (losses ranges addr.0 version.0))
-    (leading : is_lost ≡ true → log.start ≤ x.header.previous.0 → (leads ≡ true) ↔ Has (IsValid log its_home) x.header.previous.0)
-    (meeting : IsMeeting log addr.0 x at) where
-  lost_too : is_lost ≡ nat_lt 0 (losses_of log addr.0 x)
-  lost_too = lost_is ∙ ap (λ r. nat_lt 0 (losses r addr.0 version.0)) ranges_are ∙ ap (λ n. nat_lt 0 (losses log.lost addr.0 n)) told
+module _ (log : Log) (m : MetRecord) (tells : Tells log m) (at : ℕ → Option HomeScan) (ranges : List LostRange) (is_lost leads : Bool) (ranges_are : ranges ≡ log.lost)
+    (lost_is : is_lost ≡ nat_lt 0 (losses ranges m.addr.0 m.version.0)) (leading : is_lost ≡ true → log.start ≤ m.previous.0 → (leads ≡ true) ↔ Has (IsValid log m.home) m.previous.0)
+    (knows : KnowsOf log m.home m.addr.0 (at m.home)) where
+  abbrev x : Record
+  x = tells.held
 
-  version_is : version ≡ record { 0 = version_of log x }
-  version_is = ap (λ n. record { 0 = n }) told
+  abbrev own : ℕ
+  own = record_home log.shape.bucket_bits tells.held
 
-  known_too : known ≡ known_or (at (record_home log.shape.bucket_bits x))
-  known_too = known_is ∙ ap (λ n. known_or (at n)) home_is
+  lost_too : is_lost ≡ nat_lt 0 (losses_of log m.addr.0 x)
+  lost_too = lost_is ∙ ap (λ r. nat_lt 0 (losses r m.addr.0 m.version.0)) ranges_are ∙ ap (λ n. nat_lt 0 (losses log.lost m.addr.0 n)) tells.version
 
-  knowing : Knows log (record_home log.shape.bucket_bits x) addr.0 known
-  knowing = subst (λ s. Knows log (record_home log.shape.bucket_bits x) addr.0 s) (sym known_too)
-      (knows_or log (record_home log.shape.bucket_bits x) addr.0 (at (record_home log.shape.bucket_bits x)) (meeting.knows (record_home log.shape.bucket_bits x)))
+  abbrev known : HomeScan
+  known = known_or (at m.home)
 
-  leading_too : is_lost ≡ true → log.start ≤ x.header.previous.0 → (leads ≡ true) ↔ Has (IsValid log (record_home log.shape.bucket_bits x)) x.header.previous.0
-  leading_too = subst (λ n. is_lost ≡ true → log.start ≤ x.header.previous.0 → (leads ≡ true) ↔ Has (IsValid log n) x.header.previous.0) home_is leading
+  version_is : m.version ≡ record { 0 = version_of log x }
+  version_is = ap (λ n. record { 0 = n }) tells.version
 
-  links_too : links known x (version_of log x) is_lost leads log.start ≡ links known x version.0 is_lost leads log.start
-  links_too = ap (λ n. links known x n is_lost leads log.start) (sym told)
+  knowing : Knows log own m.addr.0 known
+  knowing = subst (λ h. Knows log h m.addr.0 known) tells.home (knows_or log m.home m.addr.0 (at m.home) knows)
 
-  pub taken_off : links known x version.0 is_lost leads log.start ≡ false → IsLinked log addr.0 x → ⊥
-  taken_off off = links_is_not log addr.0 x known leads knowing is_lost lost_too leading_too (links_too ∙ off)
+  leading_too : is_lost ≡ true → log.start ≤ x.header.previous.0 → (leads ≡ true) ↔ Has (IsValid log own) x.header.previous.0
+  leading_too = subst (λ (p : Addr). is_lost ≡ true → log.start ≤ p.0 → (leads ≡ true) ↔ Has (IsValid log own) p.0) tells.previous
+      (subst (λ n. is_lost ≡ true → log.start ≤ m.previous.0 → (leads ≡ true) ↔ Has (IsValid log n) m.previous.0) tells.home leading)
 
-  taken_on : links known x version.0 is_lost leads log.start ≡ true → IsLinked log addr.0 x
-  taken_on on = links_is log addr.0 x known leads knowing is_lost lost_too leading_too (links_too ∙ on)
+  links_too : links known x.header.previous (version_of log x) is_lost leads log.start ≡ links known m.previous m.version.0 is_lost leads log.start
+  links_too = ap (λ (p : Addr). links known p (version_of log x) is_lost leads log.start) (sym tells.previous) ∙ ap (λ n. links known m.previous n is_lost leads log.start) (sym tells.version)
 
-  pub taken : (next : ℕ → Option HomeScan) (new : HomeScan) → links known x version.0 is_lost leads log.start ≡ true → new ≡ met known addr x version is_lost log.start log.version
-      → ((q : ℕ) → next q ≡ cond (is_eq (nat_cmp its_home q)) (Some new) (at q)) → IsLinked log addr.0 x × KnowsAll log (addr.0 + 1) next
-  taken next new on new_is updates =
-      let own = record_home log.shape.bucket_bits x in
-      let new_too : new ≡ met (known_or (at own)) addr x (record { 0 = version_of log x }) is_lost log.start log.version =
-      new_is ∙ ap (λ s. met s addr x version is_lost log.start log.version) known_too ∙ ap (λ v. met (known_or (at own)) addr x v is_lost log.start log.version) version_is in (
-        taken_on on,
-        all_met log addr x meeting.from_start meeting.fits meeting.alone meeting.valid (taken_on on) at next is_lost lost_too meeting.knows
-            (λ q. updates q ∙ ap (λ n. cond (is_eq (nat_cmp n q)) (Some new) (at q)) home_is ∙ ap (λ s. cond (is_eq (nat_cmp own q)) (Some s) (at q)) new_too),
-      )
+  taken_on : links known m.previous m.version.0 is_lost leads log.start ≡ true → IsLinked log m.addr.0 x
+  taken_on on = links_is log m.addr.0 x known leads knowing is_lost lost_too leading_too (links_too ∙ on)
+
+  known_on : links known m.previous m.version.0 is_lost leads log.start ≡ true → Knows log m.home (m.addr.0 + 1) (met known m.addr m.previous m.version is_lost log.start log.version)
+  known_on on =
+      let of_record = knows_met log m.addr x tells.from_start tells.fits tells.alone tells.valid (taken_on on) known knowing is_lost lost_too in
+      subst (λ h. Knows log h (m.addr.0 + 1) (met known m.addr m.previous m.version is_lost log.start log.version)) (sym tells.home)
+      (subst (λ (p : Addr). Knows log own (m.addr.0 + 1) (met known m.addr p m.version is_lost log.start log.version)) (sym tells.previous)
+      (subst (λ (v : Version). Knows log own (m.addr.0 + 1) (met known m.addr x.header.previous v is_lost log.start log.version)) (sym version_is) of_record))
+
+  -- whether it is on its chain, with what is known then
+  pub taken_in : (next : ℕ → Option HomeScan) (linked : Bool) → linked ≡ links known m.previous m.version.0 is_lost leads log.start
+      → (linked ≡ true → next m.home ≡ Some (met known m.addr m.previous m.version is_lost log.start log.version)) → ((q : ℕ) → m.home ≢ q → next q ≡ at q) → IsTakenIn log m at next linked
+  taken_in next true is told others = (
+    record { held = x; fits = tells.fits; linked = λ valid. taken_on (sym is) },
+    subst (λ o. KnowsOf log m.home (m.addr.0 + 1) o) (sym (told refl)) (known_on (sym is)),
+    others,
+  )
+  taken_in next false is told others = (
+    record { held = x; fits = tells.fits; valid = tells.valid; here = links_is_not log m.addr.0 x known leads knowing is_lost lost_too leading_too (links_too ∙ sym is) },
+    others,
+  )

@@ -1,11 +1,11 @@
 -- What is known of the homes in the middle of the scan, when the records below an address were met.
-use Rattle.std.specs.Prelude.{◌≡◌, ℕ, ◌≤◌, Option, Some, None, false}
+use Rattle.std.specs.Prelude.{◌≡◌, ℕ, Option, Some, None}
 use Rattle.fkv_base.specs.declared.numbers.Addr.{Addr}
 use Rattle.fkv_record.specs.declared.records.Record.{Record}
 use Rattle.fkv_scan.specs.declared.home_scans.HomeScan.{HomeScan}
 use Rattle.fkv_scan.specs.Log.{Log}
 use Rattle.fkv_scan.specs.Records.{Stands, version_of, IsValid, IsKept, IsCounted}
-use Rattle.fkv_scan.specs.Scan.{HasNone, GoesOn, IsFit}
+use Rattle.fkv_scan.specs.Scan.{HasNone, GoesOn}
 use Rattle.fkv_scan.specs.Scanned.{IsGreatestOf, GoesOnAt, IsUnmet}
 
 -- where the chain of a home goes on below the start, or that nothing leads there yet and no record of the home was met
@@ -28,11 +28,3 @@ KnowsOf log its_home to None = IsUnmet log its_home to
 -- what is known of all homes
 abbrev pub KnowsAll : Log → ℕ → (ℕ → Option HomeScan) → Type 0
 KnowsAll log to at = (its_home : ℕ) → KnowsOf log its_home to (at its_home)
-
--- A valid record is met at an address: the bytes there spell it alone, it fits, and what is known is known of all records below.
-pub record IsMeeting (log : Log) (a : ℕ) (x : Record) (at : ℕ → Option HomeScan) : Type 0 where
-  pub from_start : log.start ≤ a
-  pub fits : IsFit log a x
-  pub alone : (y : Record) → Stands log a y → y ≡ x
-  pub valid : x.header.invalid ≡ false
-  pub knows : KnowsAll log a at

@@ -1,6 +1,7 @@
 pub mod Checkpoint
 pub mod Known
 pub mod Log
+pub mod Parts
 pub mod Records
 pub mod Refused
 pub mod Scan

@@ -1,8 +1,8 @@
 //! What the scan knows of a home.
 ghost use Rattle.std.specs.Prelude.{◌≡◌};
 
+use crate::met_records::MetRecord;
 use fkv_base::{Addr, Version};
-use fkv_record::Record;
 
 /// What the scan found of a home.
 #[derive(Clone, Copy)]
@@ -55,62 +55,51 @@ impl HomeScan {
         }
     }
 
-    /// Whether the record of this version leads to the last one, whose version isn't above its own.
-    fn is_next(&self, found: &Record, version: Version) -> bool
-        ensures { result ≡ is_next self.now.last self.now.last_version.0 found.now version.0 }
+    /// Whether the record leads to the last one, whose version isn't above its own.
+    fn is_next(&self, found: &MetRecord) -> bool
+        ensures { result ≡ is_next self.now.last self.now.last_version.0 found.now.previous found.now.version.0 }
     {
         match self.last {
-            Some(last) => { last.0 == found.header.previous.0 && self.last_version.0 <= version.0 }
+            Some(last) => last.0 == found.previous.0 && self.last_version.0 <= found.version.0,
             None => false,
         }
     }
 
-    /// Whether a valid record of this version is on the chain of its home. A lost one may lead to any valid record of the
+    /// Whether a valid record is on the chain of its home. A lost one may lead to any valid record of the
     /// home; `leads` says whether it does.
     #[tactic(auto, unfolding(crate::specs::Steps::links))]
-    pub(crate) fn links(
-        &self,
-        found: &Record,
-        version: Version,
-        is_lost: bool,
-        leads: bool,
-        start: Addr,
-    ) -> bool
-        ensures { result ≡ links self.now found.now version.0 is_lost leads start.0 }
+    pub(crate) fn links(&self, found: &MetRecord, is_lost: bool, leads: bool, start: Addr) -> bool
+        ensures { result ≡ links self.now found.now.previous found.now.version.0 is_lost leads start.0 }
     {
-        if found.header.previous.0 < start.0 {
-            return self.is_way(found.header.previous) && (is_lost || self.last.is_none());
+        if found.previous.0 < start.0 {
+            return self.is_way(found.previous) && (is_lost || self.last.is_none());
         }
-        if is_lost {
-            leads
-        } else {
-            self.is_next(found, version)
-        }
+        if is_lost { leads } else { self.is_next(found) }
     }
 
-    /// What is known once the valid record of this version was met at the address, where the commit has this number.
+    /// What is known once the valid record was met, where the commit has this number.
     #[tactic(auto, unfolding(crate::specs::Steps::met))]
-    pub(crate) fn met(
-        &self,
-        addr: Addr,
-        found: &Record,
-        version: Version,
-        is_lost: bool,
-        start: Addr,
-        number: u64,
-    ) -> HomeScan
-        ensures { result ≡ met self.now addr found.now version is_lost start.0 number }
+    pub(crate) fn met(&self, found: &MetRecord, is_lost: bool, start: Addr, number: u64) -> HomeScan
+        ensures { result ≡ met self.now found.now.addr found.now.previous found.now.version is_lost start.0 number }
     {
-        let counts = !is_lost && version.0 <= number;
+        let counts = !is_lost && found.version.0 <= number;
         HomeScan {
-            newest: if counts { Some(addr) } else { self.newest },
-            below: if found.header.previous.0 < start.0 {
-                Some(found.header.previous)
+            newest: if counts {
+                Some(found.addr)
+            } else {
+                self.newest
+            },
+            below: if found.previous.0 < start.0 {
+                Some(found.previous)
             } else {
                 self.below
             },
-            last: if is_lost { self.last } else { Some(addr) },
-            last_version: if is_lost { self.last_version } else { version },
+            last: if is_lost { self.last } else { Some(found.addr) },
+            last_version: if is_lost {
+                self.last_version
+            } else {
+                found.version
+            },
         }
     }
 }

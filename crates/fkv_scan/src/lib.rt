@@ -1,9 +1,12 @@
 //! Recovery's scan: the records that no checkpoint knows of, upwards from one address to the end of the log.
 #![tactic(auto)]
 
+mod gathering;
 mod home_scans;
 mod homes;
 mod laws;
+mod met_records;
+mod parts;
 mod readings;
 mod scans;
 mod steps;

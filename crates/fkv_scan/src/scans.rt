@@ -16,7 +16,8 @@ ghost use Rattle.fkv_scan.specs.Refused.{IsRefused};
 
 use crate::home_scans::HomeScan;
 use crate::homes::triple_home;
-use crate::steps::{meet, stands};
+use crate::parts::{meet_part, part_end};
+use crate::steps::stands;
 use fkv_base::{Addr, Damage, Fault, Shape};
 use fkv_disk::Device;
 use fkv_record::{ManifestSlot, Triple};
@@ -50,8 +51,9 @@ fn led_homes(
     Ok(homes)
 }
 
-/// Takes in each record from the scan's start to the log's end, upwards. Whether one is newer than the commit.
+/// Takes in each record from the scan's start to the log's end, a part behind the other. Whether one is newer than the commit.
 fn meet_all<D: Device>(
+    alloc: Global,
     d: &mut D,
     shape: Shape,
     slot: &ManifestSlot,
@@ -67,11 +69,14 @@ fn meet_all<D: Device>(
     ensures reads { OnlyReads D.refuses D.expects d.old d.new }
 {
     let mut newer = false;
-    for addr in slot.first.0..slot.end.0 {
-        match meet(d, shape, slot, homes, Addr(addr)) {
+    let mut from = slot.first.0;
+    while from < slot.end.0 {
+        let to = part_end(from, slot.end.0);
+        match meet_part(alloc, d, shape, slot, homes, Addr(from), Addr(to)) {
             Ok(is_newer) => newer = newer || is_newer,
             Err(fault) => return Err(fault),
         }
+        from = to;
     }
     Ok(newer)
 }
@@ -136,7 +141,7 @@ pub fn scan<D: Device>(
     ensures reads { OnlyReads D.refuses D.expects d.old d.new }
 {
     let mut homes = led_homes(alloc, triples, slot.first)?;
-    let newer = match meet_all(d, shape, slot, &mut homes) {
+    let newer = match meet_all(alloc, d, shape, slot, &mut homes) {
         Ok(newer) => newer,
         Err(fault) => return Err(fault),
     };

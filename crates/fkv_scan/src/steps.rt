@@ -1,26 +1,26 @@
 //! One record of the scan.
-ghost use Rattle.std.specs.Prelude.{◌≡◌, ◌≤◌, ◌<◌, ◌^◌, ◌+◌, ◌↔◌, List, true, ◌&&◌, nat_le, nat_lt, IfOk, OnOk, IfErr};
+ghost use Rattle.std.specs.Prelude.{◌≡◌, ◌≢◌, ℕ, ◌≤◌, ◌<◌, ◌^◌, ◌↔◌, List, true, nat_lt, IfOk, OnOk, IfErr, OnErr, Some, Err};
 ghost use Rattle.std.specs.Ordering.{nat_cmp};
 ghost use Rattle.std.specs.BTreeMap.{get};
-ghost use Rattle.fkv_marks.specs.Window.{version_in};
+ghost use Rattle.fkv_base.specs.declared.faults.Fault.TheVariants.{Memory};
 ghost use Rattle.fkv_record.specs.declared.manifest_slots.ManifestSlot.{ManifestSlot};
 ghost use Rattle.fkv_record.specs.declared.triples.Triple.{Triple};
-ghost use Rattle.fkv_scan.specs.Log.{log_in, record_home};
-ghost use Rattle.fkv_scan.specs.Records.{IsValid, IsNewer, losses};
-ghost use Rattle.fkv_scan.specs.Scan.{Has, IsLinked, IsScanned};
-ghost use Rattle.fkv_scan.specs.Known.{KnowsAll, IsMeeting};
-ghost use Rattle.fkv_scan.specs.Steps.{known_or};
+ghost use Rattle.fkv_scan.specs.Log.{log_in};
+ghost use Rattle.fkv_scan.specs.Records.{IsValid, losses};
+ghost use Rattle.fkv_scan.specs.Scan.{Has};
+ghost use Rattle.fkv_scan.specs.Known.{KnowsOf};
+ghost use Rattle.fkv_scan.specs.Parts.{Tells, IsTakenIn};
+ghost use Rattle.fkv_scan.specs.Steps.{known_or, links, met};
 ghost use Rattle.fkv_disk.specs.Kinds.{OnlyReads};
 ghost use Rattle.fkv_disk.specs.Quiet.{IsQuiet, IsHindrance};
-ghost use Rattle.fkv_scan.specs.Refused.{IsUnlinked, IsUnscanned};
 
 use crate::home_scans::HomeScan;
 use crate::homes::record_home;
+use crate::met_records::MetRecord;
 use crate::readings::record_at;
-use fkv_base::{Addr, Damage, Fault, Shape, Version};
+use fkv_base::{Addr, Fault, Shape, Version};
 use fkv_disk::Device;
-use fkv_marks::{oldest, version_in};
-use fkv_record::{LostRange, ManifestSlot, Record};
+use fkv_record::{LostRange, ManifestSlot};
 use std::collections::BTreeMap;
 
 /// Whether a record of this version at the address is lost by one of the ranges.
@@ -56,14 +56,26 @@ pub(crate) fn stands<D: Device>(
     })
 }
 
-/// What is known of a home.
-fn known_of(homes: &BTreeMap<u64, HomeScan>, home: u64) -> HomeScan
-    ensures { result ≡ known_or (get nat_cmp homes.now home) }
+/// Takes what a valid record tells into what is known of its home, by one look-up, if the record is on the chain of that home.
+/// Whether it is.
+fn put_in(
+    homes: &mut BTreeMap<u64, HomeScan>,
+    found: &MetRecord,
+    is_lost: bool,
+    leads: bool,
+    slot: &ManifestSlot,
+) -> Result<bool, Fault>
+    ensures linked { IfOk result (λ on. on ≡ links (known_or (get nat_cmp homes.old found.now.home)) found.now.previous found.now.version.0 is_lost leads slot.now.first.0) }
+    ensures known { IfOk result (λ on. on ≡ true → get nat_cmp homes.new found.now.home ≡ Some (met (known_or (get nat_cmp homes.old found.now.home)) found.now.addr found.now.previous found.now.version is_lost slot.now.first.0 slot.now.number)) }
+    ensures others { OnOk result ((q : ℕ) → found.now.home ≢ q → get nat_cmp homes.new q ≡ get nat_cmp homes.old q) }
+    ensures err { OnErr result (result ≡ Err Memory) }
 {
-    match homes.get(&home) {
-        Some(known) => *known,
-        None => HomeScan::unled(),
+    let known = homes.entry(found.home)?.or_insert(HomeScan::unled());
+    let linked = known.links(found, is_lost, leads, slot.first);
+    if linked {
+        *known = known.met(found, is_lost, slot.first, slot.number);
     }
+    Ok(linked)
 }
 
 /// Whether a lost record that leads into the scan leads to a valid record of its home. Of another record it says nothing.
@@ -88,68 +100,21 @@ fn leads_within<D: Device>(
     Ok(false)
 }
 
-/// Takes in a valid record of this version at the address.
-fn take_in<D: Device>(
+/// Takes in a valid record. Whether it is on the chain of its home. If it isn't, nothing changes.
+pub(crate) fn take_in<D: Device>(
     d: &mut D,
     shape: Shape,
     slot: &ManifestSlot,
     homes: &mut BTreeMap<u64, HomeScan>,
-    addr: Addr,
-    found: &Record,
-    version: Version,
-) -> Result<(), Fault>
-    requires told { version.0 ≡ version_in slot.now.number found.now.header.version.0 }
-    ensures ok { (triples : List Triple) → D.honest d.old → IsMeeting (log_in (D.seen d.old) shape slot.now triples) addr.0 found.now (get nat_cmp homes.old) → OnOk result (IsLinked (log_in (D.seen d.old) shape slot.now triples) addr.0 found.now × KnowsAll (log_in (D.seen d.old) shape slot.now triples) (addr.0 + 1) (get nat_cmp homes.new)) }
-    ensures err { (triples : List Triple) → IfErr result (IsUnlinked (D.failed d.old) (D.failed d.new) (D.honest d.old × IsMeeting (log_in (D.seen d.old) shape slot.now triples) addr.0 found.now (get nat_cmp homes.old)) (log_in (D.seen d.old) shape slot.now triples) addr.0 found.now) }
-    ensures quiet { IsQuiet D.honest D.seen D.may_leave D.moment D.left_since D.failed d.old d.new }
-    ensures reads { OnlyReads D.refuses D.expects d.old d.new }
-{
-    let home = record_home(found, shape.bucket_bits);
-    let known = known_of(homes, home);
-    let lost = is_lost(&slot.lost.ranges, addr, version);
-    let leads = leads_within(d, shape, slot, lost, found.header.previous, home)?;
-    if !known.links(found, version, lost, leads, slot.first) {
-        return Err(Fault::Damaged(Damage::Link, addr.0));
-    }
-    homes.insert(
-        home,
-        known.met(addr, found, version, lost, slot.first, slot.number),
-    )?;
-    Ok(())
-}
-
-/// Takes in what stands at the address. Whether it is a record that is newer than the commit.
-pub(crate) fn meet<D: Device>(
-    d: &mut D,
-    shape: Shape,
-    slot: &ManifestSlot,
-    homes: &mut BTreeMap<u64, HomeScan>,
-    addr: Addr,
+    met: &MetRecord,
 ) -> Result<bool, Fault>
-    requires small { addr.0 < 2 ^ 48 }
-    requires few { slot.now.number < 2 ^ 63 }
-    requires from_start { slot.now.first.0 ≤ addr.0 }
-    ensures ok { (triples : List Triple) → D.honest d.old → KnowsAll (log_in (D.seen d.old) shape slot.now triples) addr.0 (get nat_cmp homes.old) → OnOk result (IsScanned (log_in (D.seen d.old) shape slot.now triples) addr.0 × KnowsAll (log_in (D.seen d.old) shape slot.now triples) (addr.0 + 1) (get nat_cmp homes.new)) }
-    ensures newer { (triples : List Triple) → D.honest d.old → IfOk result (λ newer. (newer ≡ true) ↔ Has (IsNewer (log_in (D.seen d.old) shape slot.now triples)) addr.0) }
-    ensures err { (triples : List Triple) → IfErr result (IsUnscanned (D.failed d.old) (D.failed d.new) (D.honest d.old × KnowsAll (log_in (D.seen d.old) shape slot.now triples) addr.0 (get nat_cmp homes.old)) (log_in (D.seen d.old) shape slot.now triples) addr.0) }
+    ensures ok { (triples : List Triple) → D.honest d.old → Tells (log_in (D.seen d.old) shape slot.now triples) met.now → KnowsOf (log_in (D.seen d.old) shape slot.now triples) met.now.home met.now.addr.0 (get nat_cmp homes.old met.now.home) → IfOk result (IsTakenIn (log_in (D.seen d.old) shape slot.now triples) met.now (get nat_cmp homes.old) (get nat_cmp homes.new)) }
+    ensures err { IfErr result (IsHindrance (D.failed d.old) (D.failed d.new)) }
     ensures quiet { IsQuiet D.honest D.seen D.may_leave D.moment D.left_since D.failed d.old d.new }
     ensures reads { OnlyReads D.refuses D.expects d.old d.new }
 {
-    let Some(found) = record_at(d, shape, addr)? else {
-        return Err(Fault::Damaged(Damage::Record, addr.0));
-    };
-    let version = version_in(slot.number, found.header.version);
-    if version.0 < oldest(shape.class, slot.checkpoint) || version.0 > slot.number + 1 {
-        return Err(Fault::Damaged(Damage::Record, addr.0));
-    }
-    if found.header.previous.0 >= addr.0 {
-        return Err(Fault::Damaged(Damage::Record, addr.0));
-    }
-    if found.header.invalid {
-        return Ok(false);
-    }
-    if let Err(fault) = take_in(d, shape, slot, homes, addr, &found, version) {
-        return Err(fault);
-    }
-    Ok(version.0 > slot.number)
+    let lost = is_lost(&slot.lost.ranges, met.addr, met.version);
+    let leads = leads_within(d, shape, slot, lost, met.previous, met.home)?;
+    let linked = put_in(homes, met, lost, leads, slot)?;
+    Ok(linked)
 }

@@ -63,10 +63,10 @@ pub fn read_triples<D: Device>(
             return Err(Fault::Damaged(Damage::Triple, i));
         };
         let home = triple_home(&triple);
-        if homes.contains_key(&home) {
+        let before = homes.insert(home, i)?;
+        if before.is_some() {
             return Err(Fault::Damaged(Damage::Triple, i));
         }
-        homes.insert(home, i)?;
         triples.push(triple)?;
     }
     Ok(triples)

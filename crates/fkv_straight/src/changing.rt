@@ -61,13 +61,9 @@ fn change_value<L: Line>(line: &mut L, going: &Going, op: Op, its: Record) -> Op
     let value = value_of_word(old);
     let made = op.value_applied(value);
     let new = word_of_value(made);
+    let reply = op.reply_from(value);
     let found = line.cas(place, old, new);
-    if found == old {
-        let reply = op.reply_from(value);
-        Some(reply)
-    } else {
-        None
-    }
+    if found == old { Some(reply) } else { None }
 }
 
 /// Changes the record that was met in place. None if another session was quicker.

@@ -3,7 +3,7 @@ ghost use Rattle.std.specs.Prelude.{◌≡◌, ◌%◌, ◌^◌, ◌<◌, ℕ};
 ghost use Rattle.std.specs.Int.Bits.{bit_and};
 ghost use Rattle.fkv_plane.specs.Places.{bucket_place, frames_start};
 
-use crate::words::{is_moving_on, is_preparing, is_read};
+use crate::words::{is_moving_on, is_preparing, is_read, past_shared};
 use fkv_base::{Addr, Serial, Version};
 use fkv_map::Op;
 use fkv_marks::mark;
@@ -170,7 +170,7 @@ impl Going {
             RecordWord::Key => 1,
             RecordWord::Value => 2,
         };
-        self.frames + 3 * (addr.0 as usize & self.places.ring_mask) + number
+        past_shared(self.frames + 3 * (addr.0 as usize & self.places.ring_mask) + number)
     }
 
     /// Whether the address of a chain lies within a ring from the head on. One below the head, as 0 is, wraps round to more than a ring.

@@ -1,20 +1,23 @@
 //! The search along bucket and chain, which all straight calls share.
-ghost use Rattle.std.specs.Prelude.{◌≡◌, ◌⊎◌, ◌<◌, ◌≤◌, ◌+◌, ◌-◌, ◌/◌, ◌^◌, IfSome, false, true};
+ghost use Rattle.std.specs.Prelude.{◌≡◌, ◌⊎◌, ◌<◌, ◌≤◌, ◌+◌, ◌-◌, ◌/◌, ◌^◌, ℕ, IfSome, false, true};
 ghost use Rattle.fkv_map.specs.declared.operations.Call.{Call};
 ghost use Rattle.fkv_map.specs.Keys.{key_of};
 ghost use Rattle.fkv_plane.specs.Places.{bucket_place};
 ghost use Rattle.fkv_index.specs.Slots.{entry_addr, home_of, is_entry};
-ghost use Rattle.fkv_session.specs.Sessions.{is_busy};
+ghost use Rattle.fkv_session.specs.Sessions.{Seat, SessionState, is_busy};
 ghost use Rattle.fkv_straight.specs.Course.{Course, course_of, shares, Goes};
-ghost use Rattle.fkv_straight.specs.Met.{Begins, HasMet, HasSlot, IsAtFirst, IsAtLink, IsReached};
+ghost use Rattle.fkv_straight.specs.Memory.{is_in_memory};
+ghost use Rattle.fkv_straight.specs.Met.{Begins, HasMet, HasSlot, IsAtFirst, IsAtLink, IsMet, IsReached};
 ghost use Rattle.fkv_straight.specs.declared.searching.Judged.TheVariants.{Here, Other};
 ghost use Rattle.fkv_straight.specs.declared.searching.Slot.{Slot};
+ghost use Rattle.fkv_straight.specs.declared.searching.Record.{Record};
 ghost use Rattle.fkv_straight.specs.declared.searching.Sought.TheVariants.{At, Passed};
+ghost use Rattle.fkv_straight.specs.declared.searching.Visited.TheVariants.{Own, Other as Past};
 ghost use Rattle.fkv_straight.specs.Standing.{};
 
 use crate::going::Going;
 use crate::lines::Line;
-use crate::words::{addr_of, header_said, is_entry};
+use crate::words::{addr_of, header_said, is_entry, past_shared};
 use fkv_base::Addr;
 use fkv_map::{Call, Op};
 use fkv_ops::HeaderSaid;
@@ -51,10 +54,10 @@ pub enum Met {
     OnDisk(Slot, u64),
 }
 
-/// Searches through more overflow buckets, and walks along more records, are the machine's.
+/// Searches through more overflow buckets, and walks along more records behind the first, are the machine's.
 const LINKS: usize = 3;
 
-const RECORDS: usize = 8;
+const RECORDS: usize = 7;
 
 /// What the word of a slot is to the search for a tag.
 enum Judged {
@@ -65,23 +68,31 @@ enum Judged {
     Spoiled,
 }
 
-/// What a word is to the search.
-#[inline]
+/// What a word is to the search. The tag comes first: most words that end a search have it.
+#[inline(always)]
 fn judge(word: u64, tag: u64) -> Judged
     ensures here { result ≡ Here → (word ≡ 0) ⊎ ((is_entry word ≡ true) × (word / 2 ^ 48 ≡ tag)) }
     ensures other { result ≡ Other → (is_entry word ≡ true) × ¬ (word / 2 ^ 48 ≡ tag) }
 {
-    if word == 0 {
-        return Judged::Here;
-    }
-    let entry = is_entry(word);
-    if !entry {
+    if word >> 48 == tag {
+        let entry = is_entry(word);
+        if entry || word == 0 {
+            return Judged::Here;
+        }
         return Judged::Spoiled;
     }
-    if word >> 48 == tag {
-        Judged::Here
-    } else {
+    let addr = addr_of(word);
+    if addr == 0 {
+        if word == 0 {
+            return Judged::Here;
+        }
+        return Judged::Spoiled;
+    }
+    let entry = is_entry(word);
+    if entry {
         Judged::Other
+    } else {
+        Judged::Spoiled
     }
 }
 
@@ -145,7 +156,43 @@ fn seek_in<L: Line>(
     }
 }
 
-/// Finds the slot of the key's home, from its bucket's first word on. It is the first one with an entry of its tag, or the first empty one.
+/// Goes on with the search behind the link of a bucket, in overflow buckets.
+#[inline(always)]
+fn seek_on<L: Line>(line: &mut L, going: &Going, op: Op, tag: u64, first: usize) -> Option<Slot>
+    requires at { (c : Course) × Goes c (L.seat line.old) op going.now × IsAtLink c first going.now.places.overflow (L.stands line.old) }
+    requires tag { tag ≡ (home_of going.now.bits (key_of op)).tag }
+    requires fits { first + 8 ≤ 2 ^ 62 }
+    requires room { L.kept line.old ≤ 8 }
+    ensures seat { L.seat line.new ≡ L.seat line.old }
+    ensures led { (start : L) (call : Call) → L.led start call line.old → L.led start call line.new }
+    ensures kept { L.kept line.new ≤ L.kept line.old + 24 }
+    ensures found { (c : Course) → Goes c (L.seat line.old) op going.now → IsAtLink c first going.now.places.overflow (L.stands line.old)
+        → IfSome result (λ its. IsReached c its.place its.entry (entry_addr its.entry) (L.stands line.new)) }
+{
+    let mut base = first;
+    'links: for links in 0..LINKS {
+        if links >= going.places.overflow {
+            return None;
+        }
+        let link = line.load(base + 7);
+        let number = addr_of(link) as usize;
+        if number == 0 || number > going.places.overflow {
+            return None;
+        }
+        base = going.places.overflow(number, 0);
+        let word = line.load(base);
+        let sought = seek_in(line, going, op, tag, base, word, links + 1);
+        match sought {
+            Sought::At(slot) => return Some(slot),
+            Sought::Spoiled => return None,
+            Sought::Passed => {}
+        }
+    }
+    None
+}
+
+/// Finds the slot of the key's home, from its bucket's first word on. It is the first one with an entry of its tag, or the first empty one. Most
+/// homes have it in the bucket itself, so that is no turn of the loop: there each reply has a place that is known.
 #[inline(always)]
 fn seek<L: Line>(line: &mut L, going: &Going, op: Op, first: usize, found: u64) -> Option<Slot>
     requires at { (c : Course) × Goes c (L.seat line.old) op going.now × HasSlot c first going.now.places.overflow 0 found (L.stands line.old) }
@@ -158,30 +205,109 @@ fn seek<L: Line>(line: &mut L, going: &Going, op: Op, first: usize, found: u64) 
         → IfSome result (λ its. IsReached c its.place its.entry (entry_addr its.entry) (L.stands line.new)) }
 {
     let start = going.start(op.key());
-    let mut base = first;
-    let mut word = found;
-    'buckets: for links in 0..LINKS + 1 {
-        let sought = seek_in(line, going, op, start.tag, base, word, links);
-        match sought {
-            Sought::At(slot) => return Some(slot),
-            Sought::Spoiled => return None,
-            Sought::Passed => {}
-        }
-        if links >= LINKS || links >= going.places.overflow {
-            return None;
-        }
-        let link = line.load(base + 7);
-        let number = addr_of(link) as usize;
-        if number == 0 || number > going.places.overflow {
-            return None;
-        }
-        base = going.places.overflow(number, 0);
-        word = line.load(base);
+    let sought = seek_in(line, going, op, start.tag, first, found, 0);
+    match sought {
+        Sought::At(slot) => Some(slot),
+        Sought::Spoiled => None,
+        Sought::Passed => seek_on(line, going, op, start.tag, first),
+    }
+}
+
+/// What the walk has met at an address of the chain.
+enum Visited {
+    /// The key's record.
+    Own(Record),
+    /// Another key's: the chain goes on at this address.
+    Other(u64),
+    Spoiled,
+}
+
+/// Loads header and key of the record to which the walk has come.
+#[inline(always)]
+fn visit<L: Line>(line: &mut L, going: &Going, op: Op, slot: Slot, addr: u64) -> Visited
+    requires at { (c : Course) × Goes c (L.seat line.old) op going.now × IsReached c slot.place slot.entry addr (L.stands line.old) }
+    requires here { is_in_memory going.now.places.ring going.now.head addr ≡ true }
+    requires room { L.kept line.old ≤ 62 }
+    ensures seat { L.seat line.new ≡ L.seat line.old }
+    ensures led { (start : L) (call : Call) → L.led start call line.old → L.led start call line.new }
+    ensures kept { L.kept line.new ≤ L.kept line.old + 2 }
+    ensures own { (its : Record) → result ≡ Own its → (c : Course) → Goes c (L.seat line.old) op going.now
+        → IsReached c slot.place slot.entry addr (L.stands line.old) → IsMet c its (L.stands line.new) }
+    ensures other { (next : ℕ) → result ≡ Past next → (c : Course) → Goes c (L.seat line.old) op going.now
+        → IsReached c slot.place slot.entry addr (L.stands line.old) → IsReached c slot.place slot.entry next (L.stands line.new) }
+{
+    let key = op.key();
+    let at = going.record(Addr(addr), RecordWord::Header);
+    let header = line.load(at);
+    let found = line.load(at + 1);
+    let said = header_said(header);
+    let HeaderSaid::Says(previous, version) = said else {
+        return Visited::Spoiled;
+    };
+    if previous.0 >= addr {
+        return Visited::Spoiled;
+    }
+    if found == key.0 {
+        return Visited::Own(Record {
+            place: slot.place,
+            entry: slot.entry,
+            addr,
+            header,
+            previous: previous.0,
+            mark: version.0,
+            at,
+        });
+    }
+    Visited::Other(previous.0)
+}
+
+/// What a walk comes to at an address of the chain that isn't in memory.
+#[inline(always)]
+fn chain_end(going: &Going, slot: Slot, addr: u64) -> Option<Met>
+    ensures met { (c : Course) (k : Seat) (op : Op) (s : SessionState) → Goes c k op going.now → IsReached c slot.place slot.entry addr s
+        → IfSome result (λ its. HasMet c its s) }
+{
+    if addr == 0 {
+        return Some(Met::Nowhere(slot));
+    }
+    if addr < going.head {
+        return Some(Met::OnDisk(slot, addr));
     }
     None
 }
 
-/// Walks from the slot's entry to the record of the key, as far as the chain lies in memory.
+/// Walks on from an address that was reached behind the chain's first record.
+#[inline(always)]
+fn walk_on<L: Line>(line: &mut L, going: &Going, op: Op, slot: Slot, from: u64) -> Option<Met>
+    requires at { (c : Course) × Goes c (L.seat line.old) op going.now × IsReached c slot.place slot.entry from (L.stands line.old) }
+    requires room { L.kept line.old ≤ 35 }
+    ensures seat { L.seat line.new ≡ L.seat line.old }
+    ensures led { (start : L) (call : Call) → L.led start call line.old → L.led start call line.new }
+    ensures kept { L.kept line.new ≤ L.kept line.old + 14 }
+    ensures met { (c : Course) → Goes c (L.seat line.old) op going.now → IsReached c slot.place slot.entry from (L.stands line.old)
+        → IfSome result (λ its. HasMet c its (L.stands line.new)) }
+{
+    let mut addr = from;
+    let mut is_here = going.is_in_memory(addr);
+    let mut met = 0;
+    'records: while is_here {
+        let visited = visit(line, going, op, slot, addr);
+        match visited {
+            Visited::Own(its) => return Some(Met::Found(its)),
+            Visited::Other(next) => addr = next,
+            Visited::Spoiled => return None,
+        }
+        is_here = going.is_in_memory(addr);
+        met += 1;
+        if met >= RECORDS {
+            return None;
+        }
+    }
+    chain_end(going, slot, addr)
+}
+
+/// Walks from the slot's entry to the record of the key, as far as the chain lies in memory. Most keys have the first record of their chain, so that
+/// is no turn of the loop.
 #[inline(always)]
 fn walk<L: Line>(line: &mut L, going: &Going, op: Op, slot: Slot) -> Option<Met>
     requires at { (c : Course) × Goes c (L.seat line.old) op going.now × IsReached c slot.place slot.entry (entry_addr slot.entry) (L.stands line.old) }
@@ -192,46 +318,17 @@ fn walk<L: Line>(line: &mut L, going: &Going, op: Op, slot: Slot) -> Option<Met>
     ensures met { (c : Course) → Goes c (L.seat line.old) op going.now → IsReached c slot.place slot.entry (entry_addr slot.entry) (L.stands line.old)
         → IfSome result (λ its. HasMet c its (L.stands line.new)) }
 {
-    let key = op.key();
-    let mut addr = addr_of(slot.entry);
-    let mut is_here = going.is_in_memory(addr);
-    let mut met = 0;
-    'records: while is_here {
-        let at = going.record(Addr(addr), RecordWord::Header);
-        let header = line.load(at);
-        let found = line.load(at + 1);
-        let said = header_said(header);
-        let HeaderSaid::Says(previous, version) = said else {
-            return None;
-        };
-        if previous.0 >= addr {
-            return None;
-        }
-        if found == key.0 {
-            return Some(Met::Found(Record {
-                place: slot.place,
-                entry: slot.entry,
-                addr,
-                header,
-                previous: previous.0,
-                mark: version.0,
-                at,
-            }));
-        }
-        addr = previous.0;
-        is_here = going.is_in_memory(addr);
-        met += 1;
-        if met >= RECORDS {
-            return None;
-        }
+    let addr = addr_of(slot.entry);
+    let is_here = going.is_in_memory(addr);
+    if !is_here {
+        return chain_end(going, slot, addr);
     }
-    if addr == 0 {
-        return Some(Met::Nowhere(slot));
+    let visited = visit(line, going, op, slot, addr);
+    match visited {
+        Visited::Own(its) => Some(Met::Found(its)),
+        Visited::Other(next) => walk_on(line, going, op, slot, next),
+        Visited::Spoiled => None,
     }
-    if addr < going.head {
-        return Some(Met::OnDisk(slot, addr));
-    }
-    None
 }
 
 /// The place of the first slot of the key's home.
@@ -241,7 +338,7 @@ fn first_slot_of(going: &Going, op: Op) -> usize
     ensures fits { result + 8 ≤ 2 ^ 62 }
 {
     let start = going.start(op.key());
-    start.bucket
+    past_shared(start.bucket)
 }
 
 /// Finds the slot of the key's home and walks its chain; nothing where that meets anything unusual.

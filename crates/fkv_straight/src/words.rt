@@ -1,5 +1,5 @@
 //! What words, operations and phases say, as short as a straight call wants it.
-ghost use Rattle.std.specs.Prelude.{◌≡◌};
+ghost use Rattle.std.specs.Prelude.{◌≡◌, ◌<◌, ◌≤◌, ◌^◌};
 ghost use Rattle.fkv_index.specs.Slots.{entry_addr, is_entry};
 ghost use Rattle.fkv_ops.specs.HeaderWords.{header_said};
 ghost use Rattle.fkv_ops.specs.Requests.{is_blind, is_read};
@@ -13,6 +13,23 @@ const ADDR_MASK: u64 = (1 << 48) - 1;
 
 /// The last mark of a version.
 const LAST_MARK: u64 = 8191;
+
+/// Below it are the places of the shared words, of which each has a cache line of its own.
+const PAST_SHARED: i64 = 24;
+
+/// The place. The compiler knows from here on that it isn't a shared word's, nor are those shortly behind it. So no step at one of them asks where it lies.
+/// One test of a number with a sign says that it is neither below nor very large.
+#[inline(always)]
+pub(crate) fn past_shared(place: usize) -> usize
+    requires above { 24 ≤ place }
+    requires fits { place < 2 ^ 62 }
+    ensures { result ≡ place }
+{
+    if (place as i64) < PAST_SHARED {
+        unreachable!();
+    }
+    place
+}
 
 /// The address in the word of an entry, of a header or of a link.
 #[inline]
@@ -36,7 +53,7 @@ pub(crate) fn header_said(word: u64) -> HeaderSaid
     ensures { result ≡ header_said word }
 {
     let mark = word >> 48;
-    if mark == 0 || mark > LAST_MARK {
+    if mark.wrapping_sub(1) >= LAST_MARK {
         return fkv_ops::header_said(word);
     }
     let previous = addr_of(word);

@@ -1,5 +1,6 @@
 pub mod Below
 mod Lawful
+mod Meetings
 mod OneMore
 mod Opens
 mod Shares

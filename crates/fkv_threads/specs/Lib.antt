@@ -1,6 +1,7 @@
 pub mod Begun
 pub mod Below
 pub mod Calling
+pub mod Meetings
 pub mod Modelled
 pub mod Models
 pub mod Pieces

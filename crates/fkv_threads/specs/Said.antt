@@ -10,8 +10,10 @@ pub use Rattle.law_threads.specs.Below.fkv_table.Calls.{IsLastGiven, IsReady}
 pub use Rattle.law_threads.specs.Below.fkv_table.Keeps.{IsAfterSeen, IsKeeperReady}
 pub use Rattle.law_threads.specs.Below.fkv_table.Meets.{AreTwoReady, HaveMet, StaysReady}
 pub use Rattle.law_threads.specs.Below.fkv_table.Starts.{EachAt}
+pub use Rattle.law_threads.specs.Below.fkv_world.Runs.{World}
 pub use Rattle.fkv_threads.specs.Begun.{AreFirst, HasBegun, IsFirstWatch, IsOverStore, KeeperHasBegun}
 pub use Rattle.fkv_threads.specs.Calling.{HaveRun, IsToldCallOf}
+pub use Rattle.fkv_threads.specs.Meetings.{AreOfOneTable, IsMeetingOf, ReadsWhatTheOtherSaw}
 pub use Rattle.fkv_threads.specs.Models.{IsWatching, opening, sitting_at, sitting_of, watch_of}
 pub use Rattle.fkv_threads.specs.Watches.{HasStepped, IsAskedToCommit, IsDriven, IsHonestlyTold, IsTold, IsTurnOf, is_posted}
 pub use Rattle.std.specs.Prelude.{Err, IfOk, OnErr, map}

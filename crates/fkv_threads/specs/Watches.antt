@@ -24,6 +24,7 @@ use Rattle.law_threads.specs.Below.fkv_table.TurnAsk.{TurnAsk}
 use Rattle.law_threads.specs.Below.fkv_table.TurnAsk.TheVariants.{Device, Over}
 use Rattle.law_threads.specs.Below.fkv_table.Turns.{IsTurnAsked}
 use Rattle.law_threads.specs.Images.{RecoversWithin}
+use Rattle.law_threads.specs.Refusals.{TellsWhyNoCommit, TellsWhyNoTurn}
 use Rattle.law_threads.specs.Turns.{TellsItsFinish}
 use Rattle.fkv_threads.specs.Models.{IsWatching, Opening, Watch, opening}
 use Rattle.fkv_threads.specs.Pieces.{IfOver}
@@ -55,13 +56,14 @@ pub record IsSame {K D : Type 0} (w w' : Watch K D) : Type 0 where
   pub table : w'.table ≡ w.table
 
 module _ {D : Type 0} (device : Ghosts D) where
-  -- From these events on the turn has gone on up to its next call of the device, or to its end. A commit that it then tells as finished is sealed.
+  -- From these events on the turn has gone on up to its next call of the device, or to its end. A commit that it then tells as finished is sealed, and a refusal has its cause.
   pub record HasDriven (key : Opening D) (from : List Happening) (next : TurnAsk) (w' : Watch (Opening D) D) : Type 0 where
     pub went : HasGoneOn from w'.seen
     pub leaves : LeavesDevice (opening device) key from w'.seen
     pub asked : IsTurnAsked w'.machine next
     pub in_turn : w'.in_turn ≡ is_posted next
     pub finished : IfOver next (λ answer. TellsItsFinish (opening device) key w'.seen answer)
+    pub refused : IfOver next (λ answer. TellsWhyNoTurn (opening device) key w'.seen answer)
 
   -- A turn has begun, by which the keeper's machine was this, and has gone on so.
   pub record HasBegunTurn (w : Watch (Opening D) D) (next : TurnAsk) (w' : Watch (Opening D) D) : Type 0 where
@@ -92,7 +94,7 @@ module _ {D : Type 0} (device : Ghosts D) where
     pub driven : HasDriven w.key called next w'
 
   -- A whole turn was made. An image that a crash leaves in the middle of it is one that the life may leave at some moment of it, and holds a prefix of the life as it
-  -- was then. A commit that it tells as finished is sealed.
+  -- was then. A commit that it tells as finished is sealed, and a refusal has its cause.
   pub record IsTurnOf (w : Watch (Opening D) D) (answer : Result Turn Fault) (w' : Watch (Opening D) D) : Type 0 where
     pub same : IsSame w w'
     pub watching : IsWatching device w'
@@ -102,8 +104,9 @@ module _ {D : Type 0} (device : Ghosts D) where
     pub recovered : RecoversWithin (opening device) w.key w.seen w'.seen
     pub told : IsTurnTold w'.machine.state.last (keeper_ask w'.machine.shape w'.machine.places w'.machine.state) answer
     pub finished : TellsItsFinish (opening device) w.key w'.seen answer
+    pub refused : TellsWhyNoTurn (opening device) w.key w'.seen answer
 
-  -- A commit of this kind has begun, or was refused.
+  -- A commit of this kind has begun, or was refused for a cause.
   pub record HasAsked (kind : CommitKind) (w : Watch (Opening D) D) (result : Result Version Fault) (w' : Watch (Opening D) D) : Type 0 where
     pub same : IsSame w w'
     pub watching : IsWatching device w'
@@ -112,6 +115,7 @@ module _ {D : Type 0} (device : Ghosts D) where
     pub kept : HasKept (Commits kind) w.seen w'.seen
     pub leaves : LeavesDevice (opening device) w.key w.seen w'.seen
     pub told : IsBeginTold (keeper_ask w'.machine.shape w'.machine.places w'.machine.state) result
+    pub refused : TellsWhyNoCommit (opening device) w.key kind w'.seen result
 
   -- In the middle of a turn it is refused, and nothing changes.
   pub record IsAskedToCommit (kind : CommitKind) (w : Watch (Opening D) D) (result : Result Version Fault) (w' : Watch (Opening D) D) : Type 0 where

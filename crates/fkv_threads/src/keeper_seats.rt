@@ -65,7 +65,8 @@ impl<D: Device + Drop> KeeperSeat<D> {
     /// `Broken`, `Device`, `EpochsSpent` or `Memory`. An image that a crash leaves in the middle of the turn is one that the life may leave at some moment of
     /// it. It holds a prefix of the life as it was then (`recovered`). A commit that the turn tells as finished is sealed, with its number and points. Each
     /// point was fair as the commit was in hand (`finished`). Both are so if fewer than 2^64 - 1 calls of sessions begin. What is said of images also asks that
-    /// the life began with one that reaches far.
+    /// the life began with one that reaches far. A refusal has its cause: a call of the device has failed, in this turn or before it, the epoch's word that the
+    /// turn has loaded is the last, or no memory was granted for a copy of the index (`refused`).
     pub fn turn(&mut self) -> Result<Turn, Fault>
         requires idle { self.old.in_turn ≡ false }
         ensures turned { said.IsTurnOf D.Device self.old result self.new }
@@ -120,13 +121,15 @@ impl<D: Device + Drop> KeeperSeat<D> {
     }
 
     /// Begins a commit of this kind and gives its number; later turns carry it through. It is refused with `Broken`, `CommitRunning`, also in the middle of a
-    /// turn, `VersionsSpent`, `LostFull`, `EpochsSpent` or `DrainFull`. The device isn't called.
+    /// turn, `VersionsSpent`, `LostFull`, `EpochsSpent` or `DrainFull`. Each refusal but in the middle of a turn has its cause: a call of the device has failed
+    /// before, or the words that this call has loaded show why (`refused`). The device isn't called.
     pub fn ask_commit(&mut self, kind: CommitKind) -> Result<Version, Fault>
         ensures asked { said.IsAskedToCommit D.Device kind self.old result self.new }
     {
         if self.in_turn {
             return Err(Fault::CommitRunning);
         }
+        law_threads::<Snapshot<World<D>>>();
         self.keeper.start_commit(&self.table, &mut self.pass, kind)
     }
 

@@ -9,7 +9,7 @@ mod seated;
 
 pub use keeper_seats::KeeperSeat;
 pub use opening::{OpenSeats, open, open_seats};
-pub use passes::{close, join};
+pub use passes::{close, join, law_of_meetings};
 pub use seated::Seated;
 
 // What crates above name of the table.

@@ -2,7 +2,7 @@
 ghost use Rattle.fkv_threads.specs.Said as said;
 
 use fkv_disk::Device;
-use law_threads::{Pass, Table};
+use law_threads::{Pass, Table, law_threads};
 
 /// Two sessions' passes meet, as where a thread has told another one of its calls. Each session then has seen what either had seen, so its next calls
 /// stand behind those. Each is ready as before. It waits for nobody, and has no error.
@@ -16,6 +16,14 @@ pub fn join<D: Device>(table: &Table<D>, first: Pass<D>, second: Pass<D>) -> (Pa
         result.1.seat.table_id second.seat.me result.1.seat.me }
 {
     law_threads::join(table, first, second)
+}
+
+/// If two sessions of one table have met, each later read of the one gives its key's value after some beginning of the history that holds what the other
+/// had seen before. What the other was told as done is among that. So a session reads what another was told done, or something newer.
+pub fn law_of_meetings<K>()
+    ensures { (at : K → said.World) → said.ReadsWhatTheOtherSaw at }
+{
+    law_threads::<K>();
 }
 
 /// Frees a table that no thread shares any more. The device stays with the keeper's thread; what no commit has put on it is lost.

@@ -2,6 +2,7 @@
 ghost use Rattle.std.specs.Prelude.{◌≡◌, ◌<◌, ◌≤◌, ◌^◌, length};
 ghost use Rattle.fkv_threads.specs.Said as said;
 
+use crate::passes::join;
 use fkv_base::{Addr, Key, Serial};
 use fkv_disk::Device;
 use fkv_map::{Call, Op};
@@ -73,6 +74,33 @@ impl<D: Device> Seated<D> {
     {
         law_threads::<Snapshot<World<D>>>();
         self.session.op(&self.table, &mut self.pass, op)
+    }
+
+    /// Two sessions of one table meet, as where a thread has told another one of its calls. Each has then seen what either had seen, and is ready for its next
+    /// call as before. So that call stands behind all of these, and a read of the one gives what the other was told as done, or something newer. It makes
+    /// four loads of the epoch's word, waits for nobody, and has no error.
+    pub fn meet(self, other: Seated<D>) -> (Seated<D>, Seated<D>)
+        requires one_table { said.AreOfOneTable self other }
+        ensures met { said.IsMeetingOf (said.opening D.Device) self other result.0 result.1 }
+    {
+        law_threads::<Snapshot<World<D>>>();
+        let Seated {
+            table,
+            session,
+            pass,
+            ..
+        } = self;
+        let Seated {
+            table: its_table,
+            session: its_session,
+            pass: its_pass,
+            ..
+        } = other;
+        let (pass, its_pass) = join(&table, pass, its_pass);
+        (
+            Seated::new(table, session, pass),
+            Seated::new(its_table, its_session, its_pass),
+        )
     }
 
     /// What the last poll has finished, in the order of acceptance.

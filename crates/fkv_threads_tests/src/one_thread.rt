@@ -24,14 +24,17 @@ fn write<D: Device>(writer: &mut Seated<D>) -> Told {
     told[17]
 }
 
-/// Session 0 reads what session 1 wrote. `Slept` where the last add wasn't told the whole sum, or the store has no two sessions.
-fn write_and_read<D: Device + Drop>(mut sessions: Vec<Seated<D>>) -> Told {
-    let Some(mut writer) = sessions.pop() else {
+/// Session 0 reads what session 1 wrote, after both have met. `Slept` where the last add wasn't told the whole sum, or the store has no two sessions.
+fn write_and_read<D: Device + Drop>(mut sessions: Vec<Seated<D>>) -> Told
+    requires first { said.AreFirstOfOne sessions.items }
+{
+    let Some(writer) = sessions.pop() else {
         return Told::Slept;
     };
-    let Some(mut reader) = sessions.pop() else {
+    let Some(reader) = sessions.pop() else {
         return Told::Slept;
     };
+    let (mut reader, mut writer) = reader.meet(writer);
     match write(&mut writer) {
         Told::Done(_, Reply::Number(Value(28))) => reader.call(Call::Op(Op::Read(Key(7)))),
         _ => Told::Slept,

@@ -1,5 +1,5 @@
 -- Why the keeper refuses a commit, and why it ends a turn early.
-use Rattle.std.specs.Prelude.{◌≡◌, ℕ, List, [], ◌∷◌, Bool, false, Option, Some, None}
+use Rattle.std.specs.Prelude.{◌≡◌, ℕ, List, [], ◌∷◌, length, Bool, false, Option, Some, None}
 use Rattle.fkv_base.specs.declared.commits.CommitKind.{CommitKind}
 use Rattle.fkv_base.specs.declared.faults.Fault.{Fault}
 use Rattle.fkv_base.specs.declared.faults.Fault.TheVariants as fault
@@ -10,7 +10,7 @@ use Rattle.fkv_commit.specs.declared.starting.StartAsked.{StartAsked}
 use Rattle.fkv_commit.specs.Phases.{IsRefusalTrue}
 use Rattle.fkv_epoch.specs.Once.{Among}
 use Rattle.fkv_keeper.specs.KeeperRun.{BeginsCommit, Calls, KeeperEvent, Replies, is_in_hand, keeper_run}
-use Rattle.fkv_keeper.specs.Keeping.{asked_for, KeeperState, is_copy_resting}
+use Rattle.fkv_keeper.specs.Keeping.{KeeperState, is_copy_resting}
 use Rattle.fkv_keeper.specs.declared.keepers.Keeping.TheVariants.{LoadsPhase}
 use Rattle.fkv_commit.specs.declared.commits.Commit.{Commit}
 
@@ -36,18 +36,21 @@ pub record IsShown (asked : Option CommitKind) (so : CommitKind → StartAsked) 
   pub idle : AreIdle told
   pub shown : IsRefusalTrue (so kind) why told
 
--- It is refused as broken only if a call of the device has failed before. Any other cause is shown by what this call has asked and was
--- replied, with the lost ranges that the keeper has in hand and the checkpoint of the newest finished commit.
+-- what a refusal goes by: the class for which the keeper starts commits, the lost ranges that it has in hand, and the checkpoint of the newest finished commit
+abbrev pub refused_by : KeeperState → CommitKind → StartAsked
+refused_by s kind = record { class = s.start.asked.class; kind = kind; lost = length s.lost; checkpoint = s.last.checkpoint.number }
+
+-- It is refused as broken only if a call of the device has failed before. Any other cause is shown by what this call has asked and was replied.
 abbrev pub HasCommitCause : List KeeperEvent → Option CommitKind → KeeperState → List Exchange → Fault → Type 0
 HasCommitCause before asked s told fault.Broken = HasFailed before
-HasCommitCause before asked s told why = IsShown asked (asked_for s) why told
+HasCommitCause before asked s told why = IsShown asked (refused_by s) why told
 
 -- ---- a turn that ends early
 -- This event is a call of the device, and it failed.
 abbrev pub IsFailure : KeeperEvent → Type 0
 IsFailure event = (bytes : List ℕ) × (event ≡ Calls false bytes)
 
--- The phase was loaded, and memory was refused for a copy of the index by the commit in hand, which isn't copied. No copy rests.
+-- The phase was loaded, and no memory was granted for a copy of the index by the commit in hand, which isn't copied. No copy rests.
 pub record IsMemoryRefusal (s : KeeperState) (event : KeeperEvent) : Type 0 where
   pub reply : ℕ
   pub refused : event ≡ Replies reply false
@@ -58,7 +61,7 @@ pub record IsMemoryRefusal (s : KeeperState) (event : KeeperEvent) : Type 0 wher
   pub none_rests : is_copy_resting s.copy ≡ false
 
 -- It ends as broken only if a call of the device has failed before, and for the device only at its own call, if that failed. It ends for the epochs only if
--- the epoch's word that it has loaded is the last. It ends for memory only where that was refused.
+-- the epoch's word that it has loaded is the last. It ends for memory only where this event grants none for a copy.
 abbrev pub HasTurnCause : List KeeperEvent → KeeperState → KeeperEvent → List Exchange → Fault → Type 0
 HasTurnCause before s event told fault.Broken = HasFailed before
 HasTurnCause before s event told fault.Device = IsFailure event

@@ -13,13 +13,14 @@ ghost use Rattle.fkv_world.specs.OwnEvents.{keeper_events};
 ghost use Rattle.fkv_world.specs.Runs.{World, run};
 ghost use Rattle.fkv_world.specs.World.{Event};
 ghost use Rattle.law_causes.specs.Causes.{HasCommitCause, HasTurnCause, kind_asked};
+ghost use Rattle.law_causes.specs.Ends.{RefusalsHaveCauses};
 ghost use Rattle.law_causes.specs.Lives.{keeper_before, kind_of_life, told_in_life};
 
 /// Whatever is begun, replied, given and called: a commit that is refused has its cause, and so has a turn that ends early. A commit is refused as broken
 /// only if a call of the device has failed before. Else the call has changed no word, and the words that it has loaded show why: a commit is running,
 /// versions or epochs are spent, a log commit has too many lost ranges or lies past the window of its checkpoint, or no drain slot is free. A turn ends
 /// as broken only if a call of the device has failed before, and for the device only at its own call that fails. It ends for the epochs only if it has
-/// loaded the last epoch, and for memory only where that is refused.
+/// loaded the last epoch, and for memory only where none is granted for a copy of the index.
 pub fn law_of_refusals()
     ensures commits { (shape : Shape) (p : Places) (opening : KeeperState) (before : List KeeperEvent) (event : KeeperEvent) (why : Fault) → IsOpened opening
         → is_calling (keeper_run shape p opening before).step event ≡ true
@@ -29,6 +30,13 @@ pub fn law_of_refusals()
         → is_calling (keeper_run shape p opening before).step event ≡ true
         → (keeper_run shape p opening (event ∷ before)).step ≡ Ended (TurnRefused why)
         → HasTurnCause before (keeper_run shape p opening before) event (call_told shape p opening (event ∷ before)) why }
+{}
+
+/// What the keeper tells of the call that has begun last, once that is over. If it tells of a turn that it is refused, the turn has ended so, for a cause that
+/// stands then; and so it is with a commit. So a turn is refused with `Broken`, `Device`, `EpochsSpent` or `Memory`, and with nothing else. Who asks for the
+/// device is in a turn.
+pub fn law_of_last_calls()
+    ensures { RefusalsHaveCauses }
 {}
 
 /// So it is in each life of a store that was opened, whatever the sessions do, what stands in words and on the device, and which calls fail.

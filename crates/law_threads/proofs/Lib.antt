@@ -11,6 +11,7 @@ mod OfKinds
 mod OfLaws
 mod OfPolls
 mod OfReads
+mod OfRefusals
 mod OfRuns
 mod OfTickets
 mod OfTurns

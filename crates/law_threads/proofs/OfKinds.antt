@@ -165,7 +165,7 @@ module _ (w : World) where
     so = own_of_alive alive its (steps ++ es) ∙ (ap (λ (more : List KeeperEvent). part_at its (steps ++ es) ++ more) rest.so ∙ sym (append_assoc (part_at its (steps ++ es)) rest.its (own es)));
   }
 
-  own_of_steps : ((es : List Happening) → (at es).now.crashed ≡ false) → (steps es : List Happening) → BeginsNone steps → OwnSteps steps es
+  pub own_of_steps : ((es : List Happening) → (at es).now.crashed ≡ false) → (steps es : List Happening) → BeginsNone steps → OwnSteps steps es
   unfolding keeper_part
   own_of_steps alive [] es begins = record { its = []; none = tt; so = refl }
   own_of_steps alive (happening.Calls session call ∷ steps) es begins = one_step alive (happening.Calls session call) steps es (own_of_steps alive steps es begins) tt
@@ -183,7 +183,7 @@ module _ (w : World) where
     pub none : BeginNothing its
     pub so : own seen' ≡ its ++ start ∷ own seen
 
-  own_of_call : ((es : List Happening) → (at es).now.crashed ≡ false) → (call : Happening) (start : KeeperEvent) (seen seen' : List Happening) → HasKept call seen seen'
+  pub own_of_call : ((es : List Happening) → (at es).now.crashed ≡ false) → (call : Happening) (start : KeeperEvent) (seen seen' : List Happening) → HasKept call seen seen'
       → ((es : List Happening) → own (call ∷ es) ≡ start ∷ own es) → OwnCall start seen seen'
   own_of_call alive call start seen seen' kept begins =
       let steps = own_of_steps alive kept.steps (call ∷ (kept.others ++ seen)) kept.begins in
@@ -194,11 +194,11 @@ module _ (w : World) where
             ∙ (steps.so ∙ ap (λ (more : List KeeperEvent). steps.its ++ more) (begins (kept.others ++ seen) ∙ ap (λ (more : List KeeperEvent). start ∷ more) (own_of_sessions alive kept.others seen kept.quiet)));
       }
 
-  commit_own : ((es : List Happening) → (at es).now.crashed ≡ false) → (kind : CommitKind) (es : List Happening) → own (happening.Commits kind ∷ es) ≡ BeginsCommit kind ∷ own es
+  pub commit_own : ((es : List Happening) → (at es).now.crashed ≡ false) → (kind : CommitKind) (es : List Happening) → own (happening.Commits kind ∷ es) ≡ BeginsCommit kind ∷ own es
   unfolding keeper_part
   commit_own alive kind es = own_of_alive alive (happening.Commits kind) es
 
-  turn_own : ((es : List Happening) → (at es).now.crashed ≡ false) → (es : List Happening) → own (happening.Turns ∷ es) ≡ BeginsTurn ∷ own es
+  pub turn_own : ((es : List Happening) → (at es).now.crashed ≡ false) → (es : List Happening) → own (happening.Turns ∷ es) ≡ BeginsTurn ∷ own es
   unfolding keeper_part
   turn_own alive es = own_of_alive alive happening.Turns es
 

@@ -1,5 +1,6 @@
 -- The thread law, by clauses of the order law.
-use Rattle.std.proofs.Common.{◌≡◌, ◌⊎◌, inl, inr, ℕ, sym, subst, List}
+use Rattle.std.proofs.Common.{◌≡◌, ◌⊎◌, inl, inr, ℕ, ◌∙◌, ap, sym, subst, List, ◌++◌, append_assoc}
+use Rattle.std.specs.FinMap.{get}
 use mathlib.Core.Option.{some}
 use lib.ListN.{get_elem?}
 use Rattle.atomic_table.specs.Table.{State}
@@ -12,13 +13,17 @@ use Rattle.fkv_seats.proofs.Keeps.{allowed_last}
 use Rattle.law_order.specs.Below.fkv_world.Runs.{World}
 use Rattle.law_order.specs.Below.fkv_world.World.{Event, Now}
 use Rattle.law_order.specs.OneHistory.EachLife.{InEachLife, IsLife, Life}
-use Rattle.law_order.specs.Rules.InTime.{ReadsInTime}
+use Rattle.fkv_map.specs.History.{content}
+use Rattle.fkv_map.specs.Map.{Map, reply_to_read}
+use Rattle.fkv_map.specs.declared.history.HistoryEntry.{HistoryEntry}
+use Rattle.fkv_map.specs.declared.operations.Reply.{Reply}
+use Rattle.law_order.specs.Rules.InTime.{IsInTime, ReadsInTime}
 use Rattle.law_order.specs.Rules.Ordered.{HasLegalHistory, OrdersItsCalls}
 use Rattle.fkv_table.specs.declared.happenings.Happening.{Happening}
 use Rattle.fkv_table.specs.Desks.{Slot, Knows}
 use Rattle.fkv_table.specs.Planes.{plane}
 use Rattle.law_threads.specs.Calls.{events_of}
-use Rattle.law_threads.specs.Laws.{IsSeenIn, IsThreadLaw, IsWithin, SharesOneHistory}
+use Rattle.law_threads.specs.Laws.{GoesOnFromWhatWasSeen, IsSeenIn, IsThreadLaw, IsWithin, SharesOneHistory}
 use Rattle.law_threads.specs.Threads.{IsBeginning, history_seen}
 use Rattle.law_threads.proofs.Histories.{begins_with}
 use Rattle.law_threads.proofs.Numbers.{calls_fit}
@@ -70,8 +75,29 @@ in_lives at legal ordered in_time law = weaker at IsWithin IsOrdered
     record { legal = legal its is; ordered = ordered its is; in_time = in_time its is })
     law
 
+-- ---- what was seen before
+history_goes_on : {K : Type 0} (at : K → World) (n : Now) (bytes : List ℕ) (less more : List Happening) → IsSeenBy (plane at) less more → IsBeginning (history_seen n bytes less) (history_seen n bytes more)
+history_goes_on at n bytes less more seen = subst (λ (x : List Happening). IsBeginning (history_seen n bytes less) (history_seen n bytes x)) (sym seen.1) (begins_with n bytes seen.0 less)
+
+-- what is read behind a history is read behind a beginning of it
+read_sooner : (m : Map) (less first last : List HistoryEntry) (key : ℕ) (reply : Reply) → IsBeginning less first → IsInTime m first last key reply → IsInTime m less last key reply
+read_sooner m less first last key reply begins its =
+    let both : first ++ its.between ≡ less ++ (begins.newer ++ its.between) = ap (λ (x : List HistoryEntry). x ++ its.between) begins.whole ∙ append_assoc less begins.newer its.between in
+    record {
+      between = begins.newer ++ its.between;
+      newer = its.newer;
+      all = its.all ∙ (sym (append_assoc first its.between its.newer) ∙ (ap (λ (x : List HistoryEntry). x ++ its.newer) both ∙ append_assoc less (begins.newer ++ its.between) its.newer));
+      value = its.value ∙ ap (λ (x : List HistoryEntry). reply_to_read (get (content m x) key)) both;
+    }
+
+pub goes_on : {K : Type 0} (at : K → World) → GoesOnFromWhatWasSeen at
+goes_on at = record {
+  history = λ n bytes less more seen. history_goes_on at n bytes less more seen;
+  reads = λ o n bytes its less seen read key reply called told. read_sooner _ _ _ _ key.0 reply (history_goes_on at n bytes less its.before seen) (read key reply called told);
+}
+
 seen_in : {K : Type 0} (at : K → World) (n : Now) (bytes : List ℕ) (less more : List Happening) → IsSeenBy (plane at) less more → AreAllowed (plane at) more → IsSeenIn at n bytes less more
-seen_in at n bytes less more seen may = record { seen = seen; allowed = may; history = subst (λ (x : List Happening). IsBeginning (history_seen n bytes less) (history_seen n bytes x)) (sym seen.1) (begins_with n bytes seen.0 less) }
+seen_in at n bytes less more seen may = record { seen = seen; allowed = may; history = history_goes_on at n bytes less more seen }
 
 -- all that a pass has seen may stand in the list
 seen_allowed : {K : Type 0} (at : K → World) (key : K) (s : State Slot (Knows K)) → Ruled (plane at) key s → (id : ℕ) (v : Knows K) → get_elem? s.views id ≡ some v → AreAllowed (plane at) v.seen

@@ -11,7 +11,7 @@ use Rattle.law_order.specs.Tickets.Few.{HasFewCalls}
 use Rattle.fkv_table.specs.declared.happenings.Happening.{Happening}
 use Rattle.fkv_table.specs.Desks.{Slot, Knows}
 use Rattle.fkv_table.specs.Planes.{plane}
-use Rattle.law_threads.specs.Calls.{IsOver, OfEachRun}
+use Rattle.law_threads.specs.Calls.{CallRun, IsOver, OfEachRun}
 use Rattle.law_threads.specs.Polls.{FinishedIsSeen, PollsWhatWasSeen}
 use Rattle.law_threads.specs.Threads.{DoneIsSeen, IsBeginning, ReadsWhatWasSeen, StandsInOneHistory, history_seen}
 
@@ -33,6 +33,11 @@ pub record IsSeenIn {K : Type 0} (at : K → World) (n : Now) (bytes : List ℕ)
   pub seen : IsSeenBy (plane at) less more
   pub allowed : AreAllowed (plane at) more
   pub history : IsBeginning (history_seen n bytes less) (history_seen n bytes more)
+
+-- What was seen before is a beginning of what is seen later, and so are their histories. A read that holds what was seen later holds what was seen before.
+pub record GoesOnFromWhatWasSeen {K : Type 0} (at : K → World) : Type 0 where
+  pub history : (n : Now) (bytes : List ℕ) (less more : List Happening) → IsSeenBy (plane at) less more → IsBeginning (history_seen n bytes less) (history_seen n bytes more)
+  pub reads : (o : Opened) (n : Now) (bytes : List ℕ) (its : CallRun) (less : List Happening) → IsSeenBy (plane at) less its.before → ReadsWhatWasSeen o n bytes its → ReadsWhatWasSeen o n bytes (record its { before = less })
 
 -- So it is of any two passes at one moment of a table.
 abbrev pub SharesOneHistory : {K : Type 0} → (K → World) → Type 0

@@ -5,6 +5,7 @@ pub mod Images
 pub mod Kinds
 pub mod Laws
 pub mod Polls
+pub mod Refusals
 pub mod Said
 pub mod Threads
 pub mod Turns

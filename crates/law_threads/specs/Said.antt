@@ -7,5 +7,6 @@ pub use Rattle.law_threads.specs.Calls.{OfEachRun}
 pub use Rattle.law_threads.specs.Durable.{ItsDurableNeverFalls, RecoversItsDurable, TellsItsDurable}
 pub use Rattle.law_threads.specs.Images.{RecoversWithin}
 pub use Rattle.law_threads.specs.Kinds.{TellsKinds}
-pub use Rattle.law_threads.specs.Laws.{IsThreadLaw, IsWithin, SharesOneHistory}
+pub use Rattle.law_threads.specs.Laws.{GoesOnFromWhatWasSeen, IsThreadLaw, IsWithin, SharesOneHistory}
+pub use Rattle.law_threads.specs.Refusals.{OfEachRefusal}
 pub use Rattle.law_threads.specs.Turns.{OfEachTurn}

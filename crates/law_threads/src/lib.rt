@@ -4,6 +4,7 @@
 ghost use Rattle.std.specs.Prelude.{List};
 ghost use Rattle.law_threads.specs.Said as said;
 
+use law_causes::law_of_last_calls;
 pub use law_order::{law_device_opens, law_guard_opens};
 use law_order::{
     law_durable_never_falls, law_order, law_prefix, law_world_requests, law_world_sessions,
@@ -23,7 +24,8 @@ pub use fkv_table::{
 /// or later recovers a point at or above it (`recovered`). Each image that a crash may leave in the middle of a turn holds a prefix of the life as it was at
 /// some moment of the turn (`turns`). A commit that a turn tells as finished is sealed, and its points are fair (`finished`).
 /// It is of the kind for which the call had asked that has begun it: a full one has a checkpoint of its own, and a log commit has that of the commit before it. A call
-/// that is told a number has begun a commit of its kind, and no turn begins one (`kinds`). Of two passes at one moment one has seen a beginning of what the other has, and so are their histories.
+/// that is told a number has begun a commit of its kind, and no turn begins one (`kinds`). What the keeper tells as refused has its cause in that call (`refused`). What is read behind a list of
+/// events is read behind each beginning of it (`goes_on`). Of two passes at one moment one has seen a beginning of what the other has, and so are their histories.
 pub fn law_threads<K>()
     ensures in_lives { (at : K → said.World) → said.IsThreadLaw at said.IsWithin }
     ensures durable { (at : K → said.World) → said.OfEachRun at said.IsWithin said.TellsItsDurable }
@@ -32,6 +34,8 @@ pub fn law_threads<K>()
     ensures turns { (at : K → said.World) (key : K) (seen seen' : List said.Happening) → said.AreAllowed (said.plane at) seen' → said.RecoversWithin at key seen seen' }
     ensures finished { (at : K → said.World) → said.OfEachTurn at }
     ensures kinds { (at : K → said.World) → said.TellsKinds at }
+    ensures refused { (at : K → said.World) → said.OfEachRefusal at }
+    ensures goes_on { (at : K → said.World) → said.GoesOnFromWhatWasSeen at }
     ensures views { (at : K → said.World) → said.SharesOneHistory at }
 {
     law_order();
@@ -39,4 +43,5 @@ pub fn law_threads<K>()
     law_durable_never_falls();
     law_world_sessions();
     law_world_requests();
+    law_of_last_calls();
 }

@@ -1,5 +1,6 @@
 """The package, call by call, over the library of FKV_LIB."""
 import array
+import dataclasses
 import errno
 import gc
 import os
@@ -225,7 +226,7 @@ class Stores(OverFile):
             file.write("no store")
         self.assertRaises(fkv.NotAStore, fkv.open, f"{self.room}/text")
         self.assertRaises(fkv.BadShape, fkv.make_file, f"{self.room}/bad", fkv.Shape(0, 3, 2, 1, 1, 0, 1))
-        self.assertRaises(fkv.BadShape, fkv.shape_for, fkv.Wish(sessions=33))
+        self.assertRaises(fkv.BadShape, fkv.shape_for, fkv.Wish(sessions=32))
 
     def test_damage(self):
         fkv.make_file(self.path, SMALL)
@@ -243,6 +244,28 @@ class Stores(OverFile):
         with self.open(shape=SMALL) as store:
             self.assertEqual(store.shape, SMALL)
 
+    def test_sessions(self):
+        with self.open(shape=SMALL) as store:
+            sessions = [store.join() for _ in range(SMALL.sessions)]
+            for number in (None, SMALL.sessions):
+                self.assertRaises(fkv.NoSession, store.join, number)
+            self.assertEqual((store.stats.joined, store.stats.kept, len(store.last_commit.points)), (15, 0, 4))
+            for session in sessions:
+                session.close()
+        self.assertRaises(fkv.BadShape, fkv.make_file, f"{self.room}/bad", dataclasses.replace(SMALL, sessions=32))
+
+    def test_memory_that_is_not_kept_warm(self):
+        for frames, warms, wanted in ((16, True, 0), (2, False, 0), (2, True, 1)):
+            told = threading.Semaphore(0)
+            path = f"{self.room}/{frames}{warms}"
+            fkv.make_file(path, dataclasses.replace(SMALL, frames=frames, mutable_pages=1))
+            for _ in range(2):
+                with fkv.open(path, keeping=None) as store:
+                    for _ in range(2):
+                        store.start(fkv.Keeping(unwarmed=told.release, warms=warms))
+                        store.stop()
+                self.assertEqual(sum(told.acquire(timeout=0) for _ in range(9)), wanted)
+
     def text(self):
         with open(self.path, "rb") as file:
             return file.read(8)
@@ -253,7 +276,8 @@ class Stores(OverFile):
         with open(self.path, "r+b") as file:
             file.write(b"FKVSTOR1")
         with self.open() as store:
-            self.assertEqual(store.shape, SMALL)
+            # (its library's session is a user's then)
+            self.assertEqual(store.shape, dataclasses.replace(SMALL, sessions=SMALL.sessions + 1))
             store.renew()
             self.assertEqual(self.text(), b"FKVSTOR1")
             store.renew(SMALL)
@@ -364,6 +388,26 @@ class Stores(OverFile):
             self.assertEqual((shared[60], shared.serial), (2000, 2000))
             self.assertEqual([shared[it] for it in range(50)], [120] * 50)
             shared.close()
+
+    def test_meetings(self):
+        told, mutex = [0, 0], threading.Lock()
+
+        def tell(sessions, own):
+            for _ in range(200):
+                with mutex:
+                    mine, other = sessions[own], sessions[1 - own]
+                    told[own] = mine.increment(own)
+                    mine.meet(other)
+                    self.assertEqual(mine.get(1 - own, 0), told[1 - own])
+
+        with self.open() as store, store.join() as first, store.join() as second:
+            threads = [threading.Thread(target=tell, args=((first, second), it)) for it in (0, 1)]
+            for it in threads:
+                it.start()
+            for it in threads:
+                it.join()
+            self.assertEqual(told, [200, 200])
+            self.assertRaises(ValueError, first.meet, first)
 
     def test_what_nobody_closed(self):
         warnings.simplefilter("always")

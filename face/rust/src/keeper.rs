@@ -11,6 +11,7 @@ use std::{mem, ptr, slice};
 type TellCommitted = Box<dyn FnMut(u64, &[u64]) + Send>;
 type TellProgress = Box<dyn FnMut(Progress) + Send>;
 type TellStopped = Box<dyn FnMut(Error) + Send>;
+type TellUnwarmed = Box<dyn FnMut() + Send>;
 
 /// How the keeper's thread goes. By default it commits on request alone.
 ///
@@ -21,6 +22,7 @@ pub struct Keeping {
     commit_each: Duration,
     turn_each: Duration,
     log_commits: u32,
+    lets_cool: bool,
     hooks: Hooks,
 }
 
@@ -30,6 +32,7 @@ struct Hooks {
     committed: Option<TellCommitted>,
     progress: Option<TellProgress>,
     stopped: Option<TellStopped>,
+    unwarmed: Option<TellUnwarmed>,
 }
 
 impl Keeping {
@@ -65,6 +68,20 @@ impl Keeping {
         self
     }
 
+    /// Doesn't keep memory warm: what is only read leaves it some day, and is read from the file then. Else the thread keeps what is about to leave, by
+    /// a session of the library's own. That takes log, an eighth of it at most (fkv_start of fkv_posix.h).
+    pub fn no_warmer(mut self) -> Keeping {
+        self.lets_cool = true;
+        self
+    }
+
+    /// This is called once, in the keeper's thread, if memory can't be kept warm: the store is a specified one or has a single session in its
+    /// file, or is too small.
+    pub fn unwarmed(mut self, tell: impl FnMut() + Send + 'static) -> Keeping {
+        self.hooks.unwarmed = Some(Box::new(tell));
+        self
+    }
+
     /// This is called once, in the keeper's thread, as commits end for good or the log is found full: with what [`Session::tick`] is refused
     /// by from then on.
     pub fn stopped(mut self, tell: impl FnMut(Error) + Send + 'static) -> Keeping {
@@ -96,6 +113,12 @@ extern "C" fn tell_stopped(user: *mut c_void, fault: i32) {
     let hooks = unsafe { hooks_of(user) };
     if let (Some(tell), Err(why)) = (&mut hooks.stopped, answer(fault)) {
         tell(why);
+    }
+}
+
+extern "C" fn tell_unwarmed(user: *mut c_void) {
+    if let Some(tell) = &mut unsafe { hooks_of(user) }.unwarmed {
+        tell();
     }
 }
 
@@ -138,6 +161,8 @@ impl Keeper {
             progress: Some(tell_progress),
             user: hooks.cast(),
             stopped: Some(tell_stopped),
+            unwarmed: Some(tell_unwarmed),
+            no_warmer: u32::from(keeping.lets_cool),
         };
         let result = answer(unsafe { raw::fkv_start(file.at, &its) });
         if let Err(why) = result {

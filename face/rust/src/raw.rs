@@ -103,6 +103,7 @@ pub type TellProgress = extern "C" fn(*mut c_void, *const Progress);
 pub type TellCommitted = extern "C" fn(*mut c_void, u64, *const u64, usize);
 pub type TellFinished = extern "C" fn(*mut c_void, *const Finished);
 pub type TellStopped = extern "C" fn(*mut c_void, i32);
+pub type TellUnwarmed = extern "C" fn(*mut c_void);
 pub type TellPair = extern "C" fn(*mut c_void, u64, u64) -> i32;
 
 #[repr(C)]
@@ -139,6 +140,7 @@ pub struct Stats {
     pub helped: u64,
     pub cold_reads: u64,
     pub fetched: u64,
+    pub kept: u64,
     pub file_bytes: u64,
     pub begin: u64,
     pub head: u64,
@@ -171,6 +173,8 @@ pub struct Keeping {
     pub progress: Option<TellProgress>,
     pub user: *mut c_void,
     pub stopped: Option<TellStopped>,
+    pub unwarmed: Option<TellUnwarmed>,
+    pub no_warmer: u32,
 }
 
 pub const REASONS: usize = 6;
@@ -263,6 +267,7 @@ unsafe extern "C" {
     pub fn fkv_wake(session: *mut Session, seen: *mut Seen) -> i32;
     pub fn fkv_durable(session: *mut Session, serial: *mut u64) -> i32;
     pub fn fkv_serial(session: *mut Session, serial: *mut u64) -> i32;
+    pub fn fkv_meet(session: *mut Session, other: *mut Session) -> i32;
     pub fn fkv_spread(key: u64) -> u64;
     pub fn fkv_spread_back(word: u64) -> u64;
     pub fn fkv_version() -> *const c_char;

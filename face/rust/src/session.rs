@@ -544,6 +544,19 @@ impl Session {
         Ok(serial)
     }
 
+    /// It meets another session of the store: each has then seen what either had seen. So what the one was told as done is in force for each later call of
+    /// the other.
+    ///
+    /// # Panics
+    ///
+    /// The other session is of another opening of a store.
+    pub fn meet(&mut self, other: &mut Session) -> Result<(), Error> {
+        let is_own = Arc::ptr_eq(&self.file, &other.file);
+        assert!(is_own, "the session is of another opening of a store");
+        answer(unsafe { raw::fkv_meet(self.at, other.at) })?;
+        Ok(())
+    }
+
     /// Settles, asks for a commit, and sleeps until it is finished: a crash from then on keeps all that it has done. What was pending
     /// isn't told. Refused as [`Session::settle`], and by the fault of the commit. No commit finishes past a session that is awake and doesn't
     /// refresh.

@@ -22,7 +22,7 @@ impl Wish {
         self
     }
 
-    /// Threads that use it at once, at most 32. A turn of the keeper takes 0.1 microseconds for each.
+    /// Threads that use it at once, at most 31. A turn of the keeper takes 0.1 microseconds for each.
     pub fn sessions(mut self, count: u64) -> Wish {
         self.sessions = count;
         self

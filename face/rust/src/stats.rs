@@ -32,6 +32,8 @@ pub struct Stats {
     pub cold_reads: u64,
     /// Records that the system was asked for ahead of their reads, by [`Session::read_many`](crate::Session::read_many).
     pub fetched: u64,
+    /// Records that the library has kept in memory, each by an update of its own session.
+    pub kept: u64,
     /// Bytes of the file.
     pub file_bytes: u64,
     /// The address of the log's first record, which is 1. Records have addresses in the order in which they were made.
@@ -75,6 +77,7 @@ impl Store {
             helped: its.helped,
             cold_reads: its.cold_reads,
             fetched: its.fetched,
+            kept: its.kept,
             file_bytes: its.file_bytes,
             begin: its.begin,
             head: its.head,

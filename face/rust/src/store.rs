@@ -23,7 +23,7 @@ pub struct Shape {
     pub frames: u64,
     /// Pages whose records are updated in place: 1 to frames - 1.
     pub mutable_pages: u64,
-    /// Sessions: 1 to 32.
+    /// Sessions: 1 to 31. The file has one more, which is the library's.
     pub sessions: u64,
     /// Buckets that full ones overflow to: 0 to 2^24, of a specified store to 1,024.
     pub overflow: u64,

@@ -228,7 +228,7 @@ fn what_is_done_is_kept_as_the_keeper_is_dropped() {
     drop((session, keeper, store));
     let store = Store::open_with(&path.0, How::default().warm(0)).unwrap();
     assert_eq!(store.last_commit().number, 1);
-    let keeper = store.start(Keeping::default()).unwrap();
+    let keeper = store.start(Keeping::default().no_warmer()).unwrap();
     let mut session = store.join_any().unwrap();
     let keys: Vec<u64> = (0..1100).collect();
     let found = session.read_many(&keys).unwrap();
@@ -363,10 +363,10 @@ fn a_store_is_renewed_in_place() {
 
 #[test]
 fn sizes_follow_from_a_wish() {
-    let shape = Shape::for_wish(&Wish::default().keys(1000).sessions(32)).unwrap();
+    let shape = Shape::for_wish(&Wish::default().keys(1000).sessions(31)).unwrap();
     let size = shape.size().unwrap();
     assert!(size.keys >= 1000 && size.memory_bytes > 24_000 && size.file_bytes > 24 * size.records);
-    assert_eq!(shape.sessions, 32);
+    assert_eq!(shape.sessions, 31);
     let most = 16 << 20;
     let wish = Wish::default().keys(100_000).memory_bytes(most);
     let small = Shape::for_wish(&wish).unwrap().size().unwrap();
@@ -374,7 +374,7 @@ fn sizes_follow_from_a_wish() {
     let few = wish.updates_between_commits(100);
     let few = Shape::for_wish(&few).unwrap().size().unwrap();
     assert!(few.file_bytes < small.file_bytes);
-    let refused = Shape::for_wish(&Wish::default().sessions(33));
+    let refused = Shape::for_wish(&Wish::default().sessions(32));
     assert!(matches!(refused, Err(Error::BadShape)));
     assert!(matches!(
         Shape { page: 5, ..shape }.size(),

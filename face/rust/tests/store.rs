@@ -1,6 +1,6 @@
 //! The crate over real files: each call once, and what it refuses.
 use fkv::{
-    Error, Finished, How, Keeper, Keeping, Phase, Read, RenewedKeys, Shape, Store, Update, Work,
+    Error, Finished, How, Keeper, Keeping, Phase, Read, RenewedKeys, Session, Shape, Store, Update, Work,
     formats, renew, spread, spread_back, version,
 };
 use std::io::ErrorKind;
@@ -71,6 +71,59 @@ fn a_file_is_made_once_and_opened_by_one() {
     drop(store);
     fs::write(&path.0, "no store").unwrap();
     assert!(matches!(Store::open(&path.0), Err(Error::NotAStore)));
+}
+
+/// As many sessions as were asked for are given, and no more. Of a file with a single one, a hook says once that nothing keeps memory warm.
+#[test]
+fn so_many_sessions_as_were_asked_for() {
+    for sessions in [1, 2, 3, 31] {
+        let path = Path::new(&format!("sessions-{sessions}"));
+        let shape = Shape { sessions, ..SHAPE };
+        Store::make(&path.0, &shape).unwrap();
+        assert_eq!(u64::from(fs::read(&path.0).unwrap()[40]), sessions + 1);
+        let store = Store::open(&path.0).unwrap();
+        assert_eq!(store.shape(), shape);
+        let all: Vec<_> = (0..sessions).map(|_| store.join_any().unwrap()).collect();
+        assert!(matches!(store.join_any(), Err(Error::NoSession)));
+        assert!(matches!(store.join(sessions), Err(Error::NoSession)));
+        assert_eq!(store.stats().unwrap().joined, (1 << sessions) - 1);
+        assert_eq!(store.last_commit().points, vec![0; sessions as usize]);
+        drop(all);
+        let more = Shape {
+            sessions: 7,
+            ..SHAPE
+        };
+        store.renew(Some(&more)).unwrap();
+        assert_eq!(store.shape(), more);
+    }
+    let many = Shape {
+        sessions: 32,
+        ..SHAPE
+    };
+    assert!(matches!(many.size(), Err(Error::BadShape)));
+    assert!(matches!(Store::make("none", &many), Err(Error::BadShape)));
+    let path = Path::new("sessions-own");
+    Store::make(&path.0, &SHAPE).unwrap();
+    let mut image = fs::read(&path.0).unwrap();
+    // The shape's sessions, and those that have a point in the slot of commit 0.
+    image[40] = 1;
+    image[512 + 48] = 1;
+    fs::write(&path.0, image).unwrap();
+    let store = Store::open(&path.0).unwrap();
+    assert_eq!(store.shape().sessions, 1);
+    let (send, receive) = mpsc::channel();
+    for keeping in [
+        Keeping::default().no_warmer(),
+        Keeping::default(),
+        Keeping::default(),
+    ] {
+        let send = send.clone();
+        let keeper = store
+            .start(keeping.unwarmed(move || send.send(()).unwrap()))
+            .unwrap();
+        keeper.stop().unwrap();
+    }
+    assert_eq!(receive.try_iter().count(), 1);
 }
 
 #[test]
@@ -377,6 +430,52 @@ fn a_session_that_is_dropped_without_a_keeper_holds_up_no_commit() {
         assert_eq!(session.read(key).unwrap(), Some(key));
     }
     drop((session, keeper));
+}
+
+/// Adds to the session's own key, tells how far it has come, and finds what the other was told.
+fn tell(session: &mut Session, other: &mut Session, told: &mut [u64; 2], own: usize) {
+    told[own] = session.increment(own as u64, 1).unwrap().value;
+    session.meet(other).unwrap();
+    let of_other = told[1 - own];
+    let found = session.read(1 - own as u64).unwrap();
+    assert_eq!(found.unwrap_or(0), of_other);
+    session.tick().unwrap();
+}
+
+#[test]
+fn who_was_told_of_an_update_finds_it() {
+    let path = Path::new("told");
+    let store = path.store();
+    let keeper = store.start(Keeping::default()).unwrap();
+    let sessions = [store.join(0).unwrap(), store.join(1).unwrap()];
+    let both = Mutex::new((sessions, [0, 0]));
+    thread::scope(|threads| {
+        for own in [0, 1] {
+            let both = &both;
+            threads.spawn(move || {
+                for _ in 0..200 {
+                    let (sessions, told) = &mut *both.lock().unwrap();
+                    let [first, second] = sessions;
+                    match own {
+                        0 => tell(first, second, told, 0),
+                        _ => tell(second, first, told, 1),
+                    }
+                }
+            });
+        }
+    });
+    let (sessions, told) = both.into_inner().unwrap();
+    assert_eq!(told, [200, 200]);
+    drop((sessions, keeper));
+}
+
+#[test]
+#[should_panic(expected = "another opening")]
+fn a_session_of_another_store_is_refused() {
+    let (path, other_path) = (Path::new("session"), Path::new("other_session"));
+    let (store, other) = (path.store(), other_path.store());
+    let (mut session, mut others) = (store.join(0).unwrap(), other.join(0).unwrap());
+    let _ = session.meet(&mut others);
 }
 
 #[test]

@@ -369,14 +369,14 @@ module _ (shape : Shape) (p : Places) (before : List KeeperEvent) (asked : Optio
 
 -- ---- an event that begins a call or goes on with one
 -- the state with its step beside it, so that tables by step compute
-abbrev happens_at : Shape → Places → KeeperState → Keeping → KeeperEvent → KeeperState
+abbrev pub happens_at : Shape → Places → KeeperState → Keeping → KeeperEvent → KeeperState
 happens_at shape p s step BeginsTurn = begins s (is_in_hand step) (turn_asked s)
 happens_at shape p s step (BeginsCommit kind) = begins s (is_in_hand step) (commit_asked s kind)
 happens_at shape p s step (Replies reply granted) = keeping_next shape p s step reply granted
 happens_at shape p s step (Gets action) = keeping_given shape p s step action
 happens_at shape p s step (Calls done bytes) = keeping_called shape p s step done bytes
 
-happens_so : (shape : Shape) (p : Places) (s : KeeperState) (event : KeeperEvent) → happens_at shape p s s.step event ≡ keeper_happens shape p s event
+pub happens_so : (shape : Shape) (p : Places) (s : KeeperState) (event : KeeperEvent) → happens_at shape p s s.step event ≡ keeper_happens shape p s event
 unfolding keeper_happens
 happens_so shape p s BeginsTurn = refl
 happens_so shape p s (BeginsCommit kind) = refl
@@ -449,7 +449,7 @@ during before was event asked told s (Ended its) in_hand comes = absurd (let cla
 during before was event asked told s step in_hand comes = comes
 
 -- where no call is in hand, and none is begun, nothing happens
-idle : (shape : Shape) (p : Places) (s : KeeperState) (step : Keeping) (event : KeeperEvent) → is_calling step event ≡ false → (happens_at shape p s step event ≡ s) × (is_in_hand step ≡ false)
+pub idle : (shape : Shape) (p : Places) (s : KeeperState) (step : Keeping) (event : KeeperEvent) → is_calling step event ≡ false → (happens_at shape p s step event ≡ s) × (is_in_hand step ≡ false)
 unfolding keeping_next keeping_given keeping_called
 idle shape p s (Ended its) BeginsTurn idles = absurd (let clash : false ≡ true = sym idles in cc)
 idle shape p s (Ended its) (BeginsCommit kind) idles = absurd (let clash : false ≡ true = sym idles in cc)

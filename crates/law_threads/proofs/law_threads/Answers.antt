@@ -4,7 +4,8 @@ use Rattle.fkv_table.specs.Planes.{plane}
 use Rattle.law_threads.proofs.OfDurable.{durable_never_falls, recovers_durable, tells_durable}
 use Rattle.law_threads.proofs.OfImages.{recovers_within}
 use Rattle.law_threads.proofs.OfKinds.{tells_kinds}
-use Rattle.law_threads.proofs.OfLaws.{in_lives, shares, thread_law}
+use Rattle.law_threads.proofs.OfLaws.{goes_on, in_lives, shares, thread_law}
+use Rattle.law_threads.proofs.OfRefusals.{each_refusal}
 use Rattle.law_threads.proofs.OfTurns.{tells_finish}
 use Rattle.law_threads.proofs.law_threads.Goals as goal
 
@@ -28,6 +29,12 @@ returns-clause-finished g c = λ at. tells_finish at c.law_prefix.ensures
 
 pub returns-clause-kinds : goal.returns-clause-kinds
 returns-clause-kinds g c = λ at. tells_kinds at
+
+pub returns-clause-refused : goal.returns-clause-refused
+returns-clause-refused g c = λ at. each_refusal at c.law_of_last_calls.ensures
+
+pub returns-clause-goes_on : goal.returns-clause-goes_on
+returns-clause-goes_on g c = λ at. goes_on at
 
 pub returns-clause-views : goal.returns-clause-views
 returns-clause-views g c = λ at. shares at (in_order (plane at))

@@ -51,6 +51,7 @@ class CProgress(Structure):
 PROGRESS = CFUNCTYPE(None, c_void_p, POINTER(CProgress))
 COMMITTED = CFUNCTYPE(None, c_void_p, c_uint64, WORD, c_size_t)
 STOPPED = CFUNCTYPE(None, c_void_p, c_int32, use_errno=True)
+UNWARMED = CFUNCTYPE(None, c_void_p)
 PAIR = CFUNCTYPE(c_int32, c_void_p, c_uint64, c_uint64)
 
 
@@ -69,11 +70,11 @@ class CHow(Structure):
 
 class CKeeping(Structure):
     _fields_ = [("commit_ms", c_uint32), ("log_commits", c_uint32), ("turn_us", c_uint32), ("committed", COMMITTED), ("progress", PROGRESS),
-                ("user", c_void_p), ("stopped", STOPPED)]
+                ("user", c_void_p), ("stopped", STOPPED), ("unwarmed", UNWARMED), ("no_warmer", c_uint32)]
 
 
 STATS = ("commits", "commits_left", "commit_us", "commit_bytes", "in_hand_us", "late", "joined", "abandoned", "turns", "helped", "cold_reads",
-         "fetched", "file_bytes", "begin", "head", "flushed", "read_only", "tail", "overflow", "entries")
+         "fetched", "kept", "file_bytes", "begin", "head", "flushed", "read_only", "tail", "overflow", "entries")
 REASONS = 6
 
 
@@ -117,6 +118,7 @@ CALLS = {
     "fkv_add_many": [c_void_p, WORD, c_size_t, WORD, c_size_t, POINTER(CEachUpdate), c_size_t],
     "fkv_sleep": [c_void_p], "fkv_wake": [c_void_p, POINTER(CSeen)],
     "fkv_durable": [c_void_p, WORD], "fkv_serial": [c_void_p, WORD],
+    "fkv_meet": [c_void_p, c_void_p],
 }
 RESULTS = {"fkv_version": c_char_p, "fkv_formats": c_char_p, "fkv_name_of": c_char_p, "fkv_text_of": c_char_p, "fkv_shape_of": CShape,
            "fkv_last_commit": c_uint64, "fkv_abandon": None}

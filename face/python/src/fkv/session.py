@@ -247,6 +247,14 @@ class Session:
         """The serial up to which a crash from now on keeps the session's updates: its point in the last finished commit."""
         return self._told_by(lib.fkv_durable)
 
+    def meet(self, other: Session) -> None:
+        """Each of the two sessions has then seen what either had seen. So what the one was told as done is in force for the other's later calls."""
+        if other is self or other._store is not self._store:
+            raise ValueError("the other session has to be another one of the same store")
+        first, second = sorted((self, other), key=id)
+        with first._lock, second._lock:
+            check(lib.fkv_meet(self._open(), other._open()))
+
     def _told_by(self, call: Any) -> int:
         with self._lock:
             check(call(self._open(), self._value_at))

@@ -21,7 +21,7 @@ class Wish:
     """What a program wants of a new store. A 0 takes the default."""
 
     keys: int = 0  # keys that it will have; 65,536
-    sessions: int = 0  # threads that use it at once, at most 32; 8
+    sessions: int = 0  # threads that use it at once, at most 31; 8
     memory_bytes: int = 0  # memory that it may take once it is open, at most; some 250 bytes for each key
     updates_between_commits: int = 0  # keys that are updated between two commits; all of them
 

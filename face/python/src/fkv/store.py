@@ -57,6 +57,8 @@ class Keeping:
     committed: Optional[Callable[[Commit], None]] = None  # after each finished commit
     progress: Optional[Callable[[Progress], None]] = None  # as a commit begins, and after each of its calls of the file
     stopped: Optional[Callable[[Error], None]] = None  # once, as commits end for good
+    unwarmed: Optional[Callable[[], None]] = None  # once, if memory can't be kept warm in this store
+    warms: bool = True  # memory is kept warm, if it can be
 
 
 @dataclass(frozen=True)
@@ -75,6 +77,7 @@ class Stats:
     helped: int
     cold_reads: int
     fetched: int
+    kept: int
     file_bytes: int
     begin: int
     head: int
@@ -178,6 +181,7 @@ class Store:
         """Starts the keeper's thread. InUse if it runs already."""
         how = keeping or Keeping()
         committed, progress, stopped = (_hook(self._thread, it) for it in (how.committed, how.progress, how.stopped))
+        unwarmed = _hook(self._thread, how.unwarmed and (lambda _: how.unwarmed()))
 
         def tell_commit(_: Any, number: int, points: Any, sessions: int) -> None:
             committed(Commit(number, tuple(points[:sessions])))
@@ -187,7 +191,8 @@ class Store:
 
         its = native.CKeeping(
             how.commit_ms, how.log_commits, how.turn_us, native.COMMITTED(tell_commit) if committed else native.COMMITTED(),
-            _progress(progress), None, native.STOPPED(tell_end) if stopped else native.STOPPED())
+            _progress(progress), None, native.STOPPED(tell_end) if stopped else native.STOPPED(),
+            native.UNWARMED(unwarmed) if unwarmed else native.UNWARMED(), int(not how.warms))
         with self._held() as at:
             result = lib.fkv_start(at, its)
             if result == -Fault.HANDLE_TAKEN:

@@ -1,64 +1,36 @@
-use Rattle.std.proofs.Common.{ℕ, ◌+◌, ◌-◌, refl, ap, ◌∙◌, arith, add-zero}
-use Rattle.fkv_plane.specs.declared.asks.Ask.TheVariants.{Load}
-use Rattle.fkv_straight.proofs.Goings.{goes_at, leads_on, place_asks}
-use Rattle.fkv_straight.proofs.Seeks.{slot_asks, slot_comes, link_asks, link_comes, link_goes_on}
+use Rattle.std.proofs.Common.{◌≡◌, ℕ, ◌-◌, sym, subst, arith}
+use Rattle.fkv_straight.specs.Met.{HasSlot, IsAtLink}
+use Rattle.fkv_straight.proofs.Goings.{goes_at}
 use Rattle.fkv_straight.proofs.searching.seek.Goals as goal
+
+none_passed : (n : ℕ) → n - 0 ≡ n
+none_passed n = omega arith
 
 pub seek_in-sought-requires-clause-at : goal.seek_in-sought-requires-clause-at
 seek_in-sought-requires-clause-at g c =
     let its = c.requires.at.0 in
-    (its, goes_at its (g.L.Line.seat c.args.line.now) c.args.op c.args.going.now (g.L.Line.seat c.buckets.line) c.requires.at.1 c.buckets.invariant.seat, c.buckets.invariant.stands its c.requires.at.1 c.requires.at.2)
+    let links = c.args.going.now.places.overflow in
+    (its, c.requires.at.1, subst (λ (n : ℕ). HasSlot its c.args.first n 0 c.args.found (g.L.Line.stands c.args.line.now)) (sym (none_passed links)) c.requires.at.2)
 
-pub load-link-requires-clause-asked : goal.load-link-requires-clause-asked
-load-link-requires-clause-asked g c =
-    let k = g.L.Line.seat c.args.line.now in
+pub seek_on-requires-clause-at : goal.seek_on-requires-clause-at
+seek_on-requires-clause-at g c =
     let its = c.requires.at.0 in
     let goes = c.requires.at.1 in
-    let now = g.L.Line.stands c.seek_in-sought.new.line in
-    let links = c.args.going.now.places.overflow - c.buckets.links in
-    let at = c.seek_in-sought.ensures.passed c.in-Passed.is its (goes_at its k c.args.op c.args.going.now (g.L.Line.seat c.buckets.line) goes c.buckets.invariant.seat) (c.buckets.invariant.stands its goes c.requires.at.2) in
-    place_asks its k c.args.op c.args.going.now (c.buckets.base + 7) (c.buckets.base + 7) (g.L.Line.seat c.seek_in-sought.new.line) now (λ (n : ℕ). Load n) goes (c.seek_in-sought.ensures.seat ∙ c.buckets.invariant.seat) refl (link_asks its c.buckets.base links now at)
+    let links = c.args.going.now.places.overflow in
+    let has = subst (λ (n : ℕ). HasSlot its c.args.first n 0 c.args.found (g.L.Line.stands c.args.line.now)) (sym (none_passed links)) c.requires.at.2 in (
+      its,
+      goes_at its (g.L.Line.seat c.args.line.now) c.args.op c.args.going.now (g.L.Line.seat c.seek_in-sought.new.line) goes c.seek_in-sought.ensures.seat,
+      subst (λ (n : ℕ). IsAtLink its c.args.first n (g.L.Line.stands c.seek_in-sought.new.line)) (none_passed links) (c.seek_in-sought.ensures.passed c.in-Passed.is its goes has),
+    )
 
-pub load-word-requires-clause-asked : goal.load-word-requires-clause-asked
-load-word-requires-clause-asked g c =
-    let k = g.L.Line.seat c.args.line.now in
-    let its = c.requires.at.0 in
-    let goes = c.requires.at.1 in
-    let now = g.L.Line.stands c.seek_in-sought.new.line in
-    let then = g.L.Line.stands c.load-link.new.self in
-    let links = c.args.going.now.places.overflow - c.buckets.links in
-    let next = c.overflow-base.result in
-    let here = c.seek_in-sought.ensures.seat ∙ c.buckets.invariant.seat in
-    let at = c.seek_in-sought.ensures.passed c.in-Passed.is its (goes_at its k c.args.op c.args.going.now (g.L.Line.seat c.buckets.line) goes c.buckets.invariant.seat) (c.buckets.invariant.stands its goes c.requires.at.2) in
-    let has = link_comes its c.buckets.base links c.load-link.result now then at (leads_on its k c.args.op c.args.going.now (g.L.Line.seat c.seek_in-sought.new.line) now then c.load-link.result goes here c.load-link.ensures.next) in
-    let on = link_goes_on its k c.args.op c.args.going.now c.buckets.base c.buckets.links c.load-link.result c.addr_of-number.result next then goes has c.addr_of-number.ensures c.if-number-eq0.false c.if-number-going.false c.if-links-going.false c.overflow-base.ensures in
-    place_asks its k c.args.op c.args.going.now next next (g.L.Line.seat c.load-link.new.self) then (λ (n : ℕ). Load n) goes (c.load-link.ensures.seat ∙ here) refl
-    (slot_asks its next (c.args.going.now.places.overflow - (c.buckets.links + 1)) 0 then on ∙ ap (λ (n : ℕ). Load n) (add-zero next))
+pub returns-in-At-clause-found : goal.returns-in-At-clause-found
+returns-in-At-clause-found g c = λ its goes slot.
+    let has = subst (λ (n : ℕ). HasSlot its c.args.first n 0 c.args.found (g.L.Line.stands c.args.line.now)) (sym (none_passed c.args.going.now.places.overflow)) slot in
+    c.seek_in-sought.ensures.found c.in-At.slot c.in-At.is its goes has
 
-pub buckets-preserved : goal.buckets-preserved
-buckets-preserved g c =
-    let k = g.L.Line.seat c.args.line.now in
-    let now = g.L.Line.stands c.seek_in-sought.new.line in
-    let then = g.L.Line.stands c.load-link.new.self in
-    let last = g.L.Line.stands c.load-word.new.self in
-    let links = c.args.going.now.places.overflow - c.buckets.links in
-    let next = c.overflow-base.result in
-    let here = c.seek_in-sought.ensures.seat ∙ c.buckets.invariant.seat in
-    record {
-      few = (let h = c.if-links-ge-LINKS.false in omega (arith, h));
-      within = (let h = c.if-links-going.false in omega (arith, h));
-      fits = (let e = c.overflow-base.ensures in let p = c.args.going.now.places.few_sessions in let f = c.args.going.now.places.few_buckets in let o = c.args.going.now.places.few_overflow in let n = c.if-number-going.false in omega (arith, e, p, f, o, n));
-      seat = c.load-word.ensures.seat ∙ (c.load-link.ensures.seat ∙ here);
-      led = λ start call led. c.load-word.ensures.led start call (c.load-link.ensures.led start call (c.seek_in-sought.ensures.led start call (c.buckets.invariant.led start call led)));
-      kept = (let e = c.load-word.ensures.kept in let f = c.load-link.ensures.kept in let h = c.seek_in-sought.ensures.kept in let i = c.buckets.invariant.kept in omega (arith, e, f, h, i));
-      stands = λ its goes has.
-          let at = c.seek_in-sought.ensures.passed c.in-Passed.is its (goes_at its k c.args.op c.args.going.now (g.L.Line.seat c.buckets.line) goes c.buckets.invariant.seat) (c.buckets.invariant.stands its goes has) in
-          let come = link_comes its c.buckets.base links c.load-link.result now then at (leads_on its k c.args.op c.args.going.now (g.L.Line.seat c.seek_in-sought.new.line) now then c.load-link.result goes here c.load-link.ensures.next) in
-          let on = link_goes_on its k c.args.op c.args.going.now c.buckets.base c.buckets.links c.load-link.result c.addr_of-number.result next then goes come c.addr_of-number.ensures c.if-number-eq0.false c.if-number-going.false c.if-links-going.false c.overflow-base.ensures in
-          slot_comes its next (c.args.going.now.places.overflow - (c.buckets.links + 1)) 0 c.load-word.result then last on
-          (leads_on its k c.args.op c.args.going.now (g.L.Line.seat c.load-link.new.self) then last c.load-word.result goes (c.load-link.ensures.seat ∙ here) c.load-word.ensures.next);
-    }
-
--- the search ends before so many links
-pub returns-clause-kept : goal.returns-clause-kept
-returns-clause-kept g c = let i = c.buckets.invariant.kept in let f = c.buckets.invariant.few in omega (arith, i, f)
+pub returns-in-Passed-clause-found : goal.returns-in-Passed-clause-found
+returns-in-Passed-clause-found g c = λ its goes slot.
+    let links = c.args.going.now.places.overflow in
+    let has = subst (λ (n : ℕ). HasSlot its c.args.first n 0 c.args.found (g.L.Line.stands c.args.line.now)) (sym (none_passed links)) slot in
+    c.seek_on.ensures.found its (goes_at its (g.L.Line.seat c.args.line.now) c.args.op c.args.going.now (g.L.Line.seat c.seek_in-sought.new.line) goes c.seek_in-sought.ensures.seat)
+    (subst (λ (n : ℕ). IsAtLink its c.args.first n (g.L.Line.stands c.seek_in-sought.new.line)) (none_passed links) (c.seek_in-sought.ensures.passed c.in-Passed.is its goes has))

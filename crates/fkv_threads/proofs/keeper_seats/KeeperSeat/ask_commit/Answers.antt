@@ -3,7 +3,8 @@ use Rattle.std.proofs.Common.{◌≡◌, false, refl, sym, ◌∙◌}
 use Rattle.std.proofs.lemmas.Bool.{false≢true}
 use Rattle.fkv_threads.specs.Models.{opening}
 use Rattle.fkv_threads.proofs.Taken.{after_none}
-use Rattle.fkv_threads.proofs.Watching.{at_rest, at_there}
+use Rattle.law_threads.specs.Below.fkv_table.Planes.{opening_of}
+use Rattle.fkv_threads.proofs.Watching.{at_rest, at_there, commit_refused}
 use Rattle.fkv_threads.proofs.keeper_seats.KeeperSeat.ask_commit.Goals as goal
 
 pub returns : goal.returns
@@ -28,6 +29,7 @@ returns g c =
           kept = started.kept;
           leaves = rw (← c.deref.ensures) started.device;
           told = started.told;
+          refused = rw (← c.deref.ensures) (commit_refused d _ _ _ _ _ _ _ _ _ _ _ _ (c.law_threads.ensures.refused (opening_of d.seen)) idle here started.kept started.ready started.told);
         };
       });
     }

@@ -2,12 +2,14 @@
 use Rattle.std.proofs.Common.{refl, sym, ◌∙◌}
 use Rattle.std.proofs.lemmas.Bool.{false≢true}
 use Rattle.law_threads.specs.Below.fkv_table.Planes.{opening_of}
-use Rattle.fkv_threads.proofs.Watching.{finished_over}
+use Rattle.fkv_threads.proofs.Watching.{at_there, finished_over, refused_over, turn_from}
 use Rattle.fkv_threads.proofs.keeper_seats.KeeperSeat.drive.Goals as goal
 
 pub returns : goal.returns
 returns g c =
     let d = g.D.Device in let law = c.law_threads.ensures in
+    let here = at_there d _ _ _ _ _ _ _ _ _ (λ i. (sym c.deref-2.ensures i).table.shared.key) (λ i. (sym c.deref-2.ensures i).table.shared.table_id) c.self.invariant in
+    let in_turn = turn_from d _ _ _ _ _ _ _ c.start_turn.new.pass.seat.me.0.seen c.drive-next.new.pass.seat.me.0.seen c.if-self.false here c.start_turn.ensures.kept c.drive-next.ensures.went in
     record {
       driven = rw (← c.self.view_is) (record {
         waits = λ turns. absurd (false≢true (sym c.if-self.false ∙ turns));
@@ -25,6 +27,7 @@ returns g c =
             asked = c.drive-next.ensures.told;
             in_turn = c.is_due-self-inside.ensures;
             finished = rw (← c.deref-2.ensures) (finished_over d _ _ _ c.drive-next.result _ _ (law.finished (opening_of d.seen)) c.drive-next.ensures.at_work c.drive-next.ensures.told);
+            refused = rw (← c.deref-2.ensures) (refused_over d _ _ _ _ c.drive-next.result _ _ (law.refused (opening_of d.seen)) in_turn c.drive-next.ensures.at_work c.drive-next.ensures.told);
           };
         };
       });

@@ -1,12 +1,14 @@
 -- The call of the device was made, and the turn has gone on up to the next one or to its end.
-use Rattle.std.proofs.Common.{arith, refl}
+use Rattle.std.proofs.Common.{arith, ap, refl, sym, ◌∙◌}
 use Rattle.law_threads.specs.Below.fkv_table.Planes.{opening_of}
-use Rattle.fkv_threads.proofs.Watching.{finished_over}
+use Rattle.fkv_threads.proofs.Watching.{at_there, finished_over, refused_over, turn_behind}
 use Rattle.fkv_threads.proofs.keeper_seats.KeeperSeat.step.Goals as goal
 
 pub returns : goal.returns
 returns g c =
     let d = g.D.Device in let law = c.law_threads.ensures in
+    let here = at_there d _ _ _ _ _ _ _ _ _ (λ i. (sym c.deref-2.ensures i).table.shared.key) (λ i. (sym c.deref-2.ensures i).table.shared.table_id) c.self.invariant in
+    let in_turn = turn_behind d _ _ _ _ _ _ _ c.device_step.new.pass.seat.me.0.seen c.drive-next.new.pass.seat.me.0.seen (ap (λ w. w.in_turn) c.self.view_is ∙ c.requires.due) here c.device_step.ensures.went c.drive-next.ensures.went in
     record {
       stepped = rw (← c.self.view_is) (record {
         same = record { key = refl; table = refl };
@@ -22,6 +24,7 @@ returns g c =
           asked = c.drive-next.ensures.told;
           in_turn = c.is_due-self-inside.ensures;
           finished = rw (← c.deref-2.ensures) (finished_over d _ _ _ c.drive-next.result _ _ (law.finished (opening_of d.seen)) c.drive-next.ensures.at_work c.drive-next.ensures.told);
+          refused = rw (← c.deref-2.ensures) (refused_over d _ _ _ _ c.drive-next.result _ _ (law.refused (opening_of d.seen)) in_turn c.drive-next.ensures.at_work c.drive-next.ensures.told);
         };
       });
     }

@@ -1,0 +1,58 @@
+/* The library's own session. In each living store of two sessions or more it is the last one, and users have the others. */
+#define _POSIX_C_SOURCE 200809L
+#include "fkv_file.h"
+
+#include <string.h>
+
+enum {
+    /* Bytes of a format's name; and where a store's file says how many sessions it has. */
+    FORMAT_SIZE = 8,
+    SESSIONS_PLACE = 40,
+    /* Both slots that tell of a commit: where they say how many sessions have points, and where these begin. */
+    SLOT_PLACE = 512,
+    SLOT_SIZE = 512,
+    COUNT_PLACE = 48,
+    POINTS_PLACE = 56,
+    WORD = 8
+};
+
+/* No point is so large. */
+#define POINT_LIMIT (UINT64_C(1) << 48)
+
+/* A number of the file: its lowest byte comes first. */
+static uint64_t word_at(const uint8_t *at) {
+    uint64_t word = 0;
+    for (int i = WORD - 1; i >= 0; i--) word = word << 8 | at[i];
+    return word;
+}
+
+bool fkv_is_living(const uint8_t *bytes) { return memcmp(bytes, fkv_formats(), FORMAT_SIZE) != 0; }
+
+int32_t fkv_with_own(const fkv_shape *asked, fkv_shape *shape) {
+    if (asked->sessions < 1 || asked->sessions > FKV_MOST_JOINED) return -FKV_BAD_SHAPE;
+    *shape = *asked;
+    shape->sessions++;
+    return 0;
+}
+
+void fkv_take_own(fkv_file *file, bool is_living) {
+    file->has_own = is_living && file->shape.sessions >= 2;
+    if (!file->has_own) return;
+    file->shape.sessions--;
+    fkv_hide_own(file, file->points);
+}
+
+void fkv_hide_own(const fkv_file *file, uint64_t *points) {
+    if (file->has_own) points[file->shape.sessions] = 0;
+}
+
+void fkv_forget_own(struct bytes bytes) {
+    if (bytes.size < FKV_IMAGE_SIZE || !fkv_is_living(bytes.at)) return;
+    uint64_t sessions = word_at(bytes.at + SESSIONS_PLACE);
+    if (sessions < 2 || sessions > FKV_MOST_SESSIONS) return;
+    for (int i = 0; i < 2; i++) {
+        uint8_t *slot = bytes.at + SLOT_PLACE + i * SLOT_SIZE, *point = slot + POINTS_PLACE + (sessions - 1) * WORD;
+        /* (a slot that is damaged stays so) */
+        if (word_at(slot + COUNT_PLACE) == sessions && word_at(point) < POINT_LIMIT) memset(point, 0, WORD);
+    }
+}
