@@ -469,7 +469,8 @@ module _ (F : Version → Addr → Type 0) (E : Span → Type 0) where
 
   commit_ends : (s : KeeperState) (kind : CommitKind) → (s.is_broken ≡ false → Held s) → KeeperEnds (commit_asked s kind)
   commit_ends s kind hand =
-      either_ends s.is_broken (ended s (CommitRefused fault.Broken)) (record s { start = start_begun s.start (asked_for s kind); step = Starts }) (λ yes. hand) (λ no. (hand no, tt))
+      either_ends s.is_broken (ended s (CommitRefused fault.Broken)) (if s.rests then ended s (CommitRefused fault.CommitRunning) else record s { start = start_begun s.start (asked_for s kind); step = Starts }) (λ yes. hand)
+      (λ no. either_ends s.rests (ended s (CommitRefused fault.CommitRunning)) (record s { start = start_begun s.start (asked_for s kind); step = Starts }) (λ rests. hand) (λ awake. (hand no, tt)))
 
   idle_hand : (s : KeeperState) (step : Keeping) → is_in_hand step ≡ false → KeepingEnds s step → s.is_broken ≡ false → Held s
   idle_hand s (Ended told) idle its = its
