@@ -149,9 +149,10 @@ module _ (shape : Shape) (p : Places) (opening : KeeperState) (first : List Begu
       let begun : List BegunCommit = commits_begun shape p opening first before in
       let awake : s.rests ≡ false = awake_at shape p opening before Finishes opened e (λ may. may) in
       let still : a.rests ≡ false = stays_awake shape p s event awake (λ writes. apart (sym e ∙ writes)) in
-      let after : StandsAt (begun_by s s.step event a.step begun) a a.step = subst (λ (x : Keeping). StandsAt (begun_by s s.step event a.step begun) a x) (come_awake a a.step still refl) (run_stands shape p opening first (event ∷ before) opened all) in
-      (subst (λ (x : Keeping). StandsAt begun s x) (come_awake s Finishes awake e) (run_stands shape p opening first before opened all),
-      subst (λ (x : Keeping). StandsAt (begun_by s x event a.step begun) a a.step) e after)
+      let after : StandsAt (begun_by s s.step event a.step begun) a a.step = subst (λ (x : Keeping). StandsAt (begun_by s s.step event a.step begun) a x) (come_awake a a.step still refl) (run_stands shape p opening first (event ∷ before) opened all) in (
+        subst (λ (x : Keeping). StandsAt begun s x) (come_awake s Finishes awake e) (run_stands shape p opening first before opened all),
+        subst (λ (x : Keeping). StandsAt (begun_by s x event a.step begun) a a.step) e after,
+      )
     where
       apart : Finishes ≡ Writes → ⊥
       apart both = cc
