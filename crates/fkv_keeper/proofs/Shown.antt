@@ -4,6 +4,7 @@ pub use Rattle.fkv_keeper.proofs.GoesOn.{due_asks, kept_asks}
 pub use Rattle.fkv_keeper.proofs.HandBusy.{run_ended}
 pub use Rattle.fkv_keeper.proofs.KeeperBegun.{begin_bounded, turn_bounded}
 pub use Rattle.fkv_keeper.proofs.KeeperDevice.{keeper_asked_calls}
+pub use Rattle.fkv_keeper.proofs.KeeperDue.{makes_due}
 pub use Rattle.fkv_keeper.proofs.KeeperFewer.{keeper_fewer, keeper_given_fewer, keeper_called_fewer, ended_none}
 pub use Rattle.fkv_keeper.proofs.KeeperLeft.{keeper_left}
 pub use Rattle.fkv_keeper.proofs.NewKeepers.{new_is_opened}

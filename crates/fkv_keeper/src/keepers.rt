@@ -359,7 +359,7 @@ impl Keeper {
         ensures none { OnErr result (keeper_asks_left self.old.shape self.old.places self.new.state ≡ 0) }
         ensures cause { HasCause (D.failed d.old) (D.failed d.new) result }
         ensures counted { MakesCalls (keeper_made self.old.places self.old.state) (D.refuses d.old) (D.refuses d.new) result }
-        ensures kind { D.expects d.new ≡ kinds_by (keeper_due self.old) (D.expects d.old) }
+        ensures kind { D.expects d.new ≡ kinds_by (keeper_due self.old) (is_ok result) (D.expects d.old) }
         ensures asked { keeper_made self.old.places self.old.state ≡ keeper_calls_asked (keeper_ask self.old.shape self.old.places self.old.state) }
         ensures honest { D.honest d.old ↔ D.honest d.new }
         ensures read { D.honest d.old → self.new ≡ record self.old { state = keeper_called self.old.shape self.old.places self.old.state (is_ok result) (keeper_read self.old (D.seen d.old)) } }
@@ -381,7 +381,7 @@ impl Keeper {
         ensures refused { OnErr result (self.new.state.step ≡ Ended (TurnRefused Failed)) }
         ensures cause { HasCause (D.failed d.old) (D.failed d.new) result }
         ensures counted { MakesCalls (maintain_made self.old.places self.old.state.maintain) (D.refuses d.old) (D.refuses d.new) result }
-        ensures kind { D.expects d.new ≡ kinds_by (maintain_asked self.old.shape self.old.state.maintain) (D.expects d.old) }
+        ensures kind { D.expects d.new ≡ kinds_by (maintain_asked self.old.shape self.old.state.maintain) (is_ok result) (D.expects d.old) }
         ensures honest { D.honest d.old ↔ D.honest d.new }
         ensures read { D.honest d.old → self.new ≡ record self.old { state = turn_called self.old.shape self.old.places self.old.state (is_ok result) (keeper_read self.old (D.seen d.old)) } }
         ensures calls { D.honest d.old → Adds (maintain_calls self.old.shape self.old.state.maintain (is_ok result)) (D.seen d.old) (D.seen d.new) (D.may_leave d.old) (D.may_leave d.new) }
@@ -403,7 +403,7 @@ impl Keeper {
         ensures refused { OnErr result (self.new.state.step ≡ Ended (TurnRefused Failed)) }
         ensures cause { HasCause (D.failed d.old) (D.failed d.new) result }
         ensures counted { MakesCalls (calls_next (commit_answer self.old.state.writes)) (D.refuses d.old) (D.refuses d.new) result }
-        ensures kind { D.expects d.new ≡ kinds_by (first_asked (with_call (commit_call self.old.state.writes true) [])) (D.expects d.old) }
+        ensures kind { D.expects d.new ≡ kinds_by (first_asked (with_call (commit_call self.old.state.writes true) [])) (is_ok result) (D.expects d.old) }
         ensures honest { D.honest d.old ↔ D.honest d.new }
         ensures calls { D.honest d.old → Adds (with_call (commit_call self.old.state.writes (is_ok result)) []) (D.seen d.old) (D.seen d.new) (D.may_leave d.old) (D.may_leave d.new) }
         ensures time { D.honest d.old → Elapses (D.moment d.old) (D.moment d.new) (D.left_since d.old) (D.left_since d.new) (D.may_leave d.new) }

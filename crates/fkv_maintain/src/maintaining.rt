@@ -229,7 +229,7 @@ impl Maintain {
         ensures none { OnErr result (maintain_asks_left self.old.shape self.new.state ≡ 0) }
         ensures cause { HasCause (D.failed d.old) (D.failed d.new) result }
         ensures counted { MakesCalls (maintain_made self.old.places self.old.state) (D.refuses d.old) (D.refuses d.new) result }
-        ensures kind { D.expects d.new ≡ kinds_by (maintain_asked self.old.shape self.old.state) (D.expects d.old) }
+        ensures kind { D.expects d.new ≡ kinds_by (maintain_asked self.old.shape self.old.state) (is_ok result) (D.expects d.old) }
         ensures asked { maintain_made self.old.places self.old.state ≡ maintain_calls_asked (maintain_ask self.old.shape self.old.places self.old.state) }
         ensures honest { D.honest d.old ↔ D.honest d.new }
         ensures read { D.honest d.old → self.new ≡ record self.old { state = maintain_called self.old.shape self.old.places self.old.state (is_ok result) (bytes_at (D.seen d.old) (mail_place self.old.shape self.old.state.serving) 24) } }

@@ -1,12 +1,14 @@
 -- The keeper ends a turn with `Device` at a call of the device that has failed, and nowhere else.
-use Rattle.std.proofs.Common.{◌≡◌, ℕ, ◌+◌, refl, sym, ap, subst, ◌∙◌, Bool, true, false, arith}
+use Rattle.std.proofs.Common.{◌≡◌, ℕ, ◌+◌, refl, sym, ap, subst, ◌∙◌, Bool, true, false, not, arith}
 use Rattle.std.specs.Prelude.{List, Option, Some, None, Result, Ok, Err, IsErr, ◌||◌, if◌then◌else◌}
 use Rattle.atomic_table.specs.Table.{Me}
 use Rattle.fkv_base.specs.declared.faults.Fault.{Fault}
 use Rattle.fkv_base.specs.declared.faults.Fault.TheVariants as fault
 use Rattle.fkv_base.specs.declared.phases.Phase.TheVariants as phase
 use Rattle.fkv_base.specs.declared.shapes.Shape.{Shape}
+use Rattle.fkv_disk.specs.Asks.{AskedCall, kinds_by}
 use Rattle.fkv_disk.specs.Device.{HasCause, MakesCalls}
+use Rattle.fkv_disk.specs.Kinds.{Foretold, Kind}
 use Rattle.fkv_disk.proofs.Shown.{more_calls, no_call}
 use Rattle.law_world.specs.Below.fkv_words.PhaseSaid.{PhaseSaid}
 use Rattle.law_world.specs.Below.fkv_words.PhaseSaid.TheVariants.{Says}
@@ -432,3 +434,14 @@ counts_more n m false failed mid failed' refuses between refuses' early late = r
   cause = record { later = omega (arith, early.cause.later, late.cause.later); rose = tt; named = tt };
   counted = more_calls n m refuses between refuses' (calls_told false) (calls_told false) early.counted (λ err. err) late.counted;
 }
+
+-- ---- which call the device has met, and whether it came through
+pub met_done : (k k' : KeeperModel) (due : Option AskedCall) (expects expects' : List Kind → Foretold) → keeper_ask k.shape k.places k.state ≡ Done Device
+    → (bytes : List ℕ) × (k' ≡ record k { state = keeper_called k.shape k.places k.state true bytes }) → expects' ≡ kinds_by due true expects → expects' ≡ kinds_by due (not (ended_by_device k'.state.step)) expects
+met_done k k' due expects expects' asks went kind =
+    let none : ended_by_device k'.state.step ≡ false = ap (λ (x : KeeperModel). ended_by_device x.state.step) went.1 ∙ done_none k.shape k.places k.state went.0 asks in
+    subst (λ (by : Bool). expects' ≡ kinds_by due (not by) expects) (sym none) kind
+
+pub met_failed : (k' : KeeperModel) (due : Option AskedCall) (expects expects' : List Kind → Foretold) → k'.state.step ≡ Ended (TurnRefused fault.Device)
+    → expects' ≡ kinds_by due false expects → expects' ≡ kinds_by due (not (ended_by_device k'.state.step)) expects
+met_failed k' due expects expects' ends kind = subst (λ (by : Bool). expects' ≡ kinds_by due (not by) expects) (sym (ap ended_by_device ends)) kind

@@ -1,5 +1,5 @@
 //! The keeper's calls at the table.
-ghost use Rattle.std.specs.Prelude.{◌≡◌, ◌<◌, ◌≤◌, ◌↔◌, ℕ, Bool, Some, None, [], true, false, is_some, is_ok};
+ghost use Rattle.std.specs.Prelude.{◌≡◌, ◌<◌, ◌≤◌, ◌↔◌, ℕ, Bool, Some, None, [], true, false, not, is_some, is_ok};
 ghost use Rattle.fkv_table.specs.Said as said;
 
 use crate::performing::perform;
@@ -331,7 +331,7 @@ pub(crate) fn call_device<D: Device>(
     ensures after { said.IsAfterSeen (said.opening_of D.seen) words.now.key seat.new.me.0.seen (D.seen d.new) (D.may_leave d.new) }
     ensures moments { said.AtEachMoment D.moment D.left_since d.old d.new (said.IsLeftWithin (said.opening_of D.seen) words.now.key seat.old.me.0.seen
         seat.new.me.0.seen) }
-    ensures due { D.expects d.new ≡ said.kinds_by (said.keeper_due machine.old) (D.expects d.old) }
+    ensures due { D.expects d.new ≡ said.kinds_by (said.keeper_due machine.old) (not (said.ended_by_device machine.new.state.step)) (D.expects d.old) }
     ensures counted { said.IsCounted 1 (said.ended_by_device machine.new.state.step) (D.failed d.old) (D.failed d.new) (D.refuses d.old) (D.refuses d.new) }
     ensures fewer { said.keeper_asks_left machine.new.shape machine.new.places machine.new.state < said.keeper_asks_left machine.old.shape machine.old.places
         machine.old.state }
