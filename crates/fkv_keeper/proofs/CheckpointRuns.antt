@@ -383,7 +383,7 @@ asked_sound p replies told s kind its sound = record { copied = sound.copied; po
 
 commit_sound : (p : Places) (replies : List ℕ) (told : LastBegin) (s : KeeperState) (kind : CommitKind) (its : KeeperTold) (broken rests : Bool) → IsSound p replies told s (Ended its)
     → let a = if broken then ended s (CommitRefused fault.Broken) else (if rests then ended s (CommitRefused fault.CommitRunning) else record s { start = start_begun s.start (asked_for s kind); step = Starts }) in
-      IsSound p replies (record told { asked = Some kind }) a a.step
+    IsSound p replies (record told { asked = Some kind }) a a.step
 commit_sound p replies told s kind its true rests sound = over p replies (record told { asked = Some kind }) s (Ended its) _ tt (asked_sound p replies told s kind its sound)
 commit_sound p replies told s kind its false true sound = over p replies (record told { asked = Some kind }) s (Ended its) _ tt (asked_sound p replies told s kind its sound)
 commit_sound p replies told s kind its false false sound = keeps p replies (record told { asked = Some kind }) s _ (Ended its) Starts refl refl refl (λ works. works) (λ so. tt) (asked_sound p replies told s kind its sound) refl
