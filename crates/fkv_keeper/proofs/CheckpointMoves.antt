@@ -366,7 +366,8 @@ turn_move p s its e =
 commit_move : (p : Places) (s : KeeperState) (kind : CommitKind) (its : KeeperTold) → s.step ≡ Ended its → IsMoved p s (BeginsCommit kind) (commit_asked s kind)
 commit_move p s kind its e =
     either_move s.is_broken p s (BeginsCommit kind) _ _ (ends p s (Ended its) (BeginsCommit kind) s _ e (nothing (Ended its) s))
-    (quiet p s (Ended its) (BeginsCommit kind) _ e (record { commit = refl; copy = refl; last = refl; lost = refl; used = refl; points = λ other. refl }) tt (λ copies. cc) (λ loads phase. loads))
+    (either_move s.rests p s (BeginsCommit kind) _ _ (ends p s (Ended its) (BeginsCommit kind) s _ e (nothing (Ended its) s))
+    (quiet p s (Ended its) (BeginsCommit kind) _ e (record { commit = refl; copy = refl; last = refl; lost = refl; used = refl; points = λ other. refl }) tt (λ copies. cc) (λ loads phase. loads)))
 
 happens_move : (shape : Shape) (p : Places) (s : KeeperState) (step : Keeping) (event : KeeperEvent) → s.step ≡ step → IsMoved p s event (happens_at shape p s step event)
 happens_move shape p s (Ended its) BeginsTurn e = turn_move p s its e

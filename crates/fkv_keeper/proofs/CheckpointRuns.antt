@@ -381,14 +381,16 @@ turn_sound p replies told s its false sound = keeps p replies told s _ (Ended it
 asked_sound : (p : Places) (replies : List ℕ) (told : LastBegin) (s : KeeperState) (kind : CommitKind) (its : KeeperTold) → IsSound p replies told s (Ended its) → IsSound p replies (record told { asked = Some kind }) s (Ended its)
 asked_sound p replies told s kind its sound = record { copied = sound.copied; points = sound.points; begun = sound.begun; rests = sound.rests; here = tt }
 
-commit_sound : (p : Places) (replies : List ℕ) (told : LastBegin) (s : KeeperState) (kind : CommitKind) (its : KeeperTold) (broken : Bool) → IsSound p replies told s (Ended its)
-    → let a = if broken then ended s (CommitRefused fault.Broken) else record s { start = start_begun s.start (asked_for s kind); step = Starts } in IsSound p replies (record told { asked = Some kind }) a a.step
-commit_sound p replies told s kind its true sound = over p replies (record told { asked = Some kind }) s (Ended its) _ tt (asked_sound p replies told s kind its sound)
-commit_sound p replies told s kind its false sound = keeps p replies (record told { asked = Some kind }) s _ (Ended its) Starts refl refl refl (λ works. works) (λ so. tt) (asked_sound p replies told s kind its sound) refl
+commit_sound : (p : Places) (replies : List ℕ) (told : LastBegin) (s : KeeperState) (kind : CommitKind) (its : KeeperTold) (broken rests : Bool) → IsSound p replies told s (Ended its)
+    → let a = if broken then ended s (CommitRefused fault.Broken) else (if rests then ended s (CommitRefused fault.CommitRunning) else record s { start = start_begun s.start (asked_for s kind); step = Starts }) in
+      IsSound p replies (record told { asked = Some kind }) a a.step
+commit_sound p replies told s kind its true rests sound = over p replies (record told { asked = Some kind }) s (Ended its) _ tt (asked_sound p replies told s kind its sound)
+commit_sound p replies told s kind its false true sound = over p replies (record told { asked = Some kind }) s (Ended its) _ tt (asked_sound p replies told s kind its sound)
+commit_sound p replies told s kind its false false sound = keeps p replies (record told { asked = Some kind }) s _ (Ended its) Starts refl refl refl (λ works. works) (λ so. tt) (asked_sound p replies told s kind its sound) refl
 
 commit_begins : (p : Places) (replies : List ℕ) (told : LastBegin) (s : KeeperState) (step : Keeping) (kind : CommitKind) → s.step ≡ step → IsSound p replies told s step
     → let a = begins s (is_in_hand step) (commit_asked s kind) in IsSound p (replies_after (is_copy_resting s.copy) step (BeginsCommit kind) a.step replies) (last_begin_after step (BeginsCommit kind) a told) a a.step
-commit_begins p replies told s (Ended its) kind e sound = commit_sound p replies told s kind its s.is_broken sound
+commit_begins p replies told s (Ended its) kind e sound = commit_sound p replies told s kind its s.is_broken s.rests sound
 commit_begins p replies told s LoadsPhase kind e sound = at_step p replies told s LoadsPhase e sound
 commit_begins p replies told s step kind e sound = at_step p replies told s step e sound
 

@@ -257,7 +257,7 @@ begins_in s begun step e fits its_begun = keeping_at step s e fits
 
 happens_in : (shape : Shape) (p : Places) (s : KeeperState) (step : Keeping) (event : KeeperEvent) → s.step ≡ step → IsKeepingIn step s → IsKeeperIn (happens_at shape p s step event)
 happens_in shape p s step BeginsTurn e fits = begins_in s (turn_asked s) step e fits (either_keeper s.is_broken _ _ tt (begun_parts_in s.rests s.maintain))
-happens_in shape p s step (BeginsCommit kind) e fits = begins_in s (commit_asked s kind) step e fits (either_keeper s.is_broken _ _ tt tt)
+happens_in shape p s step (BeginsCommit kind) e fits = begins_in s (commit_asked s kind) step e fits (either_keeper s.is_broken _ _ tt (either_keeper s.rests _ _ tt tt))
 happens_in shape p s step (Replies reply granted) e fits = reply_in shape p s step reply granted e fits
 happens_in shape p s step (Gets action) e fits = keeper_given_in shape p s step action e fits
 happens_in shape p s step (Calls done bytes) e fits = called_in shape p s step done bytes e fits

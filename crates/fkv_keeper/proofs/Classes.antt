@@ -162,7 +162,7 @@ module _ (class : StoreClass) where
   happens_same : (shape : Shape) (p : Places) (s : KeeperState) (event : KeeperEvent) → Same s → Same (keeper_happens shape p s event)
   unfolding keeper_happens
   happens_same shape p s BeginsTurn was = begins_same s (turn_asked s) (is_in_hand s.step) was (either s.is_broken _ _ was was)
-  happens_same shape p s (BeginsCommit kind) was = begins_same s (commit_asked s kind) (is_in_hand s.step) was (either s.is_broken _ _ was was)
+  happens_same shape p s (BeginsCommit kind) was = begins_same s (commit_asked s kind) (is_in_hand s.step) was (either s.is_broken _ _ was (either s.rests _ _ was was))
   happens_same shape p s (Replies reply granted) was = reply_same shape p s s.step reply granted was
   happens_same shape p s (Gets action) was = given_same shape p s s.step action was
   happens_same shape p s (Calls done bytes) was = device_same shape p s s.step done bytes was

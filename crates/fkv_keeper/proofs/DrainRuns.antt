@@ -223,7 +223,7 @@ turn_begins : (s : KeeperState) (told : List Exchange) → Knows (turn_asked s) 
 turn_begins s told = either s.is_broken _ _ told tt (parts_begin s.rests s.maintain told)
 
 commit_begins : (s : KeeperState) (kind : CommitKind) (told : List Exchange) → Knows (commit_asked s kind) told
-commit_begins s kind told = either s.is_broken _ (record s { start = start_begun s.start (asked_for s kind); step = Starts }) told tt tt
+commit_begins s kind told = either s.is_broken _ _ told tt (either s.rests _ (record s { start = start_begun s.start (asked_for s kind); step = Starts }) told tt tt)
 
 -- by the step of the keeper
 abbrev told_at : Shape → Places → KeeperState → Keeping → KeeperEvent → List Exchange → List Exchange

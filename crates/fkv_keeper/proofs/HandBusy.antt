@@ -89,7 +89,7 @@ either_busy false shape p s t one other = other
 
 commit_busy : (shape : Shape) (p : Places) (s : KeeperState) (kind : CommitKind) → IsBusyNow shape p (commit_asked s kind)
 unfolding keeping_ask starting_ask passed
-commit_busy shape p s kind = either_busy s.is_broken shape p _ _ tt refl
+commit_busy shape p s kind = either_busy s.is_broken shape p _ _ tt (either_busy s.rests shape p _ _ tt refl)
 
 turn_busy : (shape : Shape) (p : Places) (s : KeeperState) → IsBusyNow shape p (turn_asked s)
 unfolding keeping_ask maintaining_ask scan_ask serve_ask device_asked device_passed passed

@@ -18,7 +18,7 @@ either shape p false x y n first second = second
 
 pub begin_bounded : (shape : Shape) (p : Places) (s : KeeperState) (kind : CommitKind) → keeper_asks_left shape p (commit_asked s kind) ≤ most_begin_asks
 unfolding keeping_asks_left starting_asks_left
-begin_bounded shape p s kind = either shape p s.is_broken _ _ _ (omega arith) (omega arith)
+begin_bounded shape p s kind = either shape p s.is_broken _ _ _ (omega arith) (either shape p s.rests _ _ _ (omega arith) (omega arith))
 
 parts_begun_left : (shape : Shape) (rests : Bool) (m : MaintainState) → maintain_asks_left shape (parts_begun rests m) ≤ most_maintain_asks shape
 parts_begun_left shape true m = maintain_serving_left shape m

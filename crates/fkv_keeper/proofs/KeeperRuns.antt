@@ -85,7 +85,7 @@ happens_step : (shape : Shape) (p : Places) (w : Writing) (s : KeeperState) (ste
 happens_step shape p w s step BeginsTurn e resting known calling =
     subst (λ (x : Writing). IsStep shape x s (happens_at shape p s step BeginsTurn)) (sym (unwritten step (happens_at shape p s step BeginsTurn) w)) (begins_step shape w s (turn_asked s) step e known (turn_step shape w s s.is_broken refl))
 happens_step shape p w s step (BeginsCommit kind) e resting known calling =
-    subst (λ (x : Writing). IsStep shape x s (happens_at shape p s step (BeginsCommit kind))) (sym (unwritten_commit step kind (happens_at shape p s step (BeginsCommit kind)) w)) (begins_step shape w s (commit_asked s kind) step e known (commit_step shape w s kind s.is_broken refl))
+    subst (λ (x : Writing). IsStep shape x s (happens_at shape p s step (BeginsCommit kind))) (sym (unwritten_commit step kind (happens_at shape p s step (BeginsCommit kind)) w)) (begins_step shape w s (commit_asked s kind) step e known (commit_step shape w s kind s.is_broken s.rests refl))
 happens_step shape p w s step (Replies reply granted) e resting known calling = reply_step shape p w s step reply granted (reply_going step reply granted calling) e resting known
 happens_step shape p w s step (Gets action) e resting known calling = given_step shape p w s step action (given_going step action calling) e known
 happens_step shape p w s step (Calls done bytes) e resting known calling = called_step shape p w s step done bytes (called_going step done bytes calling) e known

@@ -345,6 +345,8 @@ pub turn_step : (shape : Shape) (w : Writing) (s : KeeperState) (broken : Bool) 
 turn_step shape w s true e = record { broken = λ broken. tt; knows = tt; number = refl; memory = λ ends. cc; told = λ full ends. cc }
 turn_step shape w s false e = going shape w s _ Maintains tt refl e refl e
 
-pub commit_step : (shape : Shape) (w : Writing) (s : KeeperState) (kind : CommitKind) (broken : Bool) → s.is_broken ≡ broken → IsStep shape w s (if broken then ended s (CommitRefused fault.Broken) else record s { start = start_begun s.start (asked_for s kind); step = Starts })
-commit_step shape w s kind true e = record { broken = λ broken. tt; knows = tt; number = refl; memory = λ ends. cc; told = λ full ends. cc }
-commit_step shape w s kind false e = going shape w s _ Starts tt refl e refl e
+pub commit_step : (shape : Shape) (w : Writing) (s : KeeperState) (kind : CommitKind) (broken rests : Bool) → s.is_broken ≡ broken
+    → IsStep shape w s (if broken then ended s (CommitRefused fault.Broken) else (if rests then ended s (CommitRefused fault.CommitRunning) else record s { start = start_begun s.start (asked_for s kind); step = Starts }))
+commit_step shape w s kind true rests e = record { broken = λ broken. tt; knows = tt; number = refl; memory = λ ends. cc; told = λ full ends. cc }
+commit_step shape w s kind false true e = record { broken = λ broken. tt; knows = tt; number = refl; memory = λ ends. cc; told = λ full ends. cc }
+commit_step shape w s kind false false e = going shape w s _ Starts tt refl e refl e

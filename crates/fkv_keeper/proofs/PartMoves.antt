@@ -284,7 +284,8 @@ turn_part s its =
 commit_part : (s : KeeperState) (kind : CommitKind) (its : KeeperTold) → IsPart (BeginsCommit kind) (Ended its) s (commit_asked s kind)
 commit_part s kind its =
     either s.is_broken (BeginsCommit kind) (Ended its) s _ _ (λ broken. ends (BeginsCommit kind) (Ended its) s s _ (record { entered = refl; taken = refl; end = same_end s s refl; seek = refl }))
-    (λ works. record { begins = inr (record { kind = kind; asked = refl; start = refl }); knows = record { entered = refl; taken = λ other. refl; end = λ was is before after. same_end s s refl was is before after; seek = λ other. refl } })
+    (λ works. either s.rests (BeginsCommit kind) (Ended its) s _ _ (λ rests. ends (BeginsCommit kind) (Ended its) s s _ (record { entered = refl; taken = refl; end = same_end s s refl; seek = refl }))
+    (λ awake. record { begins = inr (record { kind = kind; asked = refl; start = refl }); knows = record { entered = refl; taken = λ other. refl; end = λ was is before after. same_end s s refl was is before after; seek = λ other. refl } }))
 
 happens_part : (shape : Shape) (p : Places) (s : KeeperState) (step : Keeping) (event : KeeperEvent) → s.step ≡ step → IsPart event step s (happens_at shape p s step event)
 happens_part shape p s (Ended its) BeginsTurn e = turn_part s its

@@ -2,7 +2,6 @@
 use Rattle.std.proofs.Common.{◌≡◌, ℕ, ◌∙◌, ◌⊎◌, inl, inr, List, refl, ap, sym, subst, Bool, true, false}
 use Rattle.std.specs.Prelude.{◌||◌, Option, Some, None, ⊤, if◌then◌else◌}
 use Rattle.fkv_base.specs.declared.faults.Fault.TheVariants as fault
-use Rattle.fkv_base.specs.declared.numbers.Version.{Version}
 use Rattle.fkv_base.specs.declared.phases.Phase.TheVariants as phase
 use Rattle.fkv_base.specs.declared.shapes.Shape.{Shape}
 use Rattle.fkv_words.specs.declared.phase_words.PhaseSaid.{PhaseSaid}
@@ -39,7 +38,7 @@ use Rattle.fkv_maintain.specs.MaintainRun as turn
 use Rattle.fkv_maintain.specs.Parts.{IsServing}
 use Rattle.fkv_maintain.proofs.Shown.{serving_goes}
 use Rattle.fkv_keeper.specs.declared.answers.KeeperTold.{KeeperTold}
-use Rattle.fkv_keeper.specs.declared.answers.KeeperTold.TheVariants.{Begun, TurnRefused, CommitRefused}
+use Rattle.fkv_keeper.specs.declared.answers.KeeperTold.TheVariants.{TurnRefused, CommitRefused}
 use Rattle.fkv_keeper.specs.declared.keepers.Keeping.{Keeping}
 use Rattle.fkv_keeper.specs.declared.keepers.Keeping.TheVariants.{Ended, Starts, Maintains, LoadsPhase, Enters, Copies, Seeks, Waits, Writes, Finishes}
 use Rattle.fkv_keeper.specs.Keeping.{KeeperState, come_to, is_copy_resting, copy_driven, copy_told, asked_for, ended, turned, parts_begun, turn_asked, commit_asked, start_ledto, maintain_ledto, copies, copies_next, part_begun, writes_taken_up, phase_ledto, enter_ledto, copy_ledto, seek_ledto, writes_begun, wait_ledto, finished, finish_ledto, keeping_next, keeping_given, must_rest, rested, write_ledto, writes_called, keeping_called}
@@ -193,7 +192,7 @@ called_rests shape p s step done bytes e = inl (inl refl)
 
 happens_rests : (shape : Shape) (p : Places) (s : KeeperState) (step : Keeping) (event : KeeperEvent) → s.step ≡ step → RestsBy s event (happens_at shape p s step event)
 happens_rests shape p s (Ended its) BeginsTurn e = inl (either_as s.is_broken s _ _ (inl refl) (inl refl))
-happens_rests shape p s (Ended its) (BeginsCommit kind) e = inl (either_as s.is_broken s _ _ (inl refl) (inl refl))
+happens_rests shape p s (Ended its) (BeginsCommit kind) e = inl (either_as s.is_broken s _ _ (inl refl) (either_as s.rests s _ _ (inl refl) (inl refl)))
 happens_rests shape p s step BeginsTurn e = inl (inl refl)
 happens_rests shape p s step (BeginsCommit kind) e = inl (inl refl)
 happens_rests shape p s step (Replies reply granted) e = inl (reply_rests shape p s step reply granted)
@@ -298,13 +297,6 @@ as_it_was s step e may serves = record {
   lost = refl;
 }
 
-start_still : (s : KeeperState) (reply : ℕ) (ask : Ask StartAnswer) → s.step ≡ Starts → s.rests ≡ true → (start_ledto (record s { start = start_next s.start reply }) ask).rests ≡ true → RestsStill s (start_ledto (record s { start = start_next s.start reply }) ask)
-unfolding start_ledto
-start_still s reply (Done (start.Begun number first)) e was is = cc
-start_still s reply (Done (start.Refused why)) e was is = record { rests = tt; works = refl; serves = λ at. cc; commit = refl; copy = refl; writes = refl; used = refl; seek = refl; last = refl; lost = refl }
-start_still s reply (Done start.Idle) e was is = record { rests = tt; works = refl; serves = λ at. cc; commit = refl; copy = refl; writes = refl; used = refl; seek = refl; last = refl; lost = refl }
-start_still s reply ask e was is = record { rests = rw e tt; works = refl; serves = λ at. let clash : Starts ≡ Maintains = sym e ∙ at in cc; commit = refl; copy = refl; writes = refl; used = refl; seek = refl; last = refl; lost = refl }
-
 maintain_still : (s : KeeperState) (m : MaintainState) (ask : Ask MaintainAnswer) → s.step ≡ Maintains → IsServing m.step → (maintain_ledto (record s { maintain = m }) ask).rests ≡ true → RestsStill s (maintain_ledto (record s { maintain = m }) ask)
 unfolding maintain_ledto
 maintain_still s m (Done maintain.Through) e serving is = record { rests = tt; works = refl; serves = λ at. cc; commit = refl; copy = refl; writes = refl; used = refl; seek = refl; last = refl; lost = refl }
@@ -349,26 +341,23 @@ turn_still s its e was = by s.is_broken
     by true = record { rests = tt; works = refl; serves = λ at. cc; commit = refl; copy = refl; writes = refl; used = refl; seek = refl; last = refl; lost = refl }
     by false = record { rests = tt; works = refl; serves = λ at. serving s.rests was; commit = refl; copy = refl; writes = refl; used = refl; seek = refl; last = refl; lost = refl }
 
-commit_still : (s : KeeperState) (kind : CommitKind) → RestsStill s (commit_asked s kind)
-commit_still s kind = by s.is_broken
+commit_still : (s : KeeperState) (kind : CommitKind) → s.rests ≡ true → RestsStill s (commit_asked s kind)
+commit_still s kind was = by s.is_broken s.rests was
   where
-    by : (broken : Bool) → RestsStill s (if broken then ended s (CommitRefused fault.Broken) else record s { start = start_begun s.start (asked_for s kind); step = Starts })
-    by true = record { rests = tt; works = refl; serves = λ at. cc; commit = refl; copy = refl; writes = refl; used = refl; seek = refl; last = refl; lost = refl }
-    by false = record { rests = tt; works = refl; serves = λ at. cc; commit = refl; copy = refl; writes = refl; used = refl; seek = refl; last = refl; lost = refl }
+    by : (broken rests : Bool) → rests ≡ true
+        → RestsStill s (if broken then ended s (CommitRefused fault.Broken) else (if rests then ended s (CommitRefused fault.CommitRunning) else record s { start = start_begun s.start (asked_for s kind); step = Starts }))
+    by true rests so = record { rests = tt; works = refl; serves = λ at. cc; commit = refl; copy = refl; writes = refl; used = refl; seek = refl; last = refl; lost = refl }
+    by false true so = record { rests = tt; works = refl; serves = λ at. cc; commit = refl; copy = refl; writes = refl; used = refl; seek = refl; last = refl; lost = refl }
+    by false false so = cc
 
 happens_still : (shape : Shape) (p : Places) (s : KeeperState) (step : Keeping) (event : KeeperEvent) → s.step ≡ step → s.rests ≡ true → MayRest step → Serves s step
     → (happens_at shape p s step event).rests ≡ true → RestsStill s (happens_at shape p s step event)
 unfolding keeping_next keeping_given keeping_called
 happens_still shape p s (Ended its) BeginsTurn e was may serves is = turn_still s its e was
-happens_still shape p s (Ended its) (BeginsCommit kind) e was may serves is = commit_still s kind
+happens_still shape p s (Ended its) (BeginsCommit kind) e was may serves is = commit_still s kind was
 happens_still shape p s (Ended its) (Replies reply granted) e was may serves is = as_it_was s (Ended its) e may tt
 happens_still shape p s (Ended its) (Gets action) e was may serves is = as_it_was s (Ended its) e may tt
 happens_still shape p s (Ended its) (Calls done bytes) e was may serves is = as_it_was s (Ended its) e may tt
-happens_still shape p s Starts (Replies reply granted) e was may serves is = start_still s reply (start_ask (start_next s.start reply)) e was is
-happens_still shape p s Starts BeginsTurn e was may serves is = as_it_was s Starts e tt tt
-happens_still shape p s Starts (BeginsCommit kind) e was may serves is = as_it_was s Starts e tt tt
-happens_still shape p s Starts (Gets action) e was may serves is = as_it_was s Starts e tt tt
-happens_still shape p s Starts (Calls done bytes) e was may serves is = as_it_was s Starts e tt tt
 happens_still shape p s Maintains (Replies reply granted) e was may serves is =
     maintain_still s (maintain_next shape p s.maintain reply) (maintain_ask shape p (maintain_next shape p s.maintain reply)) e (next_serves shape p s.maintain reply serves) is
 happens_still shape p s Maintains (Gets action) e was may serves is =
@@ -400,29 +389,15 @@ pub record BreaksInRest (s a : KeeperState) : Type 0 where
   pub copy : a.copy ≡ s.copy
   pub last : a.last ≡ s.last
 
--- a commit has begun, by a reply that the phase word of no store gives there
-pub record BeginsInRest (s a : KeeperState) : Type 0 where
-  pub number : Version
-  pub starts : s.step ≡ Starts
-  pub told : a.step ≡ Ended (Begun number)
-
--- they cease to rest in three ways: they are taken up, the device fails, or another commit begins
+-- they cease to rest in two ways: they are taken up, or the device fails
 abbrev pub EndsRest : KeeperState → KeeperEvent → KeeperState → Type 0
-EndsRest s event a = (a ≡ record s { rests = false; is_granted = true; step = Writes }) ⊎ (BreaksInRest s a ⊎ BeginsInRest s a)
-
-start_ended : (s : KeeperState) (event : KeeperEvent) (reply : ℕ) (ask : Ask StartAnswer) → s.step ≡ Starts → s.rests ≡ true → (start_ledto (record s { start = start_next s.start reply }) ask).rests ≡ false
-    → EndsRest s event (start_ledto (record s { start = start_next s.start reply }) ask)
-unfolding start_ledto
-start_ended s event reply (Done (start.Begun number first)) e was is = inr (inr (record { number = number; starts = e; told = refl }))
-start_ended s event reply (Done (start.Refused why)) e was is = not_both s.rests is was
-start_ended s event reply (Done start.Idle) e was is = not_both s.rests is was
-start_ended s event reply ask e was is = not_both s.rests is was
+EndsRest s event a = (a ≡ record s { rests = false; is_granted = true; step = Writes }) ⊎ BreaksInRest s a
 
 maintain_ended : (s : KeeperState) (event : KeeperEvent) (m : MaintainState) (ask : Ask MaintainAnswer) → s.rests ≡ true → (maintain_ledto (record s { maintain = m }) ask).rests ≡ false → EndsRest s event (maintain_ledto (record s { maintain = m }) ask)
 unfolding maintain_ledto
 maintain_ended s event m (Done maintain.Through) was is = not_both s.rests is was
 maintain_ended s event m (Done maintain.Spent) was is = not_both s.rests is was
-maintain_ended s event m (Done maintain.Broken) was is = inr (inl (record { broken = refl; step = refl; commit = refl; copy = refl; last = refl }))
+maintain_ended s event m (Done maintain.Broken) was is = inr (record { broken = refl; step = refl; commit = refl; copy = refl; last = refl })
 maintain_ended s event m ask was is = not_both s.rests is was
 
 phase_ended : (p : Places) (s : KeeperState) (event : KeeperEvent) (found : Option Commit) (said : PhaseSaid) (granted : Bool) → s.rests ≡ true → (phase_ledto p s found said granted).rests ≡ false → EndsRest s event (phase_ledto p s found said granted)
@@ -439,12 +414,10 @@ happens_ended : (shape : Shape) (p : Places) (s : KeeperState) (step : Keeping) 
     → EndsRest s event (happens_at shape p s step event)
 unfolding keeping_next keeping_given keeping_called
 happens_ended shape p s (Ended its) BeginsTurn e was may is = not_both s.rests (sym (either_same s.is_broken s _ _ refl refl) ∙ is) was
-happens_ended shape p s (Ended its) (BeginsCommit kind) e was may is = not_both s.rests (sym (either_same s.is_broken s _ _ refl refl) ∙ is) was
+happens_ended shape p s (Ended its) (BeginsCommit kind) e was may is = not_both s.rests (sym (either_same s.is_broken s _ _ refl (either_same s.rests s _ _ refl refl)) ∙ is) was
 happens_ended shape p s (Ended its) (Replies reply granted) e was may is = not_both s.rests is was
 happens_ended shape p s (Ended its) (Gets action) e was may is = not_both s.rests is was
 happens_ended shape p s (Ended its) (Calls done bytes) e was may is = not_both s.rests is was
-happens_ended shape p s Starts (Replies reply granted) e was may is = start_ended s (Replies reply granted) reply (start_ask (start_next s.start reply)) e was is
-happens_ended shape p s Starts event e was may is = not_both s.rests is was
 happens_ended shape p s Maintains (Replies reply granted) e was may is =
     maintain_ended s (Replies reply granted) (maintain_next shape p s.maintain reply) (maintain_ask shape p (maintain_next shape p s.maintain reply)) was is
 happens_ended shape p s Maintains (Gets action) e was may is = maintain_ended s (Gets action) (maintain_given s.maintain action) (maintain_ask shape p (maintain_given s.maintain action)) was is

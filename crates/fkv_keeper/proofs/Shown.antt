@@ -10,7 +10,7 @@ pub use Rattle.fkv_keeper.proofs.NewKeepers.{new_is_opened}
 pub use Rattle.fkv_keeper.proofs.WholeCalls.{run_joins}
 pub use Rattle.fkv_keeper.proofs.KeeperCalls.{calls_one, done_calls}
 pub use Rattle.fkv_keeper.proofs.KeeperRuns.{IsSound, run_sound, run_broken, run_finished, run_memory, run_number, run_rests, copy_again}
-pub use Rattle.fkv_keeper.proofs.Rests.{BeginsInRest, BeginsRest, BreaksInRest, EndsRest, RestsStill, begins_rest, each_rests, rest_ends, rests_still}
+pub use Rattle.fkv_keeper.proofs.Rests.{BeginsRest, BreaksInRest, EndsRest, RestsStill, begins_rest, each_rests, rest_ends, rests_still}
 pub use Rattle.fkv_keeper.proofs.Classes.{run_class}
 pub use Rattle.fkv_keeper.proofs.CheckpointMoves.{each_move, WasInHand, was_in_hand}
 pub use Rattle.fkv_keeper.proofs.CheckpointStores.{run_spares, run_stores}

@@ -52,13 +52,12 @@ pub record IsWritten (shape : Shape) (s : KeeperState) (w : Writing) : Type 0 wh
   pub writes : AreWritesOfCommit shape s commit w.first
   pub answered : commit_answer (commit_run w.first w.answers) ≡ write.Written
 
--- the steps at which writes rest: a turn is over that has finished nothing, a commit was refused, or is asked for, or a turn serves
+-- the steps at which writes rest: a turn is over that has finished nothing, a commit was refused, or a turn serves
 abbrev pub MayRest : Keeping → Type 0
 MayRest (Ended (Turned false full)) = ⊤
 MayRest (Ended (TurnRefused why)) = ⊤
 MayRest (Ended (CommitRefused why)) = ⊤
 MayRest (Ended told) = ⊥
-MayRest Starts = ⊤
 MayRest Maintains = ⊤
 MayRest LoadsPhase = ⊤
 MayRest step = ⊥

@@ -170,9 +170,11 @@ turned_full s = ended (record s { is_drain_full = true }) (Turned false true)
 abbrev pub asked_for : KeeperState → CommitKind → StartAsked
 asked_for s kind = record { class = s.start.asked.class; kind = kind; lost = length s.lost; checkpoint = s.last.checkpoint.number }
 
--- a commit begins, of this kind; a device that has failed is never used again
+-- A commit begins, of this kind. A device that has failed is never used again, and where the writes of a commit rest it is running.
 abbrev pub commit_asked : KeeperState → CommitKind → KeeperState
-commit_asked s kind = if s.is_broken then ended s (CommitRefused fault.Broken) else record s { start = start_begun s.start (asked_for s kind); step = Starts }
+commit_asked s kind =
+    if s.is_broken then ended s (CommitRefused fault.Broken)
+    else (if s.rests then ended s (CommitRefused fault.CommitRunning) else record s { start = start_begun s.start (asked_for s kind); step = Starts })
 
 -- a turn begins, and where the writes of a commit rest it only serves
 abbrev pub parts_begun : Bool → MaintainState → MaintainState

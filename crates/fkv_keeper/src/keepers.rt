@@ -152,7 +152,7 @@ impl Keeper {
         })
     }
 
-    /// Begins a commit and gives its first ask, or its refusal where there is none.
+    /// Begins a commit and gives its first ask, or its refusal where there is none. While the writes of a commit rest none begins.
     #[tactic(auto, unfolding(crate::specs::Keeping::keeping_ask))]
     pub fn begin_commit(&mut self, kind: CommitKind) -> Ask<KeeperTold>
         ensures next { self.new ≡ record self.old { state = commit_asked self.old.state kind } }
@@ -162,6 +162,8 @@ impl Keeper {
     {
         if self.is_broken {
             self.step = Keeping::Ended(KeeperTold::CommitRefused(Fault::Broken));
+        } else if self.rests {
+            self.step = Keeping::Ended(KeeperTold::CommitRefused(Fault::CommitRunning));
         } else {
             self.start.start(StartAsked {
                 class: self.start.class(),

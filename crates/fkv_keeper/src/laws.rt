@@ -74,10 +74,10 @@ pub fn law_of_checkpoints()
 
 /// From whatever state and by whatever event: each part of a commit begins only where the phase calls for it, or the part before it has
 /// come to it, and for the commit in hand: its number, and its end and epoch, go into the machine of the part. Wait-pending is deferred
-/// once for a commit. Writes that rest go on where they are let. What is known of the commit in hand, that wait-pending is deferred, that its points are taken, and its end and
-/// epoch, is what its parts have told; and where a search for points begins, none count as taken. So in a run the points that count as
-/// taken, as they do in the wait, are those that the search has found that has begun last, for the commit's own number, and its end and
-/// epoch are those that this search has told.
+/// once for a commit. Writes that rest go on where they are let. What is known of the commit in hand, that wait-pending is deferred, that
+/// its points are taken, and its end and epoch, is what its parts have told; and where a search for points begins, none count as taken. So
+/// in a run the points that count as taken, as they do in the wait, are those that the search has found that has begun last, for the
+/// commit's own number, and its end and epoch are those that this search has told.
 pub fn law_of_parts()
     ensures begins { (shape : Shape) (p : Places) (s : KeeperState) (event : KeeperEvent) → let a = keeper_happens shape p s event in IsPartBegun a.step s event a }
     ensures knows { (shape : Shape) (p : Places) (s : KeeperState) (event : KeeperEvent) → KnowsParts event s.step s (keeper_happens shape p s event) }

@@ -42,6 +42,7 @@ use Rattle.law_order.proofs.OfImages.LifeNamed.{AllOfLife}
 use Rattle.law_order.proofs.OfImages.LifeTails.{IsBelow, IsBelowNow, life_always, life_tails, tail_of}
 use Rattle.law_order.proofs.OfImages.LostHeld.{HandIsNewer, HoldsLost, UsesBy, left_held, run_held, run_uses}
 use Rattle.law_order.proofs.OfImages.NamedNow.{AllGood}
+use Rattle.law_order.proofs.OfImages.Resting.{at_writes}
 use Rattle.law_order.proofs.OfImages.WordsRead.{Always, always_map}
 use Rattle.law_order.proofs.OfImages.Tails.{AtTail, Below, Bounds, LastBelow, TakenAbove, UsedBelow}
 use Rattle.law_commit.specs.Below.law_world.Keeper.Lives.{IsLifeTold}
@@ -108,7 +109,7 @@ module _ (o : Opened) (n : Now) (flushed : ℕ) (shape : Shape) (p : Places) whe
       let t : Bounds = below.bounds in
       let at : Below t a.has_points a.last a.commit × UsedBelow t a.used a.commit = subst (λ (k : Keeping). AtTail t a k) writes below.is in
       let used : UsedBelow t a.used (Some c) = subst (λ (x : Option Commit). UsedBelow t a.used x) found at.1 in
-      let by : CommitEndsBy flushed a = subst (λ (k : Keeping). EndsAt flushed a k) writes ends in
+      let by : CommitEndsBy flushed a = at_writes (EndsAt flushed) a writes ends.ends in
       let has = room c found in
       let base = below.its_base in
       let least = below.its_least in

@@ -60,12 +60,13 @@ pub turn_refused : (n : GuardNow) (a : ℕ) (x : Actor) (seen : LastSeen) (s : K
     → KeeperLed n a [] seen (turn_asked s) n.words n.actions
 turn_refused n a x seen s got fits same broken = rw broken (record { follows = record { actor = x; same = stays n a x got; fits = fits }; knows = record { sessions = same; its = tt } })
 
--- a commit loads the phase first
-commit_at : (b : Bool) (n : GuardNow) (a : ℕ) (x : Actor) (seen : LastSeen) (s : KeeperState) (kind : CommitKind) → s.is_broken ≡ b → slice_get n.actors a ≡ Some x → Fits (likeness seen None None) x → s.finish.sessions ≡ n.places.sessions
+-- a commit loads the phase first, or is refused
+commit_at : (b rests : Bool) (n : GuardNow) (a : ℕ) (x : Actor) (seen : LastSeen) (s : KeeperState) (kind : CommitKind) → s.is_broken ≡ b → s.rests ≡ rests → slice_get n.actors a ≡ Some x → Fits (likeness seen None None) x → s.finish.sessions ≡ n.places.sessions
     → KeeperLed n a [] seen (commit_asked s kind) n.words n.actions
-commit_at true n a x seen s kind e got fits same = rw e (record { follows = record { actor = x; same = stays n a x got; fits = fits }; knows = record { sessions = same; its = tt } })
-commit_at false n a x seen s kind e got fits same = rw e (record { follows = record { actor = x; same = stays n a x got; fits = fits }; knows = record { sessions = same; its = tt } })
+commit_at true rests n a x seen s kind e at got fits same = rw e (record { follows = record { actor = x; same = stays n a x got; fits = fits }; knows = record { sessions = same; its = tt } })
+commit_at false true n a x seen s kind e at got fits same = rw (e, at) (record { follows = record { actor = x; same = stays n a x got; fits = fits }; knows = record { sessions = same; its = tt } })
+commit_at false false n a x seen s kind e at got fits same = rw (e, at) (record { follows = record { actor = x; same = stays n a x got; fits = fits }; knows = record { sessions = same; its = tt } })
 
 pub commit_begins : (n : GuardNow) (a : ℕ) (x : Actor) (seen : LastSeen) (s : KeeperState) (kind : CommitKind) → slice_get n.actors a ≡ Some x → Fits (likeness seen None None) x → s.finish.sessions ≡ n.places.sessions
     → KeeperLed n a [] seen (commit_asked s kind) n.words n.actions
-commit_begins n a x seen s kind got fits same = commit_at s.is_broken n a x seen s kind refl got fits same
+commit_begins n a x seen s kind got fits same = commit_at s.is_broken s.rests n a x seen s kind refl refl got fits same

@@ -333,7 +333,7 @@ begins_row p s begun false row other = other
 happens_row : (shape : Shape) (p : Places) (s : KeeperState) (event : KeeperEvent) → RestRow p s → IsKeeperRow p s → IsKeeperRow p (keeper_happens shape p s event)
 unfolding keeper_happens
 happens_row shape p s BeginsTurn rest row = begins_row p s (turn_asked s) (is_in_hand s.step) row (either s.is_broken p _ _ tt tt)
-happens_row shape p s (BeginsCommit kind) rest row = begins_row p s (commit_asked s kind) (is_in_hand s.step) row (either s.is_broken p _ _ tt tt)
+happens_row shape p s (BeginsCommit kind) rest row = begins_row p s (commit_asked s kind) (is_in_hand s.step) row (either s.is_broken p _ _ tt (either s.rests p _ _ tt tt))
 happens_row shape p s (Replies reply granted) rest row = next_row shape p s s.step reply granted refl rest row
 happens_row shape p s (Gets action) rest row = given_row shape p s s.step action refl row
 happens_row shape p s (Calls done bytes) rest row = called_row shape p s s.step done bytes refl row

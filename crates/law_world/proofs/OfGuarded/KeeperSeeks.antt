@@ -161,7 +161,7 @@ begins_seeks s begun false same = same
 happens_seeks : (shape : Shape) (p : Places) (s : KeeperState) (event : KeeperEvent) → sought (keeper_happens shape p s event) ≡ sought s
 unfolding keeper_happens
 happens_seeks shape p s BeginsTurn = begins_seeks s (turn_asked s) (is_in_hand s.step) (either s.is_broken _ _ (sought s) refl refl)
-happens_seeks shape p s (BeginsCommit kind) = begins_seeks s (commit_asked s kind) (is_in_hand s.step) (either s.is_broken _ _ (sought s) refl refl)
+happens_seeks shape p s (BeginsCommit kind) = begins_seeks s (commit_asked s kind) (is_in_hand s.step) (either s.is_broken _ _ (sought s) refl (either s.rests _ _ (sought s) refl refl))
 happens_seeks shape p s (Replies reply granted) = next_seeks shape p s s.step reply granted
 happens_seeks shape p s (Gets action) = given_seeks shape p s s.step action
 happens_seeks shape p s (Calls done bytes) = called_seeks shape p s s.step done bytes

@@ -23,14 +23,14 @@ use Rattle.fkv_maintain.specs.declared.maintaining.Maintaining.TheVariants as pa
 use Rattle.fkv_maintain.specs.Parts.{IsServing}
 use Rattle.fkv_maintain.specs.Maintaining.{maintain_ask, maintaining_ask, maintain_next, maintain_given, maintaining_called, maintaining_calls}
 use Rattle.fkv_keeper.specs.declared.answers.KeeperTold.{KeeperTold}
-use Rattle.fkv_keeper.specs.declared.answers.KeeperTold.TheVariants.{Begun, Turned, TurnRefused, CommitRefused}
+use Rattle.fkv_keeper.specs.declared.answers.KeeperTold.TheVariants.{Turned, TurnRefused, CommitRefused}
 use Rattle.fkv_keeper.specs.declared.keepers.Keeping.{Keeping}
 use Rattle.fkv_keeper.specs.declared.keepers.Keeping.TheVariants.{Ended, Starts, Maintains, LoadsPhase, Enters, Copies, Seeks, Waits, Writes, Finishes}
 use Rattle.fkv_keeper.specs.declared.last_commits.Checkpoint.{Checkpoint}
 use Rattle.fkv_keeper.specs.Keeping.{Finality, KeeperState, come_to, parts_begun, ended, copy_driven, commit_asked, turn_asked, maintain_ledto, keeping_next, keeping_given, keeping_called, copy_told, asked_for}
 use Rattle.fkv_keeper.specs.KeeperAsks.{keeping_calls}
 use Rattle.fkv_keeper.specs.KeeperLaws.{IsRefusal, IsResting, MayRest}
-use Rattle.fkv_keeper.proofs.Shown.{BeginsInRest, BreaksInRest, EndsRest, rest_ends, rests_still, run_rests}
+use Rattle.fkv_keeper.proofs.Shown.{BreaksInRest, EndsRest, rest_ends, rests_still, run_rests}
 use Rattle.fkv_keeper.specs.KeeperRun.{KeeperEvent, BeginsTurn, BeginsCommit, Replies, Gets, Calls, is_in_hand, begins, keeper_happens, keeper_run, Writing, writing_after, writing}
 use Rattle.fkv_keeper.specs.LastCommits.{slot_place}
 use Rattle.law_world.specs.Standing.CallsMade.{calls_of, calls_made}
@@ -133,7 +133,7 @@ module _ (shape : Shape) (p : Places) (opened : List ℕ) (buckets : p.buckets �
       at step e plain = record { at = e; works = works; unwritten = (knows_at step e).0 ∙ plain; commit = is.commit; copy = is.copy }
 
       -- a reply
-      reply_on : (step : Keeping) (reply : ℕ) (granted : Bool) → s.step ≡ step → IsNumberInTurn s.rests s.last.number step (keeping_next shape p s step reply granted).step
+      reply_on : (step : Keeping) (reply : ℕ) (granted : Bool) → s.step ≡ step → IsNumberInTurn s.last.number step (keeping_next shape p s step reply granted).step
           → Shows step (keeping_next shape p s step reply granted) (writing_after step (Replies reply granted) (keeping_next shape p s step reply granted) w) calls
       unfolding keeping_next
       reply_on (Ended told) reply granted e turn = stays (Ended told) e
@@ -189,10 +189,11 @@ module _ (shape : Shape) (p : Places) (opened : List ℕ) (buckets : p.buckets �
           let begun : KeeperState = record s { maintain = parts_begun s.rests s.maintain; is_drain_full = false; step = Maintains } in
           goes_maintains shape p opened s begun was its w calls (knows_at (Ended told) e).0 refl works is.commit is.copy (calm_knows shape p opened s.last its calls begun.maintain.step begun.maintain.flushing (knows_at (Ended told) e).1)
 
-      commit_on : (kind : CommitKind) (told : KeeperTold) (broken : Bool) → s.step ≡ Ended told → s.is_broken ≡ broken
-          → GoesTo shape p opened was its w calls (if broken then ended s (CommitRefused fault.Broken) else record s { start = start_begun s.start (asked_for s kind); step = Starts })
-      commit_on kind told true e b = let clash : true ≡ false = sym b ∙ works.0 in absurd (cc)
-      commit_on kind told false e b =
+      commit_on : (kind : CommitKind) (told : KeeperTold) (broken rests : Bool) → s.step ≡ Ended told → s.is_broken ≡ broken → s.rests ≡ rests
+          → GoesTo shape p opened was its w calls (if broken then ended s (CommitRefused fault.Broken) else (if rests then ended s (CommitRefused fault.CommitRunning) else record s { start = start_begun s.start (asked_for s kind); step = Starts }))
+      commit_on kind told true rests e b awake = let clash : true ≡ false = sym b ∙ works.0 in absurd (cc)
+      commit_on kind told false true e b awake = let clash : true ≡ false = sym awake ∙ works.1 in absurd (cc)
+      commit_on kind told false false e b awake =
           goes_plain shape p opened s (record s { start = start_begun s.start (asked_for s kind); step = Starts }) was its w calls (Ended told) Starts (at (Ended told) e refl) (knows_at (Ended told) e).1 tt refl works refl is.commit is.copy
 
       begins_turn_on : (step : Keeping) → s.step ≡ step → Shows step (begins s (is_in_hand step) (turn_asked s)) (writing_after step BeginsTurn (begins s (is_in_hand step) (turn_asked s)) w) calls
@@ -202,12 +203,12 @@ module _ (shape : Shape) (p : Places) (opened : List ℕ) (buckets : p.buckets �
       begins_turn_on step e = stays step e
 
       begins_commit_on : (kind : CommitKind) (step : Keeping) → s.step ≡ step → Shows step (begins s (is_in_hand step) (commit_asked s kind)) (writing_after step (BeginsCommit kind) (begins s (is_in_hand step) (commit_asked s kind)) w) calls
-      begins_commit_on kind (Ended told) e = commit_on kind told s.is_broken e refl
+      begins_commit_on kind (Ended told) e = commit_on kind told s.is_broken s.rests e refl refl
       begins_commit_on kind Waits e = stays Waits e
       begins_commit_on kind Writes e = stays Writes e
       begins_commit_on kind step e = stays step e
 
-      works_on : (step : Keeping) (event : KeeperEvent) → s.step ≡ step → IsNumberInTurn s.rests s.last.number step (happens_at shape p s step event).step
+      works_on : (step : Keeping) (event : KeeperEvent) → s.step ≡ step → IsNumberInTurn s.last.number step (happens_at shape p s step event).step
           → Shows step (happens_at shape p s step event) (writing_after step event (happens_at shape p s step event) w) (calls_at shape s step event ++ calls)
       works_on step BeginsTurn e turn = begins_turn_on step e
       works_on step (BeginsCommit kind) e turn = begins_commit_on kind step e
@@ -232,7 +233,8 @@ module _ (shape : Shape) (p : Places) (opened : List ℕ) (buckets : p.buckets �
       refuses_turn true e = refuses (TurnRefused fault.Broken) tt refl
       refuses_turn false e = let clash : true ≡ false = sym broken ∙ e in absurd (cc)
 
-      refuses_commit : (kind : CommitKind) (b : Bool) → s.is_broken ≡ b → GoesTo shape p opened was its w calls (if b then ended s (CommitRefused fault.Broken) else record s { start = start_begun s.start (asked_for s kind); step = Starts })
+      refuses_commit : (kind : CommitKind) (b : Bool) → s.is_broken ≡ b
+          → GoesTo shape p opened was its w calls (if b then ended s (CommitRefused fault.Broken) else (if s.rests then ended s (CommitRefused fault.CommitRunning) else record s { start = start_begun s.start (asked_for s kind); step = Starts }))
       refuses_commit kind true e = refuses (CommitRefused fault.Broken) tt refl
       refuses_commit kind false e = let clash : true ≡ false = sym broken ∙ e in absurd (cc)
 
@@ -287,7 +289,7 @@ module _ (shape : Shape) (p : Places) (opened : List ℕ) (buckets : p.buckets �
       writing_still Finishes may = absurd may
       writing_still step may = refl
 
-      module _ (event : KeeperEvent) (turn : IsNumberInTurn s.rests s.last.number s.step (keeper_happens shape p s event).step) where
+      module _ (event : KeeperEvent) where
         a : KeeperState
         a = keeper_happens shape p s event
 
@@ -362,15 +364,9 @@ module _ (shape : Shape) (p : Places) (opened : List ℕ) (buckets : p.buckets �
               });
             }))
 
-        begins_not : BeginsInRest s a → Rested
-        begins_not begun =
-            let its_turn : IsNumberInTurn s.rests s.last.number Starts (Ended (Begun begun.number)) = subst (λ (k : Keeping). IsNumberInTurn s.rests s.last.number Starts k) begun.told (subst (λ (k : Keeping). IsNumberInTurn s.rests s.last.number k a.step) begun.starts turn) in
-            let clash : true ≡ false = sym rests ∙ its_turn.2 in absurd (cc)
-
         by_end : EndsRest s event a → Rested
         by_end (inl same) = taken_up same
-        by_end (inr (inl breaks)) = rest_breaks breaks
-        by_end (inr (inr begun)) = begins_not begun
+        by_end (inr breaks) = rest_breaks breaks
 
         rest_on : Rested
         rest_on = by a.rests refl
@@ -379,7 +375,7 @@ module _ (shape : Shape) (p : Places) (opened : List ℕ) (buckets : p.buckets �
             by true e = rest_still e
             by false e = by_end (rest_ends shape p s event rests resting.rests e)
 
-    event_on : (event : KeeperEvent) → (s.rests ≡ true → IsResting shape s w) → IsNumberInTurn s.rests s.last.number s.step (happens_at shape p s s.step event).step
+    event_on : (event : KeeperEvent) → (s.rests ≡ true → IsResting shape s w) → IsNumberInTurn s.last.number s.step (happens_at shape p s s.step event).step
         → Shows s.step (happens_at shape p s s.step event) (writing_after s.step event (happens_at shape p s s.step event) w) (calls_at shape s s.step event ++ calls)
     event_on event resting turn = by_broken s.is_broken refl
       where
@@ -390,7 +386,7 @@ module _ (shape : Shape) (p : Places) (opened : List ℕ) (buckets : p.buckets �
         same = happens_so shape p s event
 
         by_rest : s.is_broken ≡ false → (rests : Bool) → s.rests ≡ rests → Shown (happens_at shape p s s.step event)
-        by_rest works true rests = subst Shown (sym same) (rest_on rests (resting rests) event (subst (λ (x : KeeperState). IsNumberInTurn s.rests s.last.number s.step x.step) same turn))
+        by_rest works true rests = subst Shown (sym same) (rest_on rests (resting rests) event)
         by_rest works false awake = works_on (works, awake) s.step event refl turn
 
         by_broken : (b : Bool) → s.is_broken ≡ b → Shown (happens_at shape p s s.step event)
@@ -509,7 +505,7 @@ module _ (shape : Shape) (p : Places) (opened : List ℕ) (opening : KeeperState
       subst (λ (after : KeeperState). IsSound shape p opened after (is_writing_after after.step was) (standing_after s.step after.step s.commit w.first its) (writing_after s.step event after w) (calls_of shape s event ++ calls)) (happens_so shape p s event)
       (subst (λ (made : List Call). Shown_after (happens_at shape p s s.step event) (made ++ calls)) (calls_so shape s event)
       (event_on shape p opened told.buckets told.overflow s was its w calls (run_sound before turns.1) event (λ rests. run_rests shape p opening before told.is_opened rests)
-      (subst (λ (after : KeeperState). IsNumberInTurn s.rests s.last.number s.step after.step) (sym (happens_so shape p s event)) turns.0)))
+      (subst (λ (after : KeeperState). IsNumberInTurn s.last.number s.step after.step) (sym (happens_so shape p s event)) turns.0)))
     where
       s : KeeperState
       s = keeper_run shape p opening before

@@ -72,7 +72,7 @@ module _ (shape : Shape) (p : Places) (opened : List ℕ) where
       ends : (told : KeeperTold) → Goes (ended s told)
       ends told = on (ended s told) (Ended told) tt refl now.works refl now.commit now.copy
 
-      pub start_on : (x : StartState) (ask : Ask StartAnswer) → IsPlain step → IsNumberInTurn s.rests s.last.number Starts (start_ledto (record s { start = x }) ask).step → Goes (start_ledto (record s { start = x }) ask)
+      pub start_on : (x : StartState) (ask : Ask StartAnswer) → IsPlain step → IsNumberInTurn s.last.number Starts (start_ledto (record s { start = x }) ask).step → Goes (start_ledto (record s { start = x }) ask)
       unfolding start_ledto
       start_on x (Done (start.Begun number first)) plain turn = on _ (Ended (Begun number)) tt refl (now.works.0, refl) refl (record { next = turn.0; fits = turn.1 }) tt
       start_on x (Done (start.Refused why)) plain turn = on _ (Ended (CommitRefused why)) tt refl now.works refl now.commit now.copy

@@ -1,5 +1,5 @@
 -- What is known of a store where it is opened, and of the numbers of its commits.
-use Rattle.std.specs.Prelude.{◌≡◌, ℕ, ◌+◌, ◌*◌, ◌^◌, ◌<◌, ◌≤◌, ◌==◌, ⊤, Bool, false, List, [], ◌∷◌, length, Some, None}
+use Rattle.std.specs.Prelude.{◌≡◌, ℕ, ◌+◌, ◌*◌, ◌^◌, ◌<◌, ◌≤◌, ◌==◌, ⊤, List, [], ◌∷◌, length, Some, None}
 use Rattle.fkv_base.specs.declared.numbers.Version.{Version}
 use Rattle.fkv_base.specs.declared.shapes.Shape.{Shape}
 use Rattle.fkv_record.specs.Places.{number_at, most_triples, area_place}
@@ -34,13 +34,13 @@ pub record IsToldBy (shape : Shape) (p : Places) (opened : List ℕ) (opening : 
   pub buckets : p.buckets ≡ 2 ^ shape.bucket_bits
   pub overflow : p.overflow ≡ shape.overflow
 
--- a commit that begins has the number behind the newest finished one's, and none begins where writes rest
-abbrev pub IsNumberInTurn : Bool → Version → Keeping → Keeping → Type 0
-IsNumberInTurn rests last Starts (Ended (Begun number)) = (number.0 ≡ last.0 + 1) × (number.0 < 2 ^ 64) × (rests ≡ false)
-IsNumberInTurn rests last step after = ⊤
+-- a commit that begins has the number behind the newest finished one's
+abbrev pub IsNumberInTurn : Version → Keeping → Keeping → Type 0
+IsNumberInTurn last Starts (Ended (Begun number)) = (number.0 ≡ last.0 + 1) × (number.0 < 2 ^ 64)
+IsNumberInTurn last step after = ⊤
 
 -- so does each of a run
 unfoldable pub AreNumbersInTurn : Shape → Places → KeeperState → List KeeperEvent → Type 0
 AreNumbersInTurn shape p opening [] = ⊤
 AreNumbersInTurn shape p opening (event ∷ before) =
-    IsNumberInTurn (keeper_run shape p opening before).rests (keeper_run shape p opening before).last.number (keeper_run shape p opening before).step (keeper_run shape p opening (event ∷ before)).step × AreNumbersInTurn shape p opening before
+    IsNumberInTurn (keeper_run shape p opening before).last.number (keeper_run shape p opening before).step (keeper_run shape p opening (event ∷ before)).step × AreNumbersInTurn shape p opening before

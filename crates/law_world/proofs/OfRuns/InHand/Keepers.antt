@@ -193,7 +193,7 @@ turn_now shape p s = either shape p s.is_broken _ _ tt (parts_now s.rests)
     parts_now false = begun_now shape p s.maintain
 
 commit_now : (shape : Shape) (p : Places) (s : KeeperState) (kind : _) → KeeperNow shape p (commit_asked s kind)
-commit_now shape p s kind = either shape p s.is_broken _ _ tt tt
+commit_now shape p s kind = either shape p s.is_broken _ _ tt (either shape p s.rests _ _ tt tt)
 
 event_now : (shape : Shape) (p : Places) (s : KeeperState) (event : KeeperEvent) → KeeperNow shape p s → KeeperNow shape p (keeper_happens shape p s event)
 unfolding keeper_happens
