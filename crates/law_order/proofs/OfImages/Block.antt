@@ -73,7 +73,7 @@ turn_high : (s : KeeperState) → IsHigh (turn_asked s)
 turn_high s = either s.is_broken _ _ tt tt
 
 commit_high : (s : KeeperState) (kind : CommitKind) → IsHigh (commit_asked s kind)
-commit_high s kind = either s.is_broken _ _ tt tt
+commit_high s kind = either s.is_broken _ _ tt (either s.rests _ _ tt tt)
 
 begins_high : (s begun : KeeperState) (busy : Bool) → IsHigh s → IsHigh begun → IsHigh (begins s busy begun)
 begins_high s begun true one other = one
@@ -228,7 +228,7 @@ happens_high : (shape : Shape) (p : Places) (s : KeeperState) (event : KeeperEve
 happens_high shape p s event is = record {
   well = happens_well shape p s event is.well;
   high = kept_on HighAt shape p s event is.well (step_high shape p s event) resting (λ a same high. subst (λ (w : CommitWriter). WritesHigh Writes w) (sym same.writes) high)
-      (λ a broken high. subst (λ (k : Keeping). HighAt a k) (sym broken.step) tt) (λ begun high. subst (λ (k : Keeping). HighAt (keeper_happens shape p s event) k) (sym begun.told) tt) is.high;
+      (λ a broken high. subst (λ (k : Keeping). HighAt a k) (sym broken.step) tt) is.high;
 }
   where
     resting : (a : KeeperState) → BeginsRest s event a → HighAt s Writes → HighAt a Writes

@@ -83,7 +83,7 @@ turn_ends : (most : ℕ) (s : KeeperState) → EndsNow most (turn_asked s)
 turn_ends most s = either most s.is_broken _ _ tt tt
 
 commit_ends : (most : ℕ) (s : KeeperState) (kind : CommitKind) → EndsNow most (commit_asked s kind)
-commit_ends most s kind = either most s.is_broken _ _ tt tt
+commit_ends most s kind = either most s.is_broken _ _ tt (either most s.rests _ _ tt tt)
 
 begins_ends : (most : ℕ) (s begun : KeeperState) (busy : Bool) → EndsNow most s → EndsNow most begun → EndsNow most (begins s busy begun)
 begins_ends most s begun true one other = one
@@ -236,8 +236,7 @@ pub record Ends (most : ℕ) (s : KeeperState) : Type 0 where
 pub happens_ends : (most : ℕ) (shape : Shape) (p : Places) (s : KeeperState) (event : KeeperEvent) → EventLoads most s event → Ends most s → Ends most (keeper_happens shape p s event)
 happens_ends most shape p s event loads is = record {
   well = happens_well shape p s event is.well;
-  ends = kept_on (EndsAt most) shape p s event is.well (step_ends most shape p s event loads) resting (λ a same ends c here. ends c (sym same.commit ∙ here)) (λ a broken ends. subst (EndsAt most a) (sym broken.step) tt)
-      (λ begun ends. subst (EndsAt most (keeper_happens shape p s event)) (sym begun.told) tt) is.ends;
+  ends = kept_on (EndsAt most) shape p s event is.well (step_ends most shape p s event loads) resting (λ a same ends c here. ends c (sym same.commit ∙ here)) (λ a broken ends. subst (EndsAt most a) (sym broken.step) tt) is.ends;
 }
   where
     resting : (a : KeeperState) → BeginsRest s event a → CommitEndsBy most s → CommitEndsBy most a

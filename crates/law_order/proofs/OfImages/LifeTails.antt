@@ -13,7 +13,7 @@ use Rattle.law_commit.specs.Below.fkv_world.World.{Event}
 use Rattle.law_commit.proofs.Below.fkv_world.Shown.{keeper_runs_on}
 use Rattle.law_order.proofs.OfImages.EndsFlushed.{AllLoad, Ends, all_higher, event_load, flushed_at, happens_ends, opening_ends}
 use Rattle.law_order.proofs.OfImages.WordsRead.{AllRead, Always, always_last, always_map, always_on, event_read, of_part}
-use Rattle.law_order.proofs.OfImages.Tails.{Bounds, IsAtTail, higher, raised, run_on}
+use Rattle.law_order.proofs.OfImages.Tails.{Bounds, IsAtTail, all_higher as tails_higher, raised, run_on}
 use Rattle.law_commit.specs.Below.law_world.Standing.Opening.{AreNumbersInTurn}
 
 abbrev pub tail_of : World → ℕ
@@ -73,7 +73,7 @@ event_tails opening base least event before high up turn past =
           bounds = raised t high more;
           its_base = below.its_base;
           its_least = below.its_least;
-          is = higher t high more (keeper_run shape p first (part ++ rest)) (keeper_run shape p first (part ++ rest)).step there;
+          is = tails_higher t high more (keeper_run shape p first (part ++ rest)) there;
         };
         its_tail = refl;
       },

@@ -1,15 +1,19 @@
 -- What is known of the commit in hand where a keeper has come to is kept by each event, whether or not its writes rest.
-use Rattle.std.proofs.Common.{◌≡◌, inl, inr, ◌∙◌, refl, sym, ap, subst, Bool, true, false}
+use Rattle.std.proofs.Common.{◌≡◌, inl, inr, ◌∙◌, refl, sym, ap, subst, Bool, true, false, List, [], ◌∷◌}
 use Rattle.std.specs.Prelude.{if◌then◌else◌}
 use Rattle.fkv_base.specs.declared.shapes.Shape.{Shape}
 use Rattle.law_commit.specs.Below.fkv_keeper.TheKeeping.{Keeping}
 use Rattle.law_commit.specs.Below.fkv_keeper.TheKeeping.TheVariants.{Maintains, Writes}
 use Rattle.law_commit.specs.Below.fkv_keeper.Keeping.{KeeperState, come_to}
 use Rattle.law_commit.specs.Below.fkv_keeper.KeeperLaws.{MayRest}
-use Rattle.law_commit.specs.Below.fkv_keeper.KeeperRun.{IsOpened, KeeperEvent, keeper_happens}
-use Rattle.law_commit.proofs.Below.fkv_keeper.Shown.{BeginsInRest, BeginsRest, BreaksInRest, EndsRest, RestsStill, begins_rest, rest_ends, rests_still}
+use Rattle.law_commit.specs.Below.fkv_keeper.KeeperRun.{IsOpened, KeeperEvent, keeper_happens, keeper_run}
+use Rattle.law_commit.proofs.Below.fkv_keeper.Shown.{BeginsRest, BreaksInRest, EndsRest, RestsStill, begins_rest, rest_ends, rests_still}
 use Rattle.law_commit.specs.Below.fkv_maintain.Parts.{IsServing}
 use Rattle.fkv_plane.specs.declared.places.Places.{Places}
+use Rattle.law_commit.specs.Below.fkv_world.OwnEvents.{keeper_events}
+use Rattle.law_commit.specs.Below.fkv_world.Runs.{World, run}
+use Rattle.law_commit.specs.Below.fkv_world.World.{Event}
+use Rattle.law_commit.proofs.Below.fkv_world.Shown.{keeper_runs}
 
 not_both : {X : Type 0} (b : Bool) → b ≡ true → b ≡ false → X
 not_both b high low = let clash : true ≡ false = sym high ∙ low in cc
@@ -64,9 +68,8 @@ pub kept_on : (P : KeeperState → Keeping → Type 0) (shape : Shape) (p : Plac
     → ((a : KeeperState) → BeginsRest s event a → P s Writes → P a Writes)
     → ((a : KeeperState) → IsSameInHand s a → P s Writes → P a Writes)
     → ((a : KeeperState) → BreaksInRest s a → P s Writes → P a a.step)
-    → (BeginsInRest s (keeper_happens shape p s event) → P s Writes → P (keeper_happens shape p s event) (keeper_happens shape p s event).step)
     → P s (come_to s) → P (keeper_happens shape p s event) (come_to (keeper_happens shape p s event))
-kept_on P shape p s event well goes begins same breaks another is = from s.rests refl is
+kept_on P shape p s event well goes begins same breaks is = from s.rests refl is
   where
     a : KeeperState
     a = keeper_happens shape p s event
@@ -77,8 +80,7 @@ kept_on P shape p s event well goes begins same breaks another is = from s.rests
 
     by_end : P s Writes → EndsRest s event a → P a a.step
     by_end now (inl taken) = subst (λ (k : Keeping). P a k) (sym (ap (λ (x : KeeperState). x.step) taken)) (same a (taken_same s a taken) now)
-    by_end now (inr (inl broken)) = breaks a broken now
-    by_end now (inr (inr begun)) = another begun now
+    by_end now (inr broken) = breaks a broken now
 
     resting : s.rests ≡ true → P s Writes → (rests : Bool) → a.rests ≡ rests → P a (if rests then Writes else a.step)
     resting was now true e = same a (still_same s a (rests_still shape p s event was (well.rests was) (well.serves was) e)) now
@@ -107,3 +109,23 @@ at_writes P s writes is = by s.rests is
     by : (rests : Bool) → P s (if rests then Writes else s.step) → P s Writes
     by true now = now
     by false now = subst (λ (k : Keeping). P s k) writes now
+
+-- ---- in a life
+run_well : (shape : Shape) (p : Places) (opening : KeeperState) (events : List KeeperEvent) → IsOpened opening → RestsWell (keeper_run shape p opening events)
+unfolding keeper_run
+run_well shape p opening [] opened = opened_well opening opened
+run_well shape p opening (event ∷ before) opened = happens_well shape p (keeper_run shape p opening before) event (run_well shape p opening before opened)
+
+pub life_well : (opening : World) (events : List Event) → IsOpened opening.now.keeper → RestsWell (run opening events).now.keeper
+life_well opening events opened = subst RestsWell (sym (keeper_runs opening events)) (run_well opening.now.shape opening.now.places opening.now.keeper (keeper_events opening events) opened)
+
+-- none rest at any other step
+pub life_awake : (opening : World) (events : List Event) (step : Keeping) → IsOpened opening.now.keeper → (run opening events).now.keeper.step ≡ step → (MayRest step → ⊥) → (run opening events).now.keeper.rests ≡ false
+life_awake opening events step opened e not = by s.rests refl
+  where
+    s : KeeperState
+    s = (run opening events).now.keeper
+
+    by : (rests : Bool) → s.rests ≡ rests → rests ≡ false
+    by true is = let well = life_well opening events opened in absurd (not (subst MayRest e (well.rests is)))
+    by false is = refl
