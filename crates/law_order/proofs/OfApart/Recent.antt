@@ -4,7 +4,7 @@ use Rattle.std.specs.Prelude.{Some}
 use Rattle.fkv_base.specs.declared.numbers.Version.{Version}
 use Rattle.law_commit.specs.Below.fkv_keeper.TheKeeping.{Keeping}
 use Rattle.law_commit.specs.Below.fkv_keeper.TheKeeping.TheVariants.{Copies, Ended, Enters, Finishes, LoadsPhase, Maintains, Seeks, Starts, Waits, Writes}
-use Rattle.law_commit.specs.Below.fkv_keeper.Keeping.{Finality, KeeperState}
+use Rattle.law_commit.specs.Below.fkv_keeper.Keeping.{Finality, KeeperState, come_to}
 use Rattle.law_commit.specs.Below.fkv_world.Runs.{happens, run}
 use Rattle.law_commit.specs.Below.fkv_world.World.{Event, Now}
 use Rattle.law_commit.specs.BegunCommits.{BegunCommit, life_begun}

@@ -129,3 +129,6 @@ life_awake opening events step opened e not = by s.rests refl
     by : (rests : Bool) → s.rests ≡ rests → rests ≡ false
     by true is = let well = life_well opening events opened in absurd (not (subst MayRest e (well.rests is)))
     by false is = refl
+
+pub life_comes : (opening : World) (events : List Event) (step : Keeping) → IsOpened opening.now.keeper → (run opening events).now.keeper.step ≡ step → (MayRest step → ⊥) → come_to (run opening events).now.keeper ≡ step
+life_comes opening events step opened e not = ap (λ (rests : Bool). if rests then Writes else (run opening events).now.keeper.step) (life_awake opening events step opened e not) ∙ e
