@@ -1,6 +1,6 @@
 -- The commits that have begun in a life.
 use Rattle.std.proofs.Common.{List, [], ◌∷◌, refl}
-use Rattle.law_refine.specs.Below.fkv_keeper.Keeping.{KeeperState}
+use Rattle.law_refine.specs.Below.fkv_keeper.Keeping.{KeeperState, come_to}
 use Rattle.law_refine.specs.Below.law_world.Standing.Opening.{AreNumbersInTurn}
 use Rattle.law_refine.specs.Below.law_world.Keeper.Lives.{keeper_after}
 use Rattle.law_refine.specs.Below.fkv_world.Opened.{IsOpenedWorld}
@@ -9,9 +9,9 @@ use Rattle.law_refine.specs.Below.fkv_world.Runs.{World, run}
 use Rattle.law_refine.specs.Below.fkv_world.World.{Event}
 use Rattle.law_refine.proofs.Below.law_world.OfKeeper.OwnRun.{of_keeper}
 use Rattle.law_commit.specs.BegunCommits.{AreInTurn, commit_opened, life_begun}
-use Rattle.law_commit.specs.HeldCommits.{AtKeeping, HaveFinished}
+use Rattle.law_commit.specs.HeldCommits.{AtKeeping, HaveFinished, NoneBeginsInRest}
 use Rattle.law_commit.proofs.BegunStands.{run_stands, said_so}
-use Rattle.law_commit.proofs.InTurn.{run_turn}
+use Rattle.law_commit.proofs.InTurn.{run_awake, run_turn}
 
 pub opening_finished : (opening : World) → HaveFinished (commit_opened opening.now opening.past.opened ∷ []) opening.now.keeper.last
 opening_finished opening = record {
@@ -22,12 +22,17 @@ opening_finished opening = record {
   last = record { number = refl; points = refl; checkpoint = refl };
 }
 
-pub life_stands : (opening : World) (events : List Event) → IsOpenedWorld opening → AtKeeping (life_begun opening events) (run opening events).now.keeper (run opening events).now.keeper.step
-life_stands opening events opened =
+pub life_awake : (opening : World) (events : List Event) → AreNumbersInTurn opening.now.shape opening.now.places opening.now.keeper (keeper_events opening events)
+    → NoneBeginsInRest opening.now.shape opening.now.places opening.now.keeper (keeper_events opening events)
+life_awake opening events turn = run_awake opening.now.shape opening.now.places opening.now.keeper (keeper_events opening events) turn
+
+pub life_stands : (opening : World) (events : List Event) → IsOpenedWorld opening → NoneBeginsInRest opening.now.shape opening.now.places opening.now.keeper (keeper_events opening events)
+    → AtKeeping (life_begun opening events) (run opening events).now.keeper (come_to (run opening events).now.keeper)
+life_stands opening events opened none =
     let s : KeeperState = keeper_after opening (keeper_events opening events) in
-    of_keeper (λ (x : KeeperState). AtKeeping (life_begun opening events) x x.step) opening events
-    (said_so (life_begun opening events) s s.step
-    (run_stands opening.now.shape opening.now.places opening.now.keeper (commit_opened opening.now opening.past.opened ∷ []) (keeper_events opening events) opened.keeper (opening_finished opening)))
+    of_keeper (λ (x : KeeperState). AtKeeping (life_begun opening events) x (come_to x)) opening events
+    (said_so (life_begun opening events) s (come_to s)
+    (run_stands opening.now.shape opening.now.places opening.now.keeper (commit_opened opening.now opening.past.opened ∷ []) (keeper_events opening events) opened.keeper none (opening_finished opening)))
 
 pub life_turn : (opening : World) (events : List Event) → IsOpenedWorld opening → AreNumbersInTurn opening.now.shape opening.now.places opening.now.keeper (keeper_events opening events) → AreInTurn (life_begun opening events)
 life_turn opening events opened turn =

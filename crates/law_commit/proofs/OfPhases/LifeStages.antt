@@ -162,20 +162,20 @@ idle_keeper : (s : KeeperState) (step : Keeping) → is_in_hand step ≡ false �
 idle_keeper s (Ended told) idle = refl
 idle_keeper s step idle = cc
 
-rest_at : (number : Version) (s : KeeperState) (step : Keeping) → s.step ≡ step → is_in_hand step ≡ false → s.commit ≡ None → number.0 ≡ s.last.number.0 + 1 → KeeperAt number Rests s
-rest_at number s (Ended told) at idle none next = record {
-  has = record { next = next; hand = λ c in_hand. let clash : None ≡ Some c = sym none ∙ in_hand in cc };
+rest_at : (number : Version) (s : KeeperState) (step : Keeping) → s.step ≡ step → is_in_hand step ≡ false → s.commit ≡ None → s.rests ≡ false → number.0 ≡ s.last.number.0 + 1 → KeeperAt number Rests s
+rest_at number s (Ended told) at idle none awake next = record {
+  has = record { next = next; hand = λ c in_hand. let clash : None ≡ Some c = sym none ∙ in_hand in cc; rests = λ rests. let clash : false ≡ true = sym awake ∙ rests in cc };
   early = subst (λ x. EarlyAt Rests s x) (sym at) (λ e. refl);
   step = subst (λ x. StepAt number Rests s x) (sym at) tt;
 }
-rest_at number s step at idle none next = cc
+rest_at number s step at idle none awake next = cc
 
 pub opens_staged : (n : Now) (start : ℕ) → guard.IsOpened n start → OpensAtRest n → IsStaged n (record { 0 = n.keeper.last.number.0 + 1 }) Rests
 opens_staged n start guarded rests = record {
   fits = record { some = omega arith; low = said_low (word_at n.words 2) Rest (record { 0 = n.keeper.last.number.0 + 1 }) rests.says; lower = λ e. cc };
   word = rests.says;
   out = record { its_own = λ holder a is. none_out holder a is; once = λ one other a b is and. none_out one a is };
-  keeper = rest_at (record { 0 = n.keeper.last.number.0 + 1 }) n.keeper n.keeper.step refl guarded.keeper.none_in_hand guarded.keeper.no_commit refl;
+  keeper = rest_at (record { 0 = n.keeper.last.number.0 + 1 }) n.keeper n.keeper.step refl guarded.keeper.none_in_hand guarded.keeper.no_commit guarded.keeper.none_rest refl;
 }
   where
     by_session : (found : Option SessionState) (i : ℕ) → slice_get n.sessions i ≡ found → phase_in (hand_found found) ≡ None
@@ -191,14 +191,15 @@ opens_staged n start guarded rests = record {
     none_out holder a is = let clash : None ≡ Some a = sym (held_none holder) ∙ is in cc
 
 -- ---- a life
-rest_next : (number : Version) (stage : Stage) (last : ℕ) → number.0 ≡ last + 1 → RestIsNext last (Says (stage_phase stage) (stage_version number stage))
-rest_next number Rests last next = next
-rest_next number Prepares last next = tt
-rest_next number DefersProgress last next = tt
-rest_next number Progresses last next = tt
-rest_next number DefersPending last next = tt
-rest_next number Pends last next = tt
-rest_next number Flushes last next = tt
+rest_next : (number : Version) (stage : Stage) (rests : Bool) (last : ℕ) → number.0 ≡ last + 1 → (rests ≡ true → stage ≡ Flushes) → RestIsNext rests last (Says (stage_phase stage) (stage_version number stage))
+rest_next number Rests true last next flushes = let clash : Rests ≡ Flushes = flushes refl in cc
+rest_next number Rests false last next flushes = (next, refl)
+rest_next number Prepares rests last next flushes = tt
+rest_next number DefersProgress rests last next flushes = tt
+rest_next number Progresses rests last next flushes = tt
+rest_next number DefersPending rests last next flushes = tt
+rest_next number Pends rests last next flushes = tt
+rest_next number Flushes rests last next flushes = tt
 
 pub version_now : (n : Now) (number : Version) (stage : Stage) → IsStaged n number stage → phase_version n.words ≡ (stage_version number stage).0
 version_now n number stage its = ap version_said its.word
@@ -220,8 +221,9 @@ life_staged opening start (event ∷ before) guarded opened rests =
     let was = version_now n past.number past.stage past.staged in
     let is = version_now (run opening (event ∷ before)).now on.its_number on.its_stage on.staged in
     let up = on.rises in
-    let said : RestIsNext n.keeper.last.number.0 (phase_said (word_at n.words (shared_place one.Phase))) =
-    subst (λ (x : PhaseSaid). RestIsNext n.keeper.last.number.0 x) (sym past.staged.word) (rest_next past.number past.stage n.keeper.last.number.0 past.staged.keeper.has.next) in
+    let has = past.staged.keeper.has in
+    let said : RestIsNext n.keeper.rests n.keeper.last.number.0 (phase_said (word_at n.words (shared_place one.Phase))) =
+    subst (λ (x : PhaseSaid). RestIsNext n.keeper.rests n.keeper.last.number.0 x) (sym past.staged.word) (rest_next past.number past.stage n.keeper.rests n.keeper.last.number.0 has.next has.rests) in
     record { number = on.its_number; stage = on.its_stage; staged = on.staged; rises = (omega (arith, was, is, up), past.rises); rests = (said, past.rests) }
 
 -- no session is ahead as a life begins

@@ -1,5 +1,5 @@
 -- The newest commit that has begun is the one in hand, with the points that were taken, as long as it isn't finished.
-use Rattle.std.proofs.Common.{◌≡◌, ℕ, ◌∙◌, List, [], ◌∷◌, refl, sym, subst, Bool, true, false}
+use Rattle.std.proofs.Common.{◌≡◌, inl, inr, ℕ, ◌∙◌, List, [], ◌∷◌, refl, sym, subst, Bool, true, false}
 use Rattle.std.specs.Prelude.{⊤, if◌then◌else◌, Option, Some, None}
 use Rattle.fkv_base.specs.declared.faults.Fault.TheVariants as fault
 use Rattle.fkv_base.specs.declared.shapes.Shape.{Shape}
@@ -22,16 +22,20 @@ use Rattle.law_refine.specs.Below.fkv_manifest.Committing.{commit_answer, commit
 use Rattle.law_refine.specs.Below.fkv_keeper.KeeperTold.TheVariants.{CommitRefused, TurnRefused}
 use Rattle.law_refine.specs.Below.fkv_keeper.TheKeeping.{Keeping}
 use Rattle.law_refine.specs.Below.fkv_keeper.TheKeeping.TheVariants.{Ended, Starts, Maintains, LoadsPhase, Enters, Copies, Seeks, Waits, Writes, Finishes}
-use Rattle.law_refine.specs.Below.fkv_keeper.Keeping.{KeeperState, commit_asked, ended, finish_ledto, finished, keeping_called, keeping_given, keeping_next, turn_asked, turned, write_ledto, writes_called}
+use Rattle.law_refine.specs.Below.fkv_keeper.Keeping.{KeeperState, come_to, commit_asked, ended, finish_ledto, finished, keeping_called, keeping_given, keeping_next, must_rest, turn_asked, turned, write_ledto, writes_called}
+use Rattle.law_refine.specs.Below.fkv_keeper.KeeperLaws.{MayRest}
 use Rattle.law_refine.specs.Below.fkv_keeper.KeeperRun.{BeginsCommit, BeginsTurn, Calls, Gets, IsOpened, KeeperEvent, Replies, begins, is_in_hand, keeper_happens, keeper_run}
 use Rattle.law_refine.specs.Below.fkv_world.OwnEvents.{keeper_events}
 use Rattle.law_refine.proofs.Below.law_world.OfKeeper.OwnRun.{of_keeper}
 use Rattle.law_refine.proofs.Below.law_world.OfStanding.Runs.{happens_at}
 use Rattle.law_commit.specs.BegunCommits.{BegunCommit, begun_at_end, begun_at_gate, begun_at_writes, begun_by, commit_opened, commits_begun, with_finished, with_opening, with_sealed}
-use Rattle.law_commit.specs.HeldCommits.{AreFinished, HaveFinished}
+use Rattle.law_commit.specs.HeldCommits.{AreFinished, BeginsAwake, HaveFinished, NoneBeginsInRest}
 use Rattle.law_commit.specs.Points.{BeginsAsTaken, BegunAreAsTaken, IsAsTaken}
-use Rattle.law_commit.proofs.BegunStands.{StandsAt, run_stands, there}
-use Rattle.law_commit.proofs.LifeBegun.{opening_finished}
+use Rattle.law_commit.proofs.BegunStands.{Stands, StandsAt, run_stands, there}
+use Rattle.law_commit.proofs.InRest.{AfterRest, after_rest, come_awake, rest_begun, rests_there}
+use Rattle.law_commit.proofs.NextNumbers.{numbers_in_turn}
+use Rattle.law_commit.proofs.OfPhases.LifeStages.{life_staged}
+use Rattle.law_commit.proofs.LifeBegun.{life_awake, opening_finished}
 use Rattle.law_commit.proofs.OfPoints.Taking.{KeeperTakes, KeepingReply, KeepingTakes, SeekReply, called_takes, commit_takes, given_takes, has_taken, opened_takes, replied_takes, turn_takes}
 
 -- where its writes are under way, and where it finishes, it has its commit's points
@@ -101,7 +105,7 @@ module _ (count : ℕ) where
 
   run_has : (shape : Shape) (p : Places) (opening : KeeperState) (events : List KeeperEvent) → IsOpened opening → opening.seek.sessions ≡ count → Has (keeper_run shape p opening events)
   unfolding keeper_run
-  run_has shape p opening [] opened sessions = opened_takes count Met Again Met opening opening.step refl opened.none_in_hand opened.no_commit sessions (λ session low. tt)
+  run_has shape p opening [] opened sessions = opened_takes count Met Again Met opening opening.step refl opened.none_in_hand opened.no_commit opened.none_rest sessions (λ session low. tt)
   run_has shape p opening (event ∷ before) opened sessions = event_has shape p (keeper_run shape p opening before) event (run_has shape p opening before opened sessions)
 
   run_points : (shape : Shape) (p : Places) (opening : KeeperState) (events : List KeeperEvent) → IsOpened opening → opening.seek.sessions ≡ count → HasPoints (keeper_run shape p opening events) (keeper_run shape p opening events).step
@@ -168,7 +172,11 @@ module _ (shape : Shape) (p : Places) (begun : List BegunCommit) (s : KeeperStat
   unfolding write_ledto
   write_keeps t None answer its = record { commit = its.commit; points = its.points; taken = its.taken }
   write_keeps t (Some c) write.Written its = record { commit = its.commit; points = its.points; taken = its.taken }
-  write_keeps t (Some c) write.Device its = its
+  write_keeps t (Some c) write.Device its = by (must_rest t)
+    where
+      by : (rests : Bool) → Keeps s (if rests then turned (record t { rests = true }) else t)
+      by true = record { commit = its.commit; points = its.points; taken = its.taken }
+      by false = its
   write_keeps t (Some c) (write.Broken why) its = its
 
   called_keeps : (done : Bool) → Keeps s (writes_called s done)
@@ -225,7 +233,7 @@ module _ (shape : Shape) (p : Places) (begun : List BegunCommit) (s : KeeperStat
   ended_led (Calls done bytes) told its = its
 
   -- each of them
-  step_on : (event : KeeperEvent) (step : Keeping) → s.step ≡ step → StandsAt begun s step → HasPoints s step → BeginsAsTaken s begun → Behind event step (keeper_happens shape p s event)
+  step_on : (event : KeeperEvent) (step : Keeping) → s.step ≡ step → StandsAt HaveFinished begun s step → HasPoints s step → BeginsAsTaken s begun → Behind event step (keeper_happens shape p s event)
   step_on event Writes at stands has_them its = subst (λ (a : KeeperState). Behind event Writes a) (there shape p s event Writes at) (writes_led event at has_them its)
   step_on event Finishes at stands has_them its = subst (λ (a : KeeperState). Behind event Finishes a) (there shape p s event Finishes at) (finishes_led event at its)
   step_on event (Ended told) at stands has_them its = subst (λ (a : KeeperState). BeginsAsTaken a begun) (there shape p s event (Ended told) at) (ended_led event told its)
@@ -237,16 +245,40 @@ module _ (shape : Shape) (p : Places) (begun : List BegunCommit) (s : KeeperStat
   step_on event Seeks at stands has_them its = finished_none (keeper_happens shape p s event) begun stands.finished
   step_on event Waits at stands has_them its = finished_none (keeper_happens shape p s event) begun stands.finished
 
+  -- where writes rest the commit in hand is as it was
+  rests_on : (event : KeeperEvent) → s.rests ≡ true → MayRest s.step → BeginsAwake s.rests s.step (keeper_happens shape p s event).step → BeginsAsTaken s begun → Behind event s.step (keeper_happens shape p s event)
+  rests_on event rests may awake its = subst (λ (x : List BegunCommit). BeginsAsTaken a x) (sym (rest_begun s s.step event a.step begun may)) (by (after_rest shape p s event rests may))
+    where
+      a : KeeperState
+      a = keeper_happens shape p s event
+
+      by : AfterRest s a → BeginsAsTaken a begun
+      by (inl kept) = begins_on s a begun (record { commit = kept.kept.commit; points = kept.kept.points; taken = kept.kept.taken }) its
+      by (inr begins) = absurd (clash (sym rests ∙ subst (λ (x : Keeping). BeginsAwake s.rests Starts x) begins.told (subst (λ (x : Keeping). BeginsAwake s.rests x a.step) begins.starts awake)))
+        where
+          clash : true ≡ false → ⊥
+          clash both = cc
+
+  event_on : (event : KeeperEvent) → (s.rests ≡ true → MayRest s.step) → BeginsAwake s.rests s.step (keeper_happens shape p s event).step → Stands HaveFinished begun s → HasPoints s s.step → BeginsAsTaken s begun
+      → Behind event s.step (keeper_happens shape p s event)
+  event_on event may awake stands has_them its = by s.rests refl
+    where
+      by : (b : Bool) → s.rests ≡ b → Behind event s.step (keeper_happens shape p s event)
+      by true rests = rests_on event rests (may rests) awake its
+      by false none = step_on event s.step refl (subst (λ (x : Keeping). StandsAt HaveFinished begun s x) (come_awake s s.step none refl) stands) has_them its
+
 -- ---- at each moment of a keeper's run
-run_begins : (shape : Shape) (p : Places) (opening : KeeperState) (first : List BegunCommit) (events : List KeeperEvent) → IsOpened opening → HaveFinished first opening.last
+run_begins : (shape : Shape) (p : Places) (opening : KeeperState) (first : List BegunCommit) (events : List KeeperEvent) → IsOpened opening → NoneBeginsInRest shape p opening events → HaveFinished first opening.last
     → BeginsAsTaken (keeper_run shape p opening events) (commits_begun shape p opening first events)
-unfolding keeper_run commits_begun
-run_begins shape p opening first [] opened all = finished_none opening first all.finished
-run_begins shape p opening first (event ∷ before) opened all =
+unfolding keeper_run commits_begun NoneBeginsInRest
+run_begins shape p opening first [] opened none all = finished_none opening first all.finished
+run_begins shape p opening first (event ∷ before) opened none all =
     let s : KeeperState = keeper_run shape p opening before in
-    step_on shape p (commits_begun shape p opening first before) s event s.step refl (run_stands shape p opening first before opened all) (run_points opening.seek.sessions shape p opening before opened refl) (run_begins shape p opening first before opened all)
+    event_on shape p (commits_begun shape p opening first before) s event (rests_there shape p opening before opened) none.0 (run_stands shape p opening first before opened none.1 all)
+    (run_points opening.seek.sessions shape p opening before opened refl) (run_begins shape p opening first before opened none.1 all)
 
 pub begun_as_taken : BegunAreAsTaken
 begun_as_taken opening start events opens =
     of_keeper (λ (s : KeeperState). BeginsAsTaken s (commits_begun opening.now.shape opening.now.places opening.now.keeper (commit_opened opening.now opening.past.opened ∷ []) (keeper_events opening events))) opening events
-    (run_begins opening.now.shape opening.now.places opening.now.keeper (commit_opened opening.now opening.past.opened ∷ []) (keeper_events opening events) opens.quiet.opened.keeper (opening_finished opening))
+    (run_begins opening.now.shape opening.now.places opening.now.keeper (commit_opened opening.now opening.past.opened ∷ []) (keeper_events opening events) opens.quiet.opened.keeper
+    (life_awake opening events (numbers_in_turn opening events opens.quiet.opened (life_staged opening start events opens.quiet.guarded opens.quiet.opened opens.quiet.seen.rests).rests)) (opening_finished opening))

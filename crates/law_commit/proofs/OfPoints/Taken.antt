@@ -413,7 +413,7 @@ module _ (live : LiveAreLater) (paper_sound : PaperIsSound) (cuts_show : CutsSho
   unfolding run
   opened_keeper =
       let said = ap rank_said opens.seen.rests.says in
-      opened_takes count (Met []) (Again []) (Point []) opening.now.keeper opening.now.keeper.step refl opens.guarded.keeper.none_in_hand opens.guarded.keeper.no_commit opens.sought
+      opened_takes count (Met []) (Again []) (Point []) opening.now.keeper opening.now.keeper.step refl opens.guarded.keeper.none_in_hand opens.guarded.keeper.no_commit opens.guarded.keeper.none_rest opens.sought
       (opened_last opening.now.keeper.last.number.0 (omega (arith, said)))
 
   life_takes : (events : List Event) → Takes events (run opening events).now.keeper

@@ -2,7 +2,7 @@
 use Rattle.std.specs.Prelude.{◌≡◌, ◌⊎◌, ◌+◌, ◌≤◌, ◌∷◌, ℕ, Bool, List, [], length}
 use Rattle.fkv_base.specs.declared.shapes.Shape.{Shape}
 use Rattle.law_refine.specs.Below.fkv_keeper.TheKeeping.TheVariants.{Finishes}
-use Rattle.law_refine.specs.Below.fkv_keeper.Keeping.{KeeperState}
+use Rattle.law_refine.specs.Below.fkv_keeper.Keeping.{KeeperState, come_to}
 use Rattle.law_refine.specs.Below.fkv_session.OwnTurns.{OwnTurnState, own_turn_ask}
 use Rattle.law_refine.specs.Below.fkv_session.Sessions.{SessionState}
 use Rattle.law_refine.specs.Below.law_world.Standing.Opening.{AreNumbersInTurn}
@@ -14,7 +14,7 @@ use Rattle.law_refine.specs.Below.law_world.Guarded.Shows.{IsOpened}
 use Rattle.law_commit.specs.Accepted.{HasRisingVersion, NeverFall, point, versions_accepted}
 use Rattle.law_commit.specs.LastSerials.{serial_at}
 use Rattle.law_commit.specs.BegunCommits.{AreInTurn}
-use Rattle.law_commit.specs.HeldCommits.{AtKeeping}
+use Rattle.law_commit.specs.HeldCommits.{AtKeeping, NoneBeginsInRest}
 use Rattle.law_commit.specs.FinishedCommits.{commits_finished, commits_told, told_of}
 use Rattle.law_commit.specs.PhaseStores.{SparesPhase, StoresClaimed, StoresItsPhase, phase_at}
 use Rattle.law_commit.specs.PhaseVersions.{phase_version}
@@ -78,11 +78,18 @@ ViewsAreStamped =
     (opening : World) (events : List Event) (event : Event) (session : ℕ)
     → IsSightAfter (run opening events).now.words (sight_of opening events session) (sight_of opening (event ∷ events) session)
 
--- the commits that have begun are as the keeper's step says
+-- The commits that have begun are as the step says to which the keeper has come. Where no writes rest that is its own.
 abbrev pub BegunAreAsKept : Type 0
 BegunAreAsKept =
     (opening : World) (events : List Event) → IsOpenedWorld opening
-    → AtKeeping (prefix_past opening events).begun (run opening events).now.keeper (run opening events).now.keeper.step
+    → NoneBeginsInRest opening.now.shape opening.now.places opening.now.keeper (keeper_events opening events)
+    → AtKeeping (prefix_past opening events).begun (run opening events).now.keeper (come_to (run opening events).now.keeper)
+
+-- none begins where the writes of another rest
+abbrev pub BeginNoneInRest : Type 0
+BeginNoneInRest =
+    (opening : World) (start : ℕ) (events : List Event) → IsOpenedWorld opening → IsOpened opening.now start → OpensAtRest opening.now
+    → NoneBeginsInRest opening.now.shape opening.now.places opening.now.keeper (keeper_events opening events)
 
 -- where a commit's words are stored it says what was written
 abbrev pub NewestIsAsWritten : Type 0
