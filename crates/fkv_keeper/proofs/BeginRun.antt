@@ -39,6 +39,13 @@ either before false x y one other = other
 pub begins_first : (s : KeeperState) (kind : CommitKind) → Begins s.commit (commit_asked s kind) (commit_asked s kind).step
 begins_first s kind = either s.commit s.is_broken _ _ refl (either s.commit s.rests _ _ refl refl)
 
+either_commit : (before : Option Commit) (b : Bool) (x y : KeeperState) → x.commit ≡ before → y.commit ≡ before → (if b then x else y).commit ≡ before
+either_commit before true x y one other = one
+either_commit before false x y one other = other
+
+pub asked_keeps : (s : KeeperState) (kind : CommitKind) → (commit_asked s kind).commit ≡ s.commit
+asked_keeps s kind = either_commit s.commit s.is_broken _ _ refl (either_commit s.commit s.rests _ _ refl refl)
+
 inside : (before : Option Commit) (s : KeeperState) → s.step ≡ Starts → s.commit ≡ before → Begins before s s.step
 inside before s at same = rw at same
 

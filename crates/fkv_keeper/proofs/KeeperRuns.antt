@@ -356,7 +356,7 @@ either_commit false s a o one other = other
 turn_commit : (shape : Shape) (p : Places) (s : KeeperState) (step : Keeping) (event : KeeperEvent) → IsBeforePhase step → (happens_at shape p s step event).commit ≡ s.commit
 unfolding keeping_next keeping_given keeping_called
 turn_commit shape p s (Ended its) BeginsTurn before = either_commit s.is_broken s _ _ refl refl
-turn_commit shape p s (Ended its) (BeginsCommit kind) before = either_commit s.is_broken s _ _ refl refl
+turn_commit shape p s (Ended its) (BeginsCommit kind) before = either_commit s.is_broken s _ _ refl (either_commit s.rests s _ _ refl refl)
 turn_commit shape p s (Ended its) (Replies reply granted) before = refl
 turn_commit shape p s (Ended its) (Gets action) before = refl
 turn_commit shape p s (Ended its) (Calls done bytes) before = refl
