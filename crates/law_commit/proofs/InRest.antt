@@ -1,9 +1,8 @@
--- What an event makes of a keeper while writes rest. They rest still, go on, or a call has failed, and what is written is as it was; or another commit begins.
+-- What an event makes of a keeper while writes rest. They rest still, go on, or a call has failed, and what is written is as it was.
 use Rattle.std.proofs.Common.{◌≡◌, ℕ, ◌∙◌, ◌⊎◌, inl, inr, List, refl, ap, subst, Bool, true, false}
 use Rattle.std.specs.Prelude.{Option, Some, None, if◌then◌else◌}
 use Rattle.fkv_base.specs.declared.commits.CommitKind.{CommitKind}
 use Rattle.fkv_base.specs.declared.faults.Fault.TheVariants as fault
-use Rattle.fkv_base.specs.declared.numbers.Version.{Version}
 use Rattle.fkv_base.specs.declared.shapes.Shape.{Shape}
 use Rattle.fkv_words.specs.declared.phase_words.PhaseSaid.{PhaseSaid}
 use Rattle.fkv_words.specs.PhaseWords.{phase_said}
@@ -11,19 +10,17 @@ use Rattle.fkv_plane.specs.declared.asks.Ask.{Ask}
 use Rattle.fkv_plane.specs.declared.asks.Ask.TheVariants.{Done}
 use Rattle.fkv_plane.specs.declared.places.Places.{Places}
 use Rattle.law_refine.specs.Below.fkv_commit.Commit.{Commit}
-use Rattle.law_refine.specs.Below.fkv_commit.StartAnswer.{StartAnswer}
-use Rattle.law_refine.specs.Below.fkv_commit.StartAnswer.TheVariants as start
-use Rattle.law_refine.specs.Below.fkv_commit.Starting.{start_ask, start_begun, start_next}
+use Rattle.law_refine.specs.Below.fkv_commit.Starting.{start_begun}
 use Rattle.law_refine.specs.Below.fkv_maintain.MaintainAnswer.{MaintainAnswer}
 use Rattle.law_refine.specs.Below.fkv_maintain.MaintainAnswer.TheVariants as maintain
 use Rattle.law_refine.specs.Below.fkv_maintain.Maintaining.{MaintainState, maintain_ask, maintain_called, maintain_given, maintain_next}
 use Rattle.law_refine.specs.Below.fkv_manifest.Committing.{CommitWriter}
 use Rattle.law_refine.specs.Below.fkv_keeper.KeeperTold.{KeeperTold}
-use Rattle.law_refine.specs.Below.fkv_keeper.KeeperTold.TheVariants.{Begun, CommitRefused, TurnRefused}
+use Rattle.law_refine.specs.Below.fkv_keeper.KeeperTold.TheVariants.{CommitRefused, TurnRefused}
 use Rattle.law_refine.specs.Below.fkv_keeper.TheKeeping.{Keeping}
 use Rattle.law_refine.specs.Below.fkv_keeper.TheKeeping.TheVariants.{Ended, Starts, Maintains, LoadsPhase, Enters, Copies, Seeks, Waits, Writes, Finishes}
 use Rattle.law_refine.specs.Below.fkv_keeper.CheckpointLaws.{MayFollow, MayStep}
-use Rattle.law_refine.specs.Below.fkv_keeper.Keeping.{KeeperState, asked_for, come_to, commit_asked, ended, keeping_called, keeping_given, keeping_next, maintain_ledto, part_begun, parts_begun, phase_ledto, start_ledto, turn_asked, writes_taken_up}
+use Rattle.law_refine.specs.Below.fkv_keeper.Keeping.{KeeperState, asked_for, come_to, commit_asked, ended, keeping_called, keeping_given, keeping_next, maintain_ledto, part_begun, parts_begun, phase_ledto, turn_asked, writes_taken_up}
 use Rattle.law_refine.specs.Below.fkv_keeper.KeeperLaws.{MayRest}
 use Rattle.law_refine.specs.Below.fkv_keeper.KeeperRun.{BeginsCommit, BeginsTurn, Calls, Gets, IsOpened, KeeperEvent, Replies, keeper_happens, keeper_run}
 use Rattle.law_refine.proofs.Below.fkv_keeper.Shown.{BeginsRest, each_rests, run_rests}
@@ -58,15 +55,15 @@ follows_or_writes rests step after steps = inl steps
 pub rests_there : (shape : Shape) (p : Places) (opening : KeeperState) (events : List KeeperEvent) → IsOpened opening → (keeper_run shape p opening events).rests ≡ true → MayRest (keeper_run shape p opening events).step
 rests_there shape p opening events opened rests = (run_rests shape p opening events opened rests).rests
 
-pub awake_at : (shape : Shape) (p : Places) (opening : KeeperState) (events : List KeeperEvent) (step : Keeping) → IsOpened opening → (keeper_run shape p opening events).step ≡ step → (MayRest step → ⊥) → (keeper_run shape p opening events).rests ≡ false
-awake_at shape p opening events step opened e not = by s.rests refl
+pub awake_so : (s : KeeperState) (step : Keeping) → s.step ≡ step → (MayRest step → ⊥) → (s.rests ≡ true → MayRest s.step) → s.rests ≡ false
+awake_so s step e not may = by s.rests refl
   where
-    s : KeeperState
-    s = keeper_run shape p opening events
-
     by : (b : Bool) → s.rests ≡ b → b ≡ false
-    by true rests = absurd (not (subst MayRest e (rests_there shape p opening events opened rests)))
+    by true rests = absurd (not (subst MayRest e (may rests)))
     by false awake = refl
+
+pub awake_at : (shape : Shape) (p : Places) (opening : KeeperState) (events : List KeeperEvent) (step : Keeping) → IsOpened opening → (keeper_run shape p opening events).step ≡ step → (MayRest step → ⊥) → (keeper_run shape p opening events).rests ≡ false
+awake_at shape p opening events step opened e not = awake_so (keeper_run shape p opening events) step e not (rests_there shape p opening events opened)
 
 -- what is written of the commit in hand, and its points, are as they were
 pub record IsKept (s a : KeeperState) : Type 0 where
@@ -90,52 +87,34 @@ pub record HasBroken (a : KeeperState) : Type 0 where
   pub told : KeeperTold
   pub ended : a.step ≡ Ended told
 
-pub record IsKeptInRest (s a : KeeperState) : Type 0 where
+pub record AfterRest (s a : KeeperState) : Type 0 where
   pub kept : IsKept s a
   pub goes : (a.rests ≡ true) ⊎ (GoesOn a ⊎ HasBroken a)
 
--- another commit begins
-pub record IsBegunInRest (s a : KeeperState) : Type 0 where
-  pub number : Version
-  pub starts : s.step ≡ Starts
-  pub told : a.step ≡ Ended (Begun number)
-  pub awake : a.rests ≡ false
-  pub last : a.last ≡ s.last
-
-abbrev pub AfterRest : KeeperState → KeeperState → Type 0
-AfterRest s a = IsKeptInRest s a ⊎ IsBegunInRest s a
-
 as_it_was : (s : KeeperState) → s.rests ≡ true → AfterRest s s
-as_it_was s rests = inl (record { kept = record { commit = refl; writes = refl; points = refl; taken = refl; used = refl; last = refl; lost = refl }; goes = inl rests })
-
-start_after : (s : KeeperState) (reply : ℕ) (ask : Ask StartAnswer) → s.step ≡ Starts → s.rests ≡ true → AfterRest s (start_ledto (record s { start = start_next s.start reply }) ask)
-unfolding start_ledto
-start_after s reply (Done (start.Begun number first)) e rests = inr (record { number = number; starts = e; told = refl; awake = refl; last = refl })
-start_after s reply (Done (start.Refused why)) e rests = inl (record { kept = record { commit = refl; writes = refl; points = refl; taken = refl; used = refl; last = refl; lost = refl }; goes = inl rests })
-start_after s reply (Done start.Idle) e rests = inl (record { kept = record { commit = refl; writes = refl; points = refl; taken = refl; used = refl; last = refl; lost = refl }; goes = inl rests })
-start_after s reply ask e rests = inl (record { kept = record { commit = refl; writes = refl; points = refl; taken = refl; used = refl; last = refl; lost = refl }; goes = inl rests })
+as_it_was s rests = record { kept = record { commit = refl; writes = refl; points = refl; taken = refl; used = refl; last = refl; lost = refl }; goes = inl rests }
 
 maintain_after : (s : KeeperState) (m : MaintainState) (ask : Ask MaintainAnswer) → s.rests ≡ true → AfterRest s (maintain_ledto (record s { maintain = m }) ask)
 unfolding maintain_ledto
-maintain_after s m (Done maintain.Through) rests = inl (record { kept = record { commit = refl; writes = refl; points = refl; taken = refl; used = refl; last = refl; lost = refl }; goes = inl rests })
-maintain_after s m (Done maintain.Spent) rests = inl (record { kept = record { commit = refl; writes = refl; points = refl; taken = refl; used = refl; last = refl; lost = refl }; goes = inl rests })
-maintain_after s m (Done maintain.Broken) rests = inl (record {
+maintain_after s m (Done maintain.Through) rests = record { kept = record { commit = refl; writes = refl; points = refl; taken = refl; used = refl; last = refl; lost = refl }; goes = inl rests }
+maintain_after s m (Done maintain.Spent) rests = record { kept = record { commit = refl; writes = refl; points = refl; taken = refl; used = refl; last = refl; lost = refl }; goes = inl rests }
+maintain_after s m (Done maintain.Broken) rests = record {
   kept = record { commit = refl; writes = refl; points = refl; taken = refl; used = refl; last = refl; lost = refl };
   goes = inr (inr (record { awake = refl; broken = refl; told = TurnRefused fault.Device; ended = refl }));
-})
-maintain_after s m ask rests = inl (record { kept = record { commit = refl; writes = refl; points = refl; taken = refl; used = refl; last = refl; lost = refl }; goes = inl rests })
+}
+maintain_after s m ask rests = record { kept = record { commit = refl; writes = refl; points = refl; taken = refl; used = refl; last = refl; lost = refl }; goes = inl rests }
 
 phase_after : (p : Places) (s : KeeperState) (found : Option Commit) (said : PhaseSaid) (granted : Bool) → s.rests ≡ true → AfterRest s (phase_ledto p s found said granted)
 unfolding phase_ledto
-phase_after p s None said granted rests = inl (record { kept = record { commit = refl; writes = refl; points = refl; taken = refl; used = refl; last = refl; lost = refl }; goes = inl rests })
+phase_after p s None said granted rests = record { kept = record { commit = refl; writes = refl; points = refl; taken = refl; used = refl; last = refl; lost = refl }; goes = inl rests }
 phase_after p s (Some c) said granted rests = by s.rests rests granted
   where
     by : (b : Bool) → b ≡ true → (granted : Bool) → AfterRest s (if b then writes_taken_up s granted else part_begun p s c said granted)
-    by true so true = inl (record {
+    by true so true = record {
       kept = record { commit = refl; writes = refl; points = refl; taken = refl; used = refl; last = refl; lost = refl };
       goes = inr (inl (record { awake = refl; writes = refl }));
-    })
-    by true so false = inl (record { kept = record { commit = refl; writes = refl; points = refl; taken = refl; used = refl; last = refl; lost = refl }; goes = inl rests })
+    }
+    by true so false = record { kept = record { commit = refl; writes = refl; points = refl; taken = refl; used = refl; last = refl; lost = refl }; goes = inl rests }
     by false so granted = cc
 
 either_after : (s : KeeperState) (b : Bool) (x y : KeeperState) → AfterRest s x → AfterRest s y → AfterRest s (if b then x else y)
@@ -145,14 +124,14 @@ either_after s false x y one other = other
 turn_after : (s : KeeperState) → s.rests ≡ true → AfterRest s (turn_asked s)
 turn_after s rests =
     either_after s s.is_broken (ended s (TurnRefused fault.Broken)) (record s { maintain = parts_begun s.rests s.maintain; is_drain_full = false; step = Maintains })
-    (inl (record { kept = record { commit = refl; writes = refl; points = refl; taken = refl; used = refl; last = refl; lost = refl }; goes = inl rests }))
-    (inl (record { kept = record { commit = refl; writes = refl; points = refl; taken = refl; used = refl; last = refl; lost = refl }; goes = inl rests }))
+    (record { kept = record { commit = refl; writes = refl; points = refl; taken = refl; used = refl; last = refl; lost = refl }; goes = inl rests }) (record { kept = record { commit = refl; writes = refl; points = refl; taken = refl; used = refl; last = refl; lost = refl }; goes = inl rests })
 
 commit_after : (s : KeeperState) (kind : CommitKind) → s.rests ≡ true → AfterRest s (commit_asked s kind)
 commit_after s kind rests =
-    either_after s s.is_broken (ended s (CommitRefused fault.Broken)) (record s { start = start_begun s.start (asked_for s kind); step = Starts })
-    (inl (record { kept = record { commit = refl; writes = refl; points = refl; taken = refl; used = refl; last = refl; lost = refl }; goes = inl rests }))
-    (inl (record { kept = record { commit = refl; writes = refl; points = refl; taken = refl; used = refl; last = refl; lost = refl }; goes = inl rests }))
+    either_after s s.is_broken (ended s (CommitRefused fault.Broken)) (if s.rests then ended s (CommitRefused fault.CommitRunning) else record s { start = start_begun s.start (asked_for s kind); step = Starts })
+    (record { kept = record { commit = refl; writes = refl; points = refl; taken = refl; used = refl; last = refl; lost = refl }; goes = inl rests })
+    (either_after s s.rests (ended s (CommitRefused fault.CommitRunning)) (record s { start = start_begun s.start (asked_for s kind); step = Starts })
+    (record { kept = record { commit = refl; writes = refl; points = refl; taken = refl; used = refl; last = refl; lost = refl }; goes = inl rests }) (record { kept = record { commit = refl; writes = refl; points = refl; taken = refl; used = refl; last = refl; lost = refl }; goes = inl rests }))
 
 happens_after : (shape : Shape) (p : Places) (s : KeeperState) (step : Keeping) (event : KeeperEvent) → s.step ≡ step → s.rests ≡ true → MayRest step → AfterRest s (happens_at shape p s step event)
 unfolding keeping_next keeping_given keeping_called
@@ -161,11 +140,6 @@ happens_after shape p s (Ended its) (BeginsCommit kind) e rests may = commit_aft
 happens_after shape p s (Ended its) (Replies reply granted) e rests may = as_it_was s rests
 happens_after shape p s (Ended its) (Gets action) e rests may = as_it_was s rests
 happens_after shape p s (Ended its) (Calls done bytes) e rests may = as_it_was s rests
-happens_after shape p s Starts (Replies reply granted) e rests may = start_after s reply (start_ask (start_next s.start reply)) e rests
-happens_after shape p s Starts BeginsTurn e rests may = as_it_was s rests
-happens_after shape p s Starts (BeginsCommit kind) e rests may = as_it_was s rests
-happens_after shape p s Starts (Gets action) e rests may = as_it_was s rests
-happens_after shape p s Starts (Calls done bytes) e rests may = as_it_was s rests
 happens_after shape p s Maintains (Replies reply granted) e rests may = maintain_after s (maintain_next shape p s.maintain reply) (maintain_ask shape p (maintain_next shape p s.maintain reply)) rests
 happens_after shape p s Maintains (Gets action) e rests may = maintain_after s (maintain_given s.maintain action) (maintain_ask shape p (maintain_given s.maintain action)) rests
 happens_after shape p s Maintains (Calls done bytes) e rests may = maintain_after s (maintain_called shape p s.maintain done bytes) (maintain_ask shape p (maintain_called shape p s.maintain done bytes)) rests

@@ -13,13 +13,13 @@ use Rattle.law_refine.specs.Below.fkv_keeper.KeeperTold.TheVariants.{Turned, Beg
 use Rattle.law_refine.specs.Below.fkv_keeper.TheKeeping.{Keeping}
 use Rattle.law_refine.specs.Below.fkv_keeper.TheKeeping.TheVariants.{Ended, Starts, Maintains, LoadsPhase, Enters, Copies, Seeks, Waits, Writes, Finishes}
 use Rattle.law_refine.specs.Below.fkv_keeper.CheckpointLaws.{GoesOn, IsBegun, IsCommitAfter, IsFinished}
-use Rattle.law_refine.specs.Below.fkv_keeper.Keeping.{KeeperState, come_to}
+use Rattle.law_refine.specs.Below.fkv_keeper.Keeping.{KeeperState}
 use Rattle.law_refine.specs.Below.fkv_keeper.KeeperLaws.{MayRest}
 use Rattle.law_refine.specs.Below.fkv_keeper.KeeperRun.{KeeperEvent, BeginsTurn, BeginsCommit, Replies, Gets, Calls, IsOpened, keeper_happens, keeper_run}
 use Rattle.law_refine.proofs.Below.fkv_keeper.Shown.{each_move}
 use Rattle.law_refine.specs.Below.law_world.Standing.Opening.{AreNumbersInTurn, IsNumberInTurn}
 use Rattle.law_commit.specs.BegunCommits.{BegunCommit, AreInTurn, ComesNext, begun_at_end, begun_at_gate, begun_at_writes, begun_by, commit_opening, commits_begun, with_finished, with_sealed}
-use Rattle.law_commit.specs.HeldCommits.{BeginsAwake, HaveFinished, NoneBeginsInRest}
+use Rattle.law_commit.specs.HeldCommits.{HaveFinished}
 use Rattle.law_commit.proofs.BegunStands.{AtGate, AtWrites, Stands, StandsAt, run_stands}
 use Rattle.law_commit.proofs.InRest.{come_awake, rest_begun, rests_there}
 
@@ -47,24 +47,24 @@ has_last : (s a : KeeperState) (c : Commit) → a.commit ≡ Some c → Lists s 
 has_last s a c e (inl same) = same.0
 has_last s a c e (inr other) = absurd (not_none a.commit c other.2.none_in_hand e)
 
-begun_next : (s a : KeeperState) → IsBegun s a → IsNumberInTurn s.rests s.last.number s.step a.step → Lists s a → NextInHand a
+begun_next : (s a : KeeperState) → IsBegun s a → IsNumberInTurn s.last.number s.step a.step → Lists s a → NextInHand a
 begun_next s a its turn lists c e =
-    let turned : IsNumberInTurn s.rests s.last.number Starts (Ended (Begun its.commit.number)) =
-    subst (λ (x : Keeping). IsNumberInTurn s.rests s.last.number x (Ended (Begun its.commit.number))) its.starts (subst (λ (x : Keeping). IsNumberInTurn s.rests s.last.number s.step x) its.told turn) in
+    let turned : IsNumberInTurn s.last.number Starts (Ended (Begun its.commit.number)) =
+    subst (λ (x : Keeping). IsNumberInTurn s.last.number x (Ended (Begun its.commit.number))) its.starts (subst (λ (x : Keeping). IsNumberInTurn s.last.number s.step x) its.told turn) in
     rw (starts_last s a its.starts lists) (rw (some_commit a.commit c its.commit e its.in_hand) turned.0)
 
 goes_next : (s a : KeeperState) (b : Commit) → NextInHand s → s.commit ≡ Some b → GoesOn b a.commit → Lists s a → NextInHand a
 goes_next s a b next was its lists c e =
     rw (has_last s a c e lists) (rw (some_commit a.commit c its.commit e its.in_hand) (ap (λ (x : Version). x.0) its.number ∙ next b was))
 
-next_after : (s a : KeeperState) (found : Option Commit) → s.commit ≡ found → NextInHand s → IsNumberInTurn s.rests s.last.number s.step a.step → IsCommitAfter found s a → Lists s a → NextInHand a
+next_after : (s a : KeeperState) (found : Option Commit) → s.commit ≡ found → NextInHand s → IsNumberInTurn s.last.number s.step a.step → IsCommitAfter found s a → Lists s a → NextInHand a
 next_after s a None was next turn (inl none) lists = λ c e. absurd (not_none a.commit c none e)
 next_after s a None was next turn (inr begun) lists = begun_next s a begun turn lists
 next_after s a (Some b) was next turn (inl goes) lists = goes_next s a b next was goes lists
 next_after s a (Some b) was next turn (inr (inl over)) lists = λ c e. absurd (not_none a.commit c over.none_in_hand e)
 next_after s a (Some b) was next turn (inr (inr begun)) lists = begun_next s a begun turn lists
 
-event_next : (shape : Shape) (p : Places) (s : KeeperState) (event : KeeperEvent) → NextInHand s → IsNumberInTurn s.rests s.last.number s.step (keeper_happens shape p s event).step → NextInHand (keeper_happens shape p s event)
+event_next : (shape : Shape) (p : Places) (s : KeeperState) (event : KeeperEvent) → NextInHand s → IsNumberInTurn s.last.number s.step (keeper_happens shape p s event).step → NextInHand (keeper_happens shape p s event)
 event_next shape p s event next turn =
     let move = each_move shape p s event in
     next_after s (keeper_happens shape p s event) s.commit refl next turn move.copies.commit move.lists.lists
@@ -73,18 +73,6 @@ run_next : (shape : Shape) (p : Places) (opening : KeeperState) (events : List K
 unfolding keeper_run AreNumbersInTurn
 run_next shape p opening [] opened turn = λ c e. absurd (not_none opening.commit c opened.no_commit e)
 run_next shape p opening (event ∷ before) opened turn = event_next shape p (keeper_run shape p opening before) event (run_next shape p opening before opened turn.1) turn.0
-
--- where the numbers come in turn none begins in a rest
-awake_so : (rests : Bool) (last : Version) (step after : Keeping) → IsNumberInTurn rests last step after → BeginsAwake rests step after
-awake_so rests last Starts (Ended (Begun number)) turn = turn.2
-awake_so rests last step after turn = tt
-
-pub run_awake : (shape : Shape) (p : Places) (opening : KeeperState) (events : List KeeperEvent) → AreNumbersInTurn shape p opening events → NoneBeginsInRest shape p opening events
-unfolding AreNumbersInTurn NoneBeginsInRest
-run_awake shape p opening [] turn = tt
-run_awake shape p opening (event ∷ before) turn =
-    let s : KeeperState = keeper_run shape p opening before in
-    (awake_so s.rests s.last.number s.step (keeper_run shape p opening (event ∷ before)).step turn.0, run_awake shape p opening before turn.1)
 
 -- what becomes of the list
 sealed_turn : (begun : List BegunCommit) → AreInTurn begun → AreInTurn (with_sealed begun)
@@ -110,17 +98,17 @@ opening_turn : (s : KeeperState) (begun : List BegunCommit) (found : Option Comm
 opening_turn s begun None done next none all its = rw none its
 opening_turn s begun (Some c) done next found all its = rw found (opened_turn s begun c next found all its)
 
-gate_turn : (s : KeeperState) (begun : List BegunCommit) (step : Gating) (done : Bool) → NextInHand s → AtGate HaveFinished begun s step → AreInTurn begun → AreInTurn (begun_at_gate s step done begun)
+gate_turn : (s : KeeperState) (begun : List BegunCommit) (step : Gating) (done : Bool) → NextInHand s → AtGate begun s step → AreInTurn begun → AreInTurn (begun_at_gate s step done begun)
 gate_turn s begun gate.Opens done next at its = opening_turn s begun s.commit done next refl at its
 gate_turn s begun gate.SyncsOpen true next at its = sealed_turn begun its
 gate_turn s begun gate.SyncsOpen false next at its = its
 gate_turn s begun step done next at its = its
 
-writes_turn : (s : KeeperState) (begun : List BegunCommit) (step : Committing) (done : Bool) → NextInHand s → AtWrites HaveFinished begun s step → AreInTurn begun → AreInTurn (begun_at_writes s step done begun)
+writes_turn : (s : KeeperState) (begun : List BegunCommit) (step : Committing) (done : Bool) → NextInHand s → AtWrites begun s step → AreInTurn begun → AreInTurn (begun_at_writes s step done begun)
 writes_turn s begun committing.PutsSlot done next at its = gate_turn s begun s.writes.gate.step done next at its
 writes_turn s begun step done next at its = its
 
-event_turn : (s : KeeperState) (begun : List BegunCommit) (step : Keeping) (event : KeeperEvent) (after : Keeping) → NextInHand s → StandsAt HaveFinished begun s step → AreInTurn begun → AreInTurn (begun_by s step event after begun)
+event_turn : (s : KeeperState) (begun : List BegunCommit) (step : Keeping) (event : KeeperEvent) (after : Keeping) → NextInHand s → StandsAt begun s step → AreInTurn begun → AreInTurn (begun_by s step event after begun)
 event_turn s begun Writes (Calls done bytes) after next at its = writes_turn s begun s.writes.step done next at its
 event_turn s begun Writes BeginsTurn after next at its = its
 event_turn s begun Writes (BeginsCommit kind) after next at its = its
@@ -137,12 +125,12 @@ event_turn s begun Seeks event after next at its = its
 event_turn s begun Waits event after next at its = its
 
 -- where writes rest it stays as it is
-come_turn : (s : KeeperState) (begun : List BegunCommit) (event : KeeperEvent) (after : Keeping) → (s.rests ≡ true → MayRest s.step) → NextInHand s → Stands HaveFinished begun s → AreInTurn begun → AreInTurn (begun_by s s.step event after begun)
+come_turn : (s : KeeperState) (begun : List BegunCommit) (event : KeeperEvent) (after : Keeping) → (s.rests ≡ true → MayRest s.step) → NextInHand s → Stands begun s → AreInTurn begun → AreInTurn (begun_by s s.step event after begun)
 come_turn s begun event after may next at its = by s.rests refl
   where
     by : (b : Bool) → s.rests ≡ b → AreInTurn (begun_by s s.step event after begun)
     by true rests = subst (λ (x : List BegunCommit). AreInTurn x) (sym (rest_begun s s.step event after begun (may rests))) its
-    by false awake = event_turn s begun s.step event after next (subst (λ (x : Keeping). StandsAt HaveFinished begun s x) (come_awake s s.step awake refl) at) its
+    by false awake = event_turn s begun s.step event after next (subst (λ (x : Keeping). StandsAt begun s x) (come_awake s s.step awake refl) at) its
 
 pub run_turn : (shape : Shape) (p : Places) (opening : KeeperState) (first : List BegunCommit) (events : List KeeperEvent) → IsOpened opening → HaveFinished first opening.last → AreInTurn first → AreNumbersInTurn shape p opening events
     → AreInTurn (commits_begun shape p opening first events)
@@ -150,4 +138,4 @@ unfolding commits_begun AreNumbersInTurn
 run_turn shape p opening first [] opened all its turn = its
 run_turn shape p opening first (event ∷ before) opened all its turn =
     come_turn (keeper_run shape p opening before) (commits_begun shape p opening first before) event (keeper_run shape p opening (event ∷ before)).step (rests_there shape p opening before opened) (run_next shape p opening before opened turn.1)
-    (run_stands shape p opening first before opened (run_awake shape p opening before turn.1) all) (run_turn shape p opening first before opened all its turn.1)
+    (run_stands shape p opening first before opened all) (run_turn shape p opening first before opened all its turn.1)

@@ -13,7 +13,6 @@ use Rattle.law_refine.specs.Below.fkv_commit.Finishing.{finish_ask, finish_next}
 use Rattle.law_refine.specs.Below.fkv_manifest.WriteAnswer.{WriteAnswer}
 use Rattle.law_refine.specs.Below.fkv_manifest.WriteAnswer.TheVariants as write
 use Rattle.law_refine.specs.Below.fkv_manifest.Committing.{CommitWriter, commit_next, commit_answer}
-use Rattle.law_refine.specs.Below.fkv_keeper.KeeperTold.TheVariants.{Begun}
 use Rattle.law_refine.specs.Below.fkv_keeper.TheKeeping.{Keeping}
 use Rattle.law_refine.specs.Below.fkv_keeper.TheKeeping.TheVariants.{Ended, Starts, Maintains, LoadsPhase, Enters, Copies, Seeks, Waits, Writes, Finishes}
 use Rattle.law_refine.specs.Below.fkv_keeper.CheckpointLaws.{BegunWith, IsBeingWritten, IsBehindWait, MayFollow, UsesAs, begun_with, copy_replies}
@@ -28,11 +27,11 @@ use Rattle.law_refine.specs.Below.fkv_world.Runs.{World, run}
 use Rattle.law_refine.specs.Below.fkv_world.World.{Event}
 use Rattle.law_refine.proofs.Below.law_world.OfKeeper.OwnRun.{of_keeper}
 use Rattle.law_commit.specs.BegunCommits.{BegunCommit, commit_opened, commits_begun, life_begun}
-use Rattle.law_commit.specs.HeldCommits.{HaveFinished}
+use Rattle.law_commit.specs.HeldCommits.{HaveFinished, IsInHand}
 use Rattle.law_commit.specs.WrittenCommits.{NewestIsWritten, UsesAsKind, life_told}
 use Rattle.law_refine.specs.Below.law_world.Keeper.Lives.{life_writing}
 use Rattle.law_refine.proofs.Below.law_world.OfStanding.Runs.{happens_at}
-use Rattle.law_commit.proofs.BegunStands.{IsAsTold, IsCalm, IsHeld, StandsAt, no_finish, no_writes, run_told, same_commit, there}
+use Rattle.law_commit.proofs.BegunStands.{IsCalm, StandsAt, no_finish, no_writes, run_stands, same_commit, there}
 use Rattle.law_commit.proofs.InRest.{AfterRest, GoesOn, HasBroken, after_rest, awake_at, come_awake, come_rested, rests_there, stays_awake}
 use Rattle.law_commit.proofs.LifeBegun.{opening_finished}
 
@@ -163,16 +162,15 @@ rest_writing Writes event after w may = absurd may
 rest_writing step event after w may = refl
 
 after_same : (s a : KeeperState) (w : Writing) → AfterRest s a → s.writes.triples ≡ w.first.triples → IsSame a w
-after_same s a w (inl kept) its = by kept.goes
+after_same s a w its same = by its.goes
   where
     written : a.writes.triples ≡ w.first.triples
-    written = ap (λ (x : CommitWriter). x.triples) kept.kept.writes ∙ its
+    written = ap (λ (x : CommitWriter). x.triples) its.kept.writes ∙ same
 
     by : (a.rests ≡ true) ⊎ (GoesOn a ⊎ HasBroken a) → IsSame a w
     by (inl still) = come_same a w Writes (come_rested a still) written
     by (inr (inl on)) = come_same a w Writes (come_awake a Writes on.awake on.writes) written
     by (inr (inr broken)) = come_same a w (Ended broken.told) (come_awake a (Ended broken.told) broken.awake broken.ended) tt
-after_same s a w (inr begins) its = come_same a w (Ended (Begun begins.number)) (come_awake a (Ended (Begun begins.number)) begins.awake begins.told) tt
 
 event_same : (shape : Shape) (p : Places) (s : KeeperState) (w : Writing) (event : KeeperEvent) → (s.rests ≡ true → MayRest s.step) → IsSame s w
     → IsSame (keeper_happens shape p s event) (writing_after s.step event (keeper_happens shape p s event) w)
@@ -217,7 +215,7 @@ uses_so Full p replies w s c newest number first checkpoint triples uses =
 uses_so Log p replies w s c newest number first checkpoint triples uses = (checkpoint ∙ uses.used, sym triples ∙ uses.triples)
 
 said_so : (shape : Shape) (p : Places) (replies : List ℕ) (told : Option BegunWith) (w : Writing) (s : KeeperState) (begun : List BegunCommit) (c : Commit)
-    → (its : IsHeld IsAsTold begun s true) → its.commit ≡ c → (written : IsWritten shape s w) → written.commit ≡ c → (used : IsBeingWritten p replies told w s) → used.commit ≡ c → s.writes.triples ≡ w.first.triples
+    → (its : IsInHand begun s true) → its.commit ≡ c → (written : IsWritten shape s w) → written.commit ≡ c → (used : IsBeingWritten p replies told w s) → used.commit ≡ c → s.writes.triples ≡ w.first.triples
     → NewestIsWritten shape told w s.last begun
 said_so shape p replies told w s begun c its one written two used three same = record {
   newest = its.newest;
@@ -258,8 +256,8 @@ run_written shape p opening first events opened all e =
     come : come_to s ≡ Finishes
     come = come_awake s Finishes (awake_at shape p opening events Finishes opened e (λ may. may)) e
 
-    its : IsHeld IsAsTold begun s true
-    its = subst (λ (x : Keeping). StandsAt IsAsTold begun s x) come (run_told shape p opening first events opened all)
+    its : IsInHand begun s true
+    its = subst (λ (x : Keeping). StandsAt begun s x) come (run_stands shape p opening first events opened all)
 
     written : IsWritten shape s w
     written = run_finished shape p opening events opened e

@@ -1,5 +1,4 @@
--- As long as rest is of the version behind the newest finished commit's number, and no writes rest then, each commit that begins has that number, and none
--- begins where writes rest.
+-- As long as rest is of the version behind the newest finished commit's number, each commit that begins has that number.
 use Rattle.std.proofs.Common.{◌≡◌, ◌⊎◌, inl, inr, ℕ, ◌+◌, ◌<◌, ◌^◌, ◌∙◌, List, [], ◌∷◌, ◌++◌, refl, arith, sym, subst, Bool, true, false}
 use Rattle.std.specs.Prelude.{⊤, Option, Some, None, if◌then◌else◌, nat_le}
 use Rattle.std.proofs.lemmas.Bool.Decides.{nat_tests}
@@ -49,89 +48,89 @@ use Rattle.law_refine.proofs.Below.fkv_world.Shown.{keeper_runs, keeper_runs_on,
 use Rattle.law_commit.specs.PhaseVersions.{RestIsNext, RestsAreNext}
 use Rattle.law_commit.proofs.InRest.{follows_or_writes}
 
--- a commit that starts has the next number, once it has one, and no writes rest then
-abbrev IsNext : Bool → ℕ → Version → Type 0
-IsNext rests last number = (number.0 ≡ last + 1) × (number.0 < 2 ^ 64) × (rests ≡ false)
+-- a commit that starts has the next number, once it has one
+abbrev IsNext : ℕ → Version → Type 0
+IsNext last number = (number.0 ≡ last + 1) × (number.0 < 2 ^ 64)
 
-abbrev BeginsNext : Bool → ℕ → StartAnswer → Type 0
-BeginsNext rests last (start.Begun number first) = IsNext rests last number
-BeginsNext rests last its = ⊤
+abbrev BeginsNext : ℕ → StartAnswer → Type 0
+BeginsNext last (start.Begun number first) = IsNext last number
+BeginsNext last its = ⊤
 
-abbrev NumberIsNext : Bool → ℕ → Starting → Type 0
-NumberIsNext rests last (starting.Ended its) = BeginsNext rests last its
-NumberIsNext rests last starting.LoadsPhase = ⊤
-NumberIsNext rests last (starting.Seeks number) = IsNext rests last number
-NumberIsNext rests last (starting.StoresPrepare number) = IsNext rests last number
-NumberIsNext rests last (starting.LoadsTail number) = IsNext rests last number
-NumberIsNext rests last (starting.Defers number first) = IsNext rests last number
+abbrev NumberIsNext : ℕ → Starting → Type 0
+NumberIsNext last (starting.Ended its) = BeginsNext last its
+NumberIsNext last starting.LoadsPhase = ⊤
+NumberIsNext last (starting.Seeks number) = IsNext last number
+NumberIsNext last (starting.StoresPrepare number) = IsNext last number
+NumberIsNext last (starting.LoadsTail number) = IsNext last number
+NumberIsNext last (starting.Defers number first) = IsNext last number
 
 -- what the phase word says as it is loaded
-abbrev SaysNext : Bool → ℕ → Starting → ℕ → Type 0
-SaysNext rests last starting.LoadsPhase reply = RestIsNext rests last (phase_said reply)
-SaysNext rests last step reply = ⊤
+abbrev SaysNext : ℕ → Starting → ℕ → Type 0
+SaysNext last starting.LoadsPhase reply = RestIsNext last (phase_said reply)
+SaysNext last step reply = ⊤
 
-either_next : (rests : Bool) (last : ℕ) (c : Bool) (a b : StartState) → (c ≡ true → NumberIsNext rests last a.step) → (c ≡ false → NumberIsNext rests last b.step) → NumberIsNext rests last (if c then a else b).step
-either_next rests last true a b one other = one refl
-either_next rests last false a b one other = other refl
+either_next : (last : ℕ) (c : Bool) (a b : StartState) → (c ≡ true → NumberIsNext last a.step) → (c ≡ false → NumberIsNext last b.step) → NumberIsNext last (if c then a else b).step
+either_next last true a b one other = one refl
+either_next last false a b one other = other refl
 
-found_next : (rests : Bool) (last : ℕ) (s : StartState) (said : PhaseSaid) → RestIsNext rests last said → NumberIsNext rests last (phase_found s said).step
-found_next rests last s Spoiled says = tt
-found_next rests last s (Says phase.Rest number) says =
-    either_next rests last (nat_le (last_of s.asked.class) number.0) _ _ (λ spent. tt)
-    (λ left. either_next rests last (is_lost_full s.asked number.0) _ _ (λ full. tt) (λ has. let low = last_low s.asked.class number.0 (grind (arith, nat_tests, left)) in (says.0, omega (arith, low), says.1)))
-found_next rests last s (Says phase.Prepare number) says = tt
-found_next rests last s (Says phase.InProgress number) says = tt
-found_next rests last s (Says phase.WaitPending number) says = tt
-found_next rests last s (Says phase.WaitFlush number) says = tt
+found_next : (last : ℕ) (s : StartState) (said : PhaseSaid) → RestIsNext last said → NumberIsNext last (phase_found s said).step
+found_next last s Spoiled says = tt
+found_next last s (Says phase.Rest number) says =
+    either_next last (nat_le (last_of s.asked.class) number.0) _ _ (λ spent. tt)
+    (λ left. either_next last (is_lost_full s.asked number.0) _ _ (λ full. tt) (λ has. let low = last_low s.asked.class number.0 (grind (arith, nat_tests, left)) in (says, omega (arith, low))))
+found_next last s (Says phase.Prepare number) says = tt
+found_next last s (Says phase.InProgress number) says = tt
+found_next last s (Says phase.WaitPending number) says = tt
+found_next last s (Says phase.WaitFlush number) says = tt
 
-seek_next : (rests : Bool) (last : ℕ) (number : Version) (s : StartState) (ask : Ask DeferAnswer) → IsNext rests last number → NumberIsNext rests last s.step → NumberIsNext rests last (seek_led number s ask).step
+seek_next : (last : ℕ) (number : Version) (s : StartState) (ask : Ask DeferAnswer) → IsNext last number → NumberIsNext last s.step → NumberIsNext last (seek_led number s ask).step
 unfolding seek_led
-seek_next rests last number s (Done Held) next its = next
-seek_next rests last number s (Done Spent) next its = tt
-seek_next rests last number s (Done other) next its = tt
-seek_next rests last number s ask next its = its
+seek_next last number s (Done Held) next its = next
+seek_next last number s (Done Spent) next its = tt
+seek_next last number s (Done other) next its = tt
+seek_next last number s ask next its = its
 
-defer_next_number : (rests : Bool) (last : ℕ) (number : Version) (first : Addr) (s : StartState) (ask : Ask DeferAnswer) → IsNext rests last number → NumberIsNext rests last s.step → NumberIsNext rests last (defer_led number first s ask).step
+defer_next_number : (last : ℕ) (number : Version) (first : Addr) (s : StartState) (ask : Ask DeferAnswer) → IsNext last number → NumberIsNext last s.step → NumberIsNext last (defer_led number first s ask).step
 unfolding defer_led
-defer_next_number rests last number first s (Done (Armed epoch)) next its = next
-defer_next_number rests last number first s (Done other) next its = tt
-defer_next_number rests last number first s ask next its = its
+defer_next_number last number first s (Done (Armed epoch)) next its = next
+defer_next_number last number first s (Done other) next its = tt
+defer_next_number last number first s ask next its = its
 
-starts_next : (rests : Bool) (last : ℕ) (s : StartState) (step : Starting) (reply : ℕ) → s.step ≡ step → NumberIsNext rests last step → SaysNext rests last step reply → NumberIsNext rests last (starting_next s step reply).step
+starts_next : (last : ℕ) (s : StartState) (step : Starting) (reply : ℕ) → s.step ≡ step → NumberIsNext last step → SaysNext last step reply → NumberIsNext last (starting_next s step reply).step
 unfolding starting_next
-starts_next rests last s (starting.Ended its) reply e next says = rw e next
-starts_next rests last s starting.LoadsPhase reply e next says = found_next rests last s (phase_said reply) says
-starts_next rests last s (starting.Seeks number) reply e next says = seek_next rests last number (record s { defer = defer_next s.defer reply }) _ next (rw e next)
-starts_next rests last s (starting.StoresPrepare number) reply e next says = next
-starts_next rests last s (starting.LoadsTail number) reply e next says = next
-starts_next rests last s (starting.Defers number first) reply e next says = defer_next_number rests last number first (record s { defer = defer_next s.defer reply }) _ next (rw e next)
+starts_next last s (starting.Ended its) reply e next says = rw e next
+starts_next last s starting.LoadsPhase reply e next says = found_next last s (phase_said reply) says
+starts_next last s (starting.Seeks number) reply e next says = seek_next last number (record s { defer = defer_next s.defer reply }) _ next (rw e next)
+starts_next last s (starting.StoresPrepare number) reply e next says = next
+starts_next last s (starting.LoadsTail number) reply e next says = next
+starts_next last s (starting.Defers number first) reply e next says = defer_next_number last number first (record s { defer = defer_next s.defer reply }) _ next (rw e next)
 
 -- so of the keeper, where a commit starts
 abbrev StartsNextAt : KeeperState → Keeping → Type 0
-StartsNextAt s Starts = NumberIsNext s.rests s.last.number.0 s.start.step
+StartsNextAt s Starts = NumberIsNext s.last.number.0 s.start.step
 StartsNextAt s step = ⊤
 
-record IsTurn (rests : Bool) (last : Version) (step : Keeping) (a : KeeperState) : Type 0 where
-  turn : IsNumberInTurn rests last step a.step
+record IsTurn (last : Version) (step : Keeping) (a : KeeperState) : Type 0 where
+  turn : IsNumberInTurn last step a.step
   starts : StartsNextAt a a.step
 
-abbrev TellsNext : Bool → ℕ → Ask StartAnswer → Type 0
-TellsNext rests last (Done its) = BeginsNext rests last its
-TellsNext rests last ask = ⊤
+abbrev TellsNext : ℕ → Ask StartAnswer → Type 0
+TellsNext last (Done its) = BeginsNext last its
+TellsNext last ask = ⊤
 
-passed_next : (rests : Bool) (last : ℕ) (ask : Ask DeferAnswer) → TellsNext rests last (passed ask start.Idle)
+passed_next : (last : ℕ) (ask : Ask DeferAnswer) → TellsNext last (passed ask start.Idle)
 unfolding passed
-passed_next rests last (Done its) = tt
-passed_next rests last ask = tt
+passed_next last (Done its) = tt
+passed_next last ask = tt
 
-tells_next : (rests : Bool) (last : ℕ) (s : StartState) (step : Starting) → NumberIsNext rests last step → TellsNext rests last (starting_ask s step)
+tells_next : (last : ℕ) (s : StartState) (step : Starting) → NumberIsNext last step → TellsNext last (starting_ask s step)
 unfolding starting_ask
-tells_next rests last s (starting.Ended its) next = next
-tells_next rests last s (starting.Seeks number) next = passed_next rests last (defer_ask s.defer)
-tells_next rests last s (starting.Defers number first) next = passed_next rests last (defer_ask s.defer)
-tells_next rests last s step next = tt
+tells_next last s (starting.Ended its) next = next
+tells_next last s (starting.Seeks number) next = passed_next last (defer_ask s.defer)
+tells_next last s (starting.Defers number first) next = passed_next last (defer_ask s.defer)
+tells_next last s step next = tt
 
-led_turn : (s : KeeperState) (ask : Ask StartAnswer) → s.step ≡ Starts → NumberIsNext s.rests s.last.number.0 s.start.step → TellsNext s.rests s.last.number.0 ask → IsTurn s.rests s.last.number Starts (start_ledto s ask)
+led_turn : (s : KeeperState) (ask : Ask StartAnswer) → s.step ≡ Starts → NumberIsNext s.last.number.0 s.start.step → TellsNext s.last.number.0 ask → IsTurn s.last.number Starts (start_ledto s ask)
 unfolding start_ledto
 led_turn s (Done (start.Begun number first)) e next tells = record { turn = tells; starts = tt }
 led_turn s (Done (start.Refused why)) e next tells = record { turn = tt; starts = tt }
@@ -140,15 +139,15 @@ led_turn s ask e next tells = record { turn = rw e tt; starts = rw e next }
 
 -- what a reply tells the start
 abbrev SaysAt : KeeperState → Keeping → KeeperEvent → Type 0
-SaysAt s Starts (Replies reply granted) = SaysNext s.rests s.last.number.0 s.start.step reply
+SaysAt s Starts (Replies reply granted) = SaysNext s.last.number.0 s.start.step reply
 SaysAt s step event = ⊤
 
-start_replied : (s : KeeperState) (reply : ℕ) → s.step ≡ Starts → NumberIsNext s.rests s.last.number.0 s.start.step → SaysNext s.rests s.last.number.0 s.start.step reply
-    → IsTurn s.rests s.last.number Starts (start_ledto (record s { start = start_next s.start reply }) (start_ask (start_next s.start reply)))
+start_replied : (s : KeeperState) (reply : ℕ) → s.step ≡ Starts → NumberIsNext s.last.number.0 s.start.step → SaysNext s.last.number.0 s.start.step reply
+    → IsTurn s.last.number Starts (start_ledto (record s { start = start_next s.start reply }) (start_ask (start_next s.start reply)))
 start_replied s reply e next says =
     let after : StartState = start_next s.start reply in
-    let its : NumberIsNext s.rests s.last.number.0 after.step = starts_next s.rests s.last.number.0 s.start s.start.step reply refl next says in
-    led_turn (record s { start = after }) (start_ask after) e its (tells_next s.rests s.last.number.0 after after.step its)
+    let its : NumberIsNext s.last.number.0 after.step = starts_next s.last.number.0 s.start s.start.step reply refl next says in
+    led_turn (record s { start = after }) (start_ask after) e its (tells_next s.last.number.0 after after.step its)
 
 -- where none starts, none is behind an event but where a commit is asked for
 abbrev StartsNone : Keeping → Type 0
@@ -169,10 +168,10 @@ none_starts a Writes Starts none may = absurd may
 none_starts a Finishes Starts none may = absurd may
 none_starts a step after none may = tt
 
-no_turn : (rests : Bool) (last : Version) (step after : Keeping) → StartsNone step → IsNumberInTurn rests last step after
-no_turn rests last (Ended its) after none = tt
-no_turn rests last Starts after none = absurd none
-no_turn rests last step after none = tt
+no_turn : (last : Version) (step after : Keeping) → StartsNone step → IsNumberInTurn last step after
+no_turn last (Ended its) after none = tt
+no_turn last Starts after none = absurd none
+no_turn last step after none = tt
 
 broken_starts : (c : Bool) (a b : KeeperState) → StartsNextAt a a.step → StartsNextAt b b.step → StartsNextAt (if c then a else b) (if c then a else b).step
 broken_starts true a b one other = one
@@ -181,30 +180,30 @@ broken_starts false a b one other = other
 stays_so : (s : KeeperState) (step : Keeping) → s.step ≡ step → StartsNextAt s step → StartsNextAt s s.step
 stays_so s step e its = subst (λ (x : Keeping). StartsNextAt s x) (sym e) its
 
-start_stays : (s : KeeperState) → s.step ≡ Starts → NumberIsNext s.rests s.last.number.0 s.start.step → IsTurn s.rests s.last.number Starts s
+start_stays : (s : KeeperState) → s.step ≡ Starts → NumberIsNext s.last.number.0 s.start.step → IsTurn s.last.number Starts s
 start_stays s e next = record { turn = rw e tt; starts = stays_so s Starts e next }
 
-other_turn : (shape : Shape) (p : Places) (s : KeeperState) (step : Keeping) (event : KeeperEvent) → s.step ≡ step → StartsNone step → IsTurn s.rests s.last.number step (keeper_happens shape p s event)
+other_turn : (shape : Shape) (p : Places) (s : KeeperState) (step : Keeping) (event : KeeperEvent) → s.step ≡ step → StartsNone step → IsTurn s.last.number step (keeper_happens shape p s event)
 other_turn shape p s step event e none =
     let a : KeeperState = keeper_happens shape p s event in
-    record { turn = no_turn s.rests s.last.number step a.step none; starts = by a (follows_or_writes s.rests s.step a.step (each_move shape p s event).one.steps) }
+    record { turn = no_turn s.last.number step a.step none; starts = by a (follows_or_writes s.rests s.step a.step (each_move shape p s event).one.steps) }
   where
     by : (a : KeeperState) → MayFollow s.step a.step ⊎ (a.step ≡ Writes) → StartsNextAt a a.step
     by a (inl follows) = none_starts a step a.step none (subst (λ (x : Keeping). MayFollow x a.step) e follows)
     by a (inr writes) = stays_so a Writes writes tt
 
-turn_by : (shape : Shape) (p : Places) (s : KeeperState) (step : Keeping) (event : KeeperEvent) → s.step ≡ step → StartsNextAt s step → SaysAt s step event → IsTurn s.rests s.last.number step (keeper_happens shape p s event)
+turn_by : (shape : Shape) (p : Places) (s : KeeperState) (step : Keeping) (event : KeeperEvent) → s.step ≡ step → StartsNextAt s step → SaysAt s step event → IsTurn s.last.number step (keeper_happens shape p s event)
 unfolding keeper_happens keeping_next keeping_given keeping_called
-turn_by shape p s Starts (Replies reply granted) e next says = subst (λ (x : Keeping). IsTurn s.rests s.last.number Starts (keeping_next shape p s x reply granted)) (sym e) (start_replied s reply e next says)
-turn_by shape p s Starts (Gets action) e next says = subst (λ (x : Keeping). IsTurn s.rests s.last.number Starts (keeping_given shape p s x action)) (sym e) (start_stays s e next)
-turn_by shape p s Starts (Calls done bytes) e next says = subst (λ (x : Keeping). IsTurn s.rests s.last.number Starts (keeping_called shape p s x done bytes)) (sym e) (start_stays s e next)
-turn_by shape p s Starts BeginsTurn e next says = subst (λ (x : Keeping). IsTurn s.rests s.last.number Starts (begins s (is_in_hand x) (turn_asked s))) (sym e) (start_stays s e next)
-turn_by shape p s Starts (BeginsCommit kind) e next says = subst (λ (x : Keeping). IsTurn s.rests s.last.number Starts (begins s (is_in_hand x) (commit_asked s kind))) (sym e) (start_stays s e next)
+turn_by shape p s Starts (Replies reply granted) e next says = subst (λ (x : Keeping). IsTurn s.last.number Starts (keeping_next shape p s x reply granted)) (sym e) (start_replied s reply e next says)
+turn_by shape p s Starts (Gets action) e next says = subst (λ (x : Keeping). IsTurn s.last.number Starts (keeping_given shape p s x action)) (sym e) (start_stays s e next)
+turn_by shape p s Starts (Calls done bytes) e next says = subst (λ (x : Keeping). IsTurn s.last.number Starts (keeping_called shape p s x done bytes)) (sym e) (start_stays s e next)
+turn_by shape p s Starts BeginsTurn e next says = subst (λ (x : Keeping). IsTurn s.last.number Starts (begins s (is_in_hand x) (turn_asked s))) (sym e) (start_stays s e next)
+turn_by shape p s Starts (BeginsCommit kind) e next says = subst (λ (x : Keeping). IsTurn s.last.number Starts (begins s (is_in_hand x) (commit_asked s kind))) (sym e) (start_stays s e next)
 turn_by shape p s (Ended its) (Replies reply granted) e next says = rw e (record { turn = tt; starts = tt })
 turn_by shape p s (Ended its) (Gets action) e next says = rw e (record { turn = tt; starts = tt })
 turn_by shape p s (Ended its) (Calls done bytes) e next says = rw e (record { turn = tt; starts = tt })
 turn_by shape p s (Ended its) BeginsTurn e next says = rw e (record { turn = tt; starts = broken_starts s.is_broken _ _ tt tt })
-turn_by shape p s (Ended its) (BeginsCommit kind) e next says = rw e (record { turn = tt; starts = broken_starts s.is_broken _ _ tt tt })
+turn_by shape p s (Ended its) (BeginsCommit kind) e next says = rw e (record { turn = tt; starts = broken_starts s.is_broken _ _ tt (broken_starts s.rests _ _ tt tt) })
 turn_by shape p s Maintains event e next says = other_turn shape p s Maintains event e tt
 turn_by shape p s LoadsPhase event e next says = other_turn shape p s LoadsPhase event e tt
 turn_by shape p s Enters event e next says = other_turn shape p s Enters event e tt
@@ -240,19 +239,19 @@ joined shape p first (event ∷ later) before turns past =
     (rw (keeper_runs_on shape p first later before, keeper_runs_on shape p first (event ∷ later) before) turns.0, joined shape p first later before turns.1 past)
 
 -- the load of the phase, as a commit starts
-start_says : (rests : Bool) (last : ℕ) (s : StartState) (step : Starting) (told : KeeperTold) (reply : ℕ) → (passed (starting_ask s step) told ≡ Load (shared_place one.Phase) → RestIsNext rests last (phase_said reply)) → SaysNext rests last step reply
+start_says : (last : ℕ) (s : StartState) (step : Starting) (told : KeeperTold) (reply : ℕ) → (passed (starting_ask s step) told ≡ Load (shared_place one.Phase) → RestIsNext last (phase_said reply)) → SaysNext last step reply
 unfolding passed starting_ask
-start_says rests last s starting.LoadsPhase told reply right = right refl
-start_says rests last s (starting.Ended its) told reply right = tt
-start_says rests last s (starting.Seeks number) told reply right = tt
-start_says rests last s (starting.StoresPrepare number) told reply right = tt
-start_says rests last s (starting.LoadsTail number) told reply right = tt
-start_says rests last s (starting.Defers number first) told reply right = tt
+start_says last s starting.LoadsPhase told reply right = right refl
+start_says last s (starting.Ended its) told reply right = tt
+start_says last s (starting.Seeks number) told reply right = tt
+start_says last s (starting.StoresPrepare number) told reply right = tt
+start_says last s (starting.LoadsTail number) told reply right = tt
+start_says last s (starting.Defers number first) told reply right = tt
 
-says_so : (shape : Shape) (p : Places) (s : KeeperState) (step : Keeping) (reply : ℕ) (granted : Bool) → (keeping_ask shape p s step ≡ Load (shared_place one.Phase) → RestIsNext s.rests s.last.number.0 (phase_said reply))
+says_so : (shape : Shape) (p : Places) (s : KeeperState) (step : Keeping) (reply : ℕ) (granted : Bool) → (keeping_ask shape p s step ≡ Load (shared_place one.Phase) → RestIsNext s.last.number.0 (phase_said reply))
     → SaysAt s step (Replies reply granted)
 unfolding keeping_ask
-says_so shape p s Starts reply granted right = start_says s.rests s.last.number.0 s.start s.start.step _ reply right
+says_so shape p s Starts reply granted right = start_says s.last.number.0 s.start s.start.step _ reply right
 says_so shape p s (Ended its) reply granted right = tt
 says_so shape p s Maintains reply granted right = tt
 says_so shape p s LoadsPhase reply granted right = tt
@@ -263,10 +262,10 @@ says_so shape p s Waits reply granted right = tt
 says_so shape p s Writes reply granted right = tt
 says_so shape p s Finishes reply granted right = tt
 
-replied_so : (shape : Shape) (p : Places) (words : List ℕ) (s : KeeperState) (ask : Ask KeeperTold) (granted : Bool) → keeper_ask shape p s ≡ ask → RestIsNext s.rests s.last.number.0 (phase_said (word_at words (shared_place one.Phase)))
+replied_so : (shape : Shape) (p : Places) (words : List ℕ) (s : KeeperState) (ask : Ask KeeperTold) (granted : Bool) → keeper_ask shape p s ≡ ask → RestIsNext s.last.number.0 (phase_said (word_at words (shared_place one.Phase)))
     → SaysAt s s.step (Replies (reply_to words ask) granted)
 replied_so shape p words s ask granted e next =
-    says_so shape p s s.step (reply_to words ask) granted (λ loads. subst (λ (x : Ask KeeperTold). RestIsNext s.rests s.last.number.0 (phase_said (reply_to words x))) (sym (sym e ∙ loads)) next)
+    says_so shape p s s.step (reply_to words ask) granted (λ loads. subst (λ (x : Ask KeeperTold). RestIsNext s.last.number.0 (phase_said (reply_to words x))) (sym (sym e ∙ loads)) next)
 
 no_load : (ask : Ask KeeperTold) (slot : ℕ) (action : Action) → ask ≡ Put slot action → ask ≡ Load (shared_place one.Phase) → ⊥
 no_load ask slot action e loads = cc
@@ -317,7 +316,7 @@ slots_all shape p actions granted s before (Add place n) e say = say
 slots_all shape p actions granted s before (Max place n) e say = say
 slots_all shape p actions granted s before (Done its) e say = say
 
-word_all : (shape : Shape) (p : Places) (n : Near KeeperState) (granted : Bool) (ask : Ask KeeperTold) → keeper_ask shape p n.machine ≡ ask → RestIsNext n.machine.rests n.machine.last.number.0 (phase_said (word_at n.words (shared_place one.Phase)))
+word_all : (shape : Shape) (p : Places) (n : Near KeeperState) (granted : Bool) (ask : Ask KeeperTold) → keeper_ask shape p n.machine ≡ ask → RestIsNext n.machine.last.number.0 (phase_said (word_at n.words (shared_place one.Phase)))
     → SayAll shape p n.machine (keeper_slots n.actions granted (keeper_ask shape p (keeper_next shape p n.machine (reply_to n.words ask) granted)) ++ Replies (reply_to n.words ask) granted ∷ [])
 unfolding SayAll keeper_run keeper_happens
 word_all shape p n granted ask e next =
@@ -325,7 +324,7 @@ word_all shape p n granted ask e next =
     (replied_so shape p n.words n.machine ask granted e next, tt)
 
 steps_all : (shape : Shape) (p : Places) (granted done : Bool) (read : List ℕ) (n : Near KeeperState) (ask : Ask KeeperTold) → keeper_ask shape p n.machine ≡ ask
-    → RestIsNext n.machine.rests n.machine.last.number.0 (phase_said (word_at n.words (shared_place one.Phase))) → SayAll shape p n.machine (keeper_steps shape p granted done read n ask)
+    → RestIsNext n.machine.last.number.0 (phase_said (word_at n.words (shared_place one.Phase))) → SayAll shape p n.machine (keeper_steps shape p granted done read n ask)
 unfolding keeper_steps keeper_slots SayAll keeper_run
 steps_all shape p granted done read n (Done Device) e next = (called_so n.machine n.machine.step done read, tt)
 steps_all shape p granted done read n (Done its) e next = tt
@@ -338,7 +337,7 @@ steps_all shape p granted done read n (Cas place old new) e next = word_all shap
 steps_all shape p granted done read n (Add place count) e next = word_all shape p n granted (Add place count) e next
 steps_all shape p granted done read n (Max place count) e next = word_all shape p n granted (Max place count) e next
 
-part_all : (shape : Shape) (p : Places) (read : List ℕ) (n : Near KeeperState) (event : Event) → RestIsNext n.machine.rests n.machine.last.number.0 (phase_said (word_at n.words (shared_place one.Phase)))
+part_all : (shape : Shape) (p : Places) (read : List ℕ) (n : Near KeeperState) (event : Event) → RestIsNext n.machine.last.number.0 (phase_said (word_at n.words (shared_place one.Phase)))
     → SayAll shape p n.machine (keeper_part shape p read n event)
 unfolding keeper_part SayAll keeper_run
 part_all shape p read n (Commits kind) next = (asked_so n.machine n.machine.step kind, tt)
@@ -352,7 +351,7 @@ either_all : (c : Bool) (shape : Shape) (p : Places) (s : KeeperState) (a b : Li
 either_all true shape p s a b one other = one
 either_all false shape p s a b one other = other
 
-of_all : (w : World) (event : Event) → RestIsNext w.now.keeper.rests w.now.keeper.last.number.0 (phase_said (word_at w.now.words (shared_place one.Phase))) → SayAll w.now.shape w.now.places w.now.keeper (keeper_part_of w event)
+of_all : (w : World) (event : Event) → RestIsNext w.now.keeper.last.number.0 (phase_said (word_at w.now.words (shared_place one.Phase))) → SayAll w.now.shape w.now.places w.now.keeper (keeper_part_of w event)
 of_all w event next =
     either_all w.now.crashed w.now.shape w.now.places w.now.keeper [] _ (nothing_said w.now.shape w.now.places w.now.keeper)
     (part_all w.now.shape w.now.places (read_by_keeper w) (near w.now w.now.keeper) event next)

@@ -34,9 +34,9 @@ use Rattle.law_refine.specs.Below.fkv_world.World.{Event, Now, near}
 use Rattle.law_refine.proofs.Below.fkv_world.Shown.{is_over, keeper_runs, places_stay, shape_stays}
 use Rattle.law_refine.proofs.Below.law_world.OfRuns.Added.{trace_so}
 use Rattle.law_commit.specs.BegunCommits.{BegunCommit, begun_at_end, begun_at_gate, begun_at_writes, begun_by, commit_opened, commits_begun, life_begun, with_finished, with_opening, with_sealed}
-use Rattle.law_commit.specs.HeldCommits.{HaveFinished, IsAsLast}
+use Rattle.law_commit.specs.HeldCommits.{AtEnd, HaveFinished, IsAsLast, IsInHand, OneIsOpen}
 use Rattle.law_commit.specs.FinishedCommits.{ToldCommit, commits_finished, commits_told, told_of, with_told}
-use Rattle.law_commit.proofs.BegunStands.{EndsAs, HasOpen, IsAsTold, IsHeld, StandsAt, run_told}
+use Rattle.law_commit.proofs.BegunStands.{StandsAt, run_stands}
 use Rattle.law_commit.proofs.InRest.{awake_at, come_awake, stays_awake}
 use Rattle.law_commit.proofs.LifeBegun.{opening_finished}
 
@@ -77,8 +77,8 @@ head_of a b rest other same = cc
 as_told : (c : BegunCommit) (last : Finality) → IsAsLast last c → ◌≡◌ {A = ToldCommit} (record { number = c.number; points = c.points }) (told_of last)
 as_told c last is = let number = is.number in let points = is.points in rw number (rw points refl)
 
-last_told : (c : BegunCommit) (older : List BegunCommit) (last : Finality) → c.is_finished ≡ true → IsAsTold (c ∷ older) last ⊎ HasOpen IsAsTold (c ∷ older) last → ◌≡◌ {A = ToldCommit} (record { number = c.number; points = c.points }) (told_of last)
-last_told c older last done (inl all) = as_told c last (all c older refl done)
+last_told : (c : BegunCommit) (older : List BegunCommit) (last : Finality) → c.is_finished ≡ true → HaveFinished (c ∷ older) last ⊎ OneIsOpen (c ∷ older) last → ◌≡◌ {A = ToldCommit} (record { number = c.number; points = c.points }) (told_of last)
+last_told c older last done (inl all) = as_told c last (subst (IsAsLast last) (sym (head_of c all.newest older all.older all.its)) all.last)
 last_told c older last done (inr one) =
     let same = head_of c one.newest older one.older one.its in
     let both : true ≡ false = sym done ∙ (ap (λ (x : BegunCommit). x.is_finished) same ∙ one.unfinished) in
@@ -87,24 +87,24 @@ last_told c older last done (inr one) =
     apart : true ≡ false → ⊥
     apart both = cc
 
-at_end_both : (begun : List BegunCommit) (a : KeeperState) (broken : Bool) → EndsAs IsAsTold begun a broken → IsAsTold begun a.last ⊎ HasOpen IsAsTold begun a.last
+at_end_both : (begun : List BegunCommit) (a : KeeperState) (broken : Bool) → AtEnd begun a broken → HaveFinished begun a.last ⊎ OneIsOpen begun a.last
 at_end_both begun a true its = its
 at_end_both begun a false its = inl its
 
-finish_commits : (begun : List BegunCommit) (s a : KeeperState) → IsHeld IsAsTold begun s true → EndsAs IsAsTold (with_finished begun) a a.is_broken → commits_finished (with_finished begun) ≡ told_of a.last ∷ commits_finished begun
+finish_commits : (begun : List BegunCommit) (s a : KeeperState) → IsInHand begun s true → AtEnd (with_finished begun) a a.is_broken → commits_finished (with_finished begun) ≡ told_of a.last ∷ commits_finished begun
 finish_commits begun s a its after =
     let done : BegunCommit = record its.newest { is_finished = true } in
-    let so : IsAsTold (done ∷ its.older) a.last ⊎ HasOpen IsAsTold (done ∷ its.older) a.last =
-    subst (λ (x : List BegunCommit). IsAsTold (with_finished x) a.last ⊎ HasOpen IsAsTold (with_finished x) a.last) its.its (at_end_both (with_finished begun) a a.is_broken after) in
+    let so : HaveFinished (done ∷ its.older) a.last ⊎ OneIsOpen (done ∷ its.older) a.last =
+    subst (λ (x : List BegunCommit). HaveFinished (with_finished x) a.last ⊎ OneIsOpen (with_finished x) a.last) its.its (at_end_both (with_finished begun) a a.is_broken after) in
     let same = last_told done its.older a.last refl so in
     let list = its.its in
     let unfinished = its.unfinished in
     rw list (rw unfinished (ap (λ (n : ToldCommit). n ∷ commits_finished its.older) same))
 
-end_commits : (begun : List BegunCommit) (s a : KeeperState) (after : Keeping) → IsHeld IsAsTold begun s true → StandsAt IsAsTold (begun_at_end after begun) a after
+end_commits : (begun : List BegunCommit) (s a : KeeperState) (after : Keeping) → a.step ≡ after → IsInHand begun s true → StandsAt (begun_at_end after begun) a after
     → commits_finished (begun_at_end after begun) ≡ with_commit after Finishes a.last (commits_finished begun)
-end_commits begun s a (Ended (Turned true full)) its stands = finish_commits begun s a its stands
-end_commits begun s a after its stands = refl
+end_commits begun s a (Ended (Turned true full)) e its stands = finish_commits begun s a its stands
+end_commits begun s a after e its stands = refl
 
 -- no other step adds one
 abbrev NotFinishes : Keeping → Type 0
@@ -118,26 +118,27 @@ not_more after step last before other = refl
 
 -- what is known where it finishes, before that and behind it
 abbrev FinishesSo : List BegunCommit → KeeperState → KeeperState → Keeping → Keeping → Type 0
-FinishesSo begun s a Finishes after = IsHeld IsAsTold begun s true × StandsAt IsAsTold (begun_at_end after begun) a after
+FinishesSo begun s a Finishes after = IsInHand begun s true × StandsAt (begun_at_end after begun) a after
 FinishesSo begun s a step after = Unit {0}
 
-event_commits : (begun : List BegunCommit) (s a : KeeperState) (step : Keeping) (event : KeeperEvent) (after : Keeping) → FinishesSo begun s a step after
+event_commits : (begun : List BegunCommit) (s a : KeeperState) (step : Keeping) (event : KeeperEvent) (after : Keeping) → a.step ≡ after → FinishesSo begun s a step after
     → commits_finished (begun_by s step event after begun) ≡ with_commit after step a.last (commits_finished begun)
-event_commits begun s a Finishes event after so = end_commits begun s a after so.0 so.1
-event_commits begun s a Writes (Calls done bytes) after so = writes_commits s begun s.writes.step done ∙ sym (not_more after Writes a.last (commits_finished begun) tt)
-event_commits begun s a Writes BeginsTurn after so = sym (not_more after Writes a.last (commits_finished begun) tt)
-event_commits begun s a Writes (BeginsCommit kind) after so = sym (not_more after Writes a.last (commits_finished begun) tt)
-event_commits begun s a Writes (Replies reply granted) after so = sym (not_more after Writes a.last (commits_finished begun) tt)
-event_commits begun s a Writes (Gets action) after so = sym (not_more after Writes a.last (commits_finished begun) tt)
-event_commits begun s a (Ended told) event after so = sym (not_more after (Ended told) a.last (commits_finished begun) tt)
-event_commits begun s a Starts event after so = sym (not_more after Starts a.last (commits_finished begun) tt)
-event_commits begun s a Maintains event after so = sym (not_more after Maintains a.last (commits_finished begun) tt)
-event_commits begun s a LoadsPhase event after so = sym (not_more after LoadsPhase a.last (commits_finished begun) tt)
-event_commits begun s a Enters event after so = sym (not_more after Enters a.last (commits_finished begun) tt)
-event_commits begun s a Copies event after so = sym (not_more after Copies a.last (commits_finished begun) tt)
-event_commits begun s a Seeks event after so = sym (not_more after Seeks a.last (commits_finished begun) tt)
-event_commits begun s a Waits event after so = sym (not_more after Waits a.last (commits_finished begun) tt)
+event_commits begun s a Finishes event after e so = end_commits begun s a after e so.0 so.1
+event_commits begun s a Writes (Calls done bytes) after e so = writes_commits s begun s.writes.step done ∙ sym (not_more after Writes a.last (commits_finished begun) tt)
+event_commits begun s a Writes BeginsTurn after e so = sym (not_more after Writes a.last (commits_finished begun) tt)
+event_commits begun s a Writes (BeginsCommit kind) after e so = sym (not_more after Writes a.last (commits_finished begun) tt)
+event_commits begun s a Writes (Replies reply granted) after e so = sym (not_more after Writes a.last (commits_finished begun) tt)
+event_commits begun s a Writes (Gets action) after e so = sym (not_more after Writes a.last (commits_finished begun) tt)
+event_commits begun s a (Ended told) event after e so = sym (not_more after (Ended told) a.last (commits_finished begun) tt)
+event_commits begun s a Starts event after e so = sym (not_more after Starts a.last (commits_finished begun) tt)
+event_commits begun s a Maintains event after e so = sym (not_more after Maintains a.last (commits_finished begun) tt)
+event_commits begun s a LoadsPhase event after e so = sym (not_more after LoadsPhase a.last (commits_finished begun) tt)
+event_commits begun s a Enters event after e so = sym (not_more after Enters a.last (commits_finished begun) tt)
+event_commits begun s a Copies event after e so = sym (not_more after Copies a.last (commits_finished begun) tt)
+event_commits begun s a Seeks event after e so = sym (not_more after Seeks a.last (commits_finished begun) tt)
+event_commits begun s a Waits event after e so = sym (not_more after Waits a.last (commits_finished begun) tt)
 
+-- it finishes where no writes rest
 module _ (shape : Shape) (p : Places) (opening : KeeperState) (first : List BegunCommit) (opened : IsOpened opening) (all : HaveFinished first opening.last) where
   finishes_so : (event : KeeperEvent) (before : List KeeperEvent) (step : Keeping) → (keeper_run shape p opening before).step ≡ step
       → FinishesSo (commits_begun shape p opening first before) (keeper_run shape p opening before) (keeper_run shape p opening (event ∷ before)) step (keeper_run shape p opening (event ∷ before)).step
@@ -148,9 +149,10 @@ module _ (shape : Shape) (p : Places) (opening : KeeperState) (first : List Begu
       let begun : List BegunCommit = commits_begun shape p opening first before in
       let awake : s.rests ≡ false = awake_at shape p opening before Finishes opened e (λ may. may) in
       let still : a.rests ≡ false = stays_awake shape p s event awake (λ writes. apart (sym e ∙ writes)) in
-      let after : StandsAt IsAsTold (begun_by s s.step event a.step begun) a a.step = subst (λ (x : Keeping). StandsAt IsAsTold (begun_by s s.step event a.step begun) a x) (come_awake a a.step still refl) (run_told shape p opening first (event ∷ before) opened all) in
-      (subst (λ (x : Keeping). StandsAt IsAsTold begun s x) (come_awake s Finishes awake e) (run_told shape p opening first before opened all),
-      subst (λ (x : Keeping). StandsAt IsAsTold (begun_by s x event a.step begun) a a.step) e after)
+      let after : StandsAt (begun_by s s.step event a.step begun) a a.step = subst (λ (x : Keeping). StandsAt (begun_by s s.step event a.step begun) a x) (come_awake a a.step still refl) (run_stands shape p opening first (event ∷ before) opened all) in (
+        subst (λ (x : Keeping). StandsAt begun s x) (come_awake s Finishes awake e) (run_stands shape p opening first before opened all),
+        subst (λ (x : Keeping). StandsAt (begun_by s x event a.step begun) a a.step) e after,
+      )
     where
       apart : Finishes ≡ Writes → ⊥
       apart both = cc
@@ -164,7 +166,7 @@ run_commits shape p opening first [] opened all = refl
 run_commits shape p opening first (event ∷ before) opened all =
     let a : KeeperState = keeper_run shape p opening (event ∷ before) in
     let s : KeeperState = keeper_run shape p opening before in
-    event_commits (commits_begun shape p opening first before) s a s.step event a.step (finishes_so shape p opening first opened all event before s.step refl)
+    event_commits (commits_begun shape p opening first before) s a s.step event a.step refl (finishes_so shape p opening first opened all event before s.step refl)
     ∙ ap (λ (commits : List ToldCommit). with_commit a.step s.step a.last commits) (run_commits shape p opening first before opened all)
 
 -- ---- what callers see of it

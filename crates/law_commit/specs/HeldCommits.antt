@@ -1,13 +1,9 @@
 -- How far the commits that have begun have come, by the step to which the keeper has come.
 use Rattle.std.specs.Prelude.{◌≡◌, ⊤, ◌⊎◌, Bool, true, false, List, [], ◌∷◌, Some}
 use Rattle.law_refine.specs.Below.fkv_commit.Commit.{Commit}
-use Rattle.fkv_base.specs.declared.shapes.Shape.{Shape}
-use Rattle.fkv_plane.specs.declared.places.Places.{Places}
-use Rattle.law_refine.specs.Below.fkv_keeper.KeeperTold.TheVariants.{Begun}
 use Rattle.law_refine.specs.Below.fkv_keeper.TheKeeping.{Keeping}
-use Rattle.law_refine.specs.Below.fkv_keeper.TheKeeping.TheVariants.{Ended, Starts, Writes, Finishes}
+use Rattle.law_refine.specs.Below.fkv_keeper.TheKeeping.TheVariants.{Ended, Writes, Finishes}
 use Rattle.law_refine.specs.Below.fkv_keeper.Keeping.{Finality, KeeperState, lost_left}
-use Rattle.law_refine.specs.Below.fkv_keeper.KeeperRun.{KeeperEvent, keeper_run}
 use Rattle.law_commit.specs.BegunCommits.{BegunCommit}
 
 -- each of these is sealed and finished
@@ -69,14 +65,3 @@ AtKeeping begun s Finishes = IsInHand begun s true
 AtKeeping begun s Writes = HaveFinished begun s.last ⊎ OneIsOpen begun s.last
 AtKeeping begun s (Ended its) = AtEnd begun s s.is_broken
 AtKeeping begun s step = HaveFinished begun s.last
-
--- no commit begins where the writes of another rest
-abbrev pub BeginsAwake : Bool → Keeping → Keeping → Type 0
-BeginsAwake rests Starts (Ended (Begun number)) = rests ≡ false
-BeginsAwake rests step after = ⊤
-
--- nor does any of a run
-unfoldable pub NoneBeginsInRest : Shape → Places → KeeperState → List KeeperEvent → Type 0
-NoneBeginsInRest shape p opening [] = ⊤
-NoneBeginsInRest shape p opening (event ∷ before) =
-    BeginsAwake (keeper_run shape p opening before).rests (keeper_run shape p opening before).step (keeper_run shape p opening (event ∷ before)).step × NoneBeginsInRest shape p opening before

@@ -1,5 +1,5 @@
 -- The version that the phase word says.
-use Rattle.std.specs.Prelude.{◌≡◌, ◌+◌, ◌≤◌, ⊤, ℕ, Bool, false, List, [], ◌∷◌, Some, slice_get}
+use Rattle.std.specs.Prelude.{◌≡◌, ◌+◌, ◌≤◌, ⊤, ℕ, List, [], ◌∷◌, Some, slice_get}
 use Rattle.fkv_base.specs.declared.phases.Phase.TheVariants.{Rest}
 use Rattle.fkv_words.specs.declared.phase_words.PhaseSaid.{PhaseSaid}
 use Rattle.fkv_words.specs.declared.phase_words.PhaseSaid.TheVariants.{Says, Spoiled}
@@ -29,13 +29,13 @@ HasRisingPhase opening [] = ⊤
 HasRisingPhase opening (event ∷ before) =
     (phase_version (run opening before).now.words ≤ phase_version (run opening (event ∷ before)).now.words) × HasRisingPhase opening before
 
--- rest is of the version behind this number, and no writes rest then
-abbrev pub RestIsNext : Bool → ℕ → PhaseSaid → Type 0
-RestIsNext rests last (Says Rest version) = (version.0 ≡ last + 1) × (rests ≡ false)
-RestIsNext rests last said = ⊤
+-- rest is of the version behind this number
+abbrev pub RestIsNext : ℕ → PhaseSaid → Type 0
+RestIsNext last (Says Rest version) = version.0 ≡ last + 1
+RestIsNext last said = ⊤
 
--- In a life the phase word says rest only of the version behind the newest finished commit's number, and only where no writes rest.
+-- In a life the phase word says rest only of the version behind the newest finished commit's number.
 unfoldable pub RestsAreNext : World → List Event → Type 0
 RestsAreNext opening [] = ⊤
 RestsAreNext opening (event ∷ before) =
-    RestIsNext (run opening before).now.keeper.rests (run opening before).now.keeper.last.number.0 (phase_said (word_at (run opening before).now.words (shared_place one.Phase))) × RestsAreNext opening before
+    RestIsNext (run opening before).now.keeper.last.number.0 (phase_said (word_at (run opening before).now.words (shared_place one.Phase))) × RestsAreNext opening before

@@ -194,7 +194,7 @@ begins_same s begun false same = same
 pub event_copied : (shape : Shape) (p : Places) (s : KeeperState) (event : KeeperEvent) → IsCopiedFrom s (keeper_happens shape p s event).commit
 unfolding keeper_happens
 event_copied shape p s BeginsTurn = stays s _ (begins_same s (turn_asked s) (is_in_hand s.step) (either s.is_broken _ _ s.commit refl refl))
-event_copied shape p s (BeginsCommit kind) = stays s _ (begins_same s (commit_asked s kind) (is_in_hand s.step) (either s.is_broken _ _ s.commit refl refl))
+event_copied shape p s (BeginsCommit kind) = stays s _ (begins_same s (commit_asked s kind) (is_in_hand s.step) (either s.is_broken _ _ s.commit refl (either s.rests _ _ s.commit refl refl)))
 event_copied shape p s (Replies reply granted) = replied shape p s s.step reply granted refl
 event_copied shape p s (Gets action) = stays s _ (given_same shape p s s.step action)
 event_copied shape p s (Calls done bytes) = stays s _ (called_same shape p s s.step done bytes)
@@ -212,7 +212,7 @@ driven_same shape p s reply granted at = copying_same (record s { copy = copy_dr
 pub still_same : (shape : Shape) (p : Places) (s : KeeperState) (event : KeeperEvent) → s.step ≡ Copies → (keeper_happens shape p s event).step ≡ Copies → (keeper_happens shape p s event).commit ≡ s.commit
 unfolding keeper_happens
 still_same shape p s BeginsTurn was at = begins_same s (turn_asked s) (is_in_hand s.step) (either s.is_broken _ _ s.commit refl refl)
-still_same shape p s (BeginsCommit kind) was at = begins_same s (commit_asked s kind) (is_in_hand s.step) (either s.is_broken _ _ s.commit refl refl)
+still_same shape p s (BeginsCommit kind) was at = begins_same s (commit_asked s kind) (is_in_hand s.step) (either s.is_broken _ _ s.commit refl (either s.rests _ _ s.commit refl refl))
 still_same shape p s (Replies reply granted) was at =
     ap (λ (step : Keeping). (keeping_next shape p s step reply granted).commit) was
     ∙ driven_same shape p s reply granted (subst (λ (step : Keeping). (keeping_next shape p s step reply granted).step ≡ Copies) was at)

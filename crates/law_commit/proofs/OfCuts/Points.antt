@@ -22,7 +22,8 @@ use Rattle.law_refine.specs.Below.fkv_keeper.KeeperTold.TheVariants.{Turned}
 use Rattle.law_refine.specs.Below.fkv_keeper.TheKeeping.{Keeping}
 use Rattle.law_refine.specs.Below.fkv_keeper.TheKeeping.TheVariants.{Ended, Starts, Maintains, LoadsPhase, Enters, Copies, Seeks, Waits, Writes, Finishes}
 use Rattle.law_refine.specs.Below.fkv_keeper.CheckpointLaws.{IsFinished, MayFollow, SparesDurable, SparesWord}
-use Rattle.law_refine.specs.Below.fkv_keeper.Keeping.{KeeperState, finish_ledto, finished, keeper_ask, keeping_ask, keeping_called, keeping_given, keeping_next, must_rest, turned, write_ledto}
+use Rattle.law_refine.specs.Below.fkv_keeper.Keeping.{KeeperState, finish_ledto, finished, keeper_ask, keeping_ask, keeping_called, keeping_given, keeping_next, must_rest, turned, write_ledto, come_to}
+use Rattle.law_refine.specs.Below.fkv_keeper.KeeperLaws.{MayRest}
 use Rattle.law_refine.specs.Below.fkv_keeper.KeeperRun.{KeeperEvent, BeginsTurn, BeginsCommit, Replies, Gets, Calls, IsOpened, is_in_hand, keeper_happens, keeper_run}
 use Rattle.law_refine.proofs.Below.fkv_keeper.Shown.{each_move, run_finished, run_spares}
 use Rattle.law_refine.proofs.Below.law_world.OfStanding.Runs.{happens_at}
@@ -46,6 +47,14 @@ plain s Copies number other = refl
 plain s Seeks number other = refl
 plain s Waits number other = refl
 plain s Writes number other = refl
+
+-- so it is where writes rest
+pub durable_come : (s : KeeperState) (number : ℕ) → (s.rests ≡ true → MayRest s.step) → durable_at s s.step number ≡ durable_at s (come_to s) number
+durable_come s number may = by s.rests refl
+  where
+    by : (b : Bool) → s.rests ≡ b → durable_at s s.step number ≡ durable_at s (if b then Writes else s.step) number
+    by true rests = plain s s.step number (λ ends. subst MayRest ends (may rests))
+    by false awake = refl
 
 -- a finish follows on writes alone
 goes_not : (step : Keeping) → step ≢ Finishes → step ≢ Writes → MayFollow step Finishes → ⊥

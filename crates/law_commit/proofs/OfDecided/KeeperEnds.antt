@@ -394,10 +394,13 @@ module _ (F : Version → Addr → Type 0) (E : Span → Type 0) where
   -- ---- as it waits, and is written
   begun_ends : (shape : Shape) (s : KeeperState) (found : Option Commit) → s.commit ≡ found → s.has_points ≡ true → Hand s → s.rests ≡ false → KeeperEnds (writes_begun shape s found)
   begun_ends shape s None here points hand awake = λ works. held_awake s awake hand
-  begun_ends shape s (Some c) here points hand awake = (record {
-    first = hand.first;
-    end = λ d is. subst (λ (k : CommitKind). E (span_in d d.end (triples_written k s.copy))) (ap (λ (x : Commit). x.kind) (some_same (sym is ∙ here))) (hand.end d is points).1;
-  }, awake)
+  begun_ends shape s (Some c) here points hand awake = (
+    record {
+      first = hand.first;
+      end = λ d is. subst (λ (k : CommitKind). E (span_in d d.end (triples_written k s.copy))) (ap (λ (x : Commit). x.kind) (some_same (sym is ∙ here))) (hand.end d is points).1;
+    },
+    awake,
+  )
 
   waited_ends : (shape : Shape) (s : KeeperState) (ask : Ask WaitAnswer) → s.step ≡ Waits → (s.has_points ≡ true) × Hand s × (s.rests ≡ false) → KeeperEnds (wait_ledto shape s ask)
   unfolding wait_ledto
@@ -469,7 +472,8 @@ module _ (F : Version → Addr → Type 0) (E : Span → Type 0) where
 
   commit_ends : (s : KeeperState) (kind : CommitKind) → (s.is_broken ≡ false → Held s) → KeeperEnds (commit_asked s kind)
   commit_ends s kind hand =
-      either_ends s.is_broken (ended s (CommitRefused fault.Broken)) (record s { start = start_begun s.start (asked_for s kind); step = Starts }) (λ yes. hand) (λ no. (hand no, tt))
+      either_ends s.is_broken (ended s (CommitRefused fault.Broken)) (if s.rests then ended s (CommitRefused fault.CommitRunning) else record s { start = start_begun s.start (asked_for s kind); step = Starts }) (λ yes. hand)
+      (λ no. either_ends s.rests (ended s (CommitRefused fault.CommitRunning)) (record s { start = start_begun s.start (asked_for s kind); step = Starts }) (λ rests. hand) (λ awake. (hand no, tt)))
 
   idle_hand : (s : KeeperState) (step : Keeping) → is_in_hand step ≡ false → KeepingEnds s step → s.is_broken ≡ false → Held s
   idle_hand s (Ended told) idle its = its

@@ -303,7 +303,8 @@ turn_asked_fits g s hand =
 
 pub commit_asked_fits : (g : Ground) (s : KeeperState) (kind : CommitKind) → HandFits g s.commit s.has_points s.rests → KeeperFits g (commit_asked s kind)
 commit_asked_fits g s kind hand =
-    either_fits g s.is_broken (ended s (CommitRefused fault.Broken)) (record s { start = start_begun s.start (asked_for s kind); step = Starts }) (λ yes. ended_fits g s _ hand) (λ no. record { hand = hand; step = tt })
+    either_fits g s.is_broken (ended s (CommitRefused fault.Broken)) (if s.rests then ended s (CommitRefused fault.CommitRunning) else record s { start = start_begun s.start (asked_for s kind); step = Starts }) (λ yes. ended_fits g s _ hand)
+    (λ no. either_fits g s.rests (ended s (CommitRefused fault.CommitRunning)) (record s { start = start_begun s.start (asked_for s kind); step = Starts }) (λ rests. ended_fits g s _ hand) (λ awake. record { hand = hand; step = tt }))
 
 pub asked_fits : (g : Ground) (s begun : KeeperState) → KeeperFits g s → KeeperFits g begun → KeeperFits g (keeper_asked s begun)
 asked_fits g s begun its next = by_hand (is_in_hand s.step)

@@ -453,5 +453,6 @@ pub commit_asked_at : (number : Version) (stage : Stage) (s : KeeperState) (kind
 commit_asked_at number stage s kind its idle =
     let has = its.has in
     let early = idle_early stage s s.step idle its.early in
-    either_at number stage s.is_broken (ended s (CommitRefused fault.Broken)) (record s { start = start_begun s.start (asked_for s kind); step = Starts })
-    (λ yes. ended_at number stage s _ has early) (λ no. record { has = record { next = has.next; hand = has.hand; rests = has.rests }; early = early; step = tt })
+    either_at number stage s.is_broken (ended s (CommitRefused fault.Broken)) (if s.rests then ended s (CommitRefused fault.CommitRunning) else record s { start = start_begun s.start (asked_for s kind); step = Starts })
+    (λ yes. ended_at number stage s _ has early)
+    (λ no. either_at number stage s.rests (ended s (CommitRefused fault.CommitRunning)) (record s { start = start_begun s.start (asked_for s kind); step = Starts }) (λ rests. ended_at number stage s _ has early) (λ awake. record { has = record { next = has.next; hand = has.hand; rests = has.rests }; early = early; step = tt }))

@@ -191,15 +191,14 @@ opens_staged n start guarded rests = record {
     none_out holder a is = let clash : None ≡ Some a = sym (held_none holder) ∙ is in cc
 
 -- ---- a life
-rest_next : (number : Version) (stage : Stage) (rests : Bool) (last : ℕ) → number.0 ≡ last + 1 → (rests ≡ true → stage ≡ Flushes) → RestIsNext rests last (Says (stage_phase stage) (stage_version number stage))
-rest_next number Rests true last next flushes = let clash : Rests ≡ Flushes = flushes refl in cc
-rest_next number Rests false last next flushes = (next, refl)
-rest_next number Prepares rests last next flushes = tt
-rest_next number DefersProgress rests last next flushes = tt
-rest_next number Progresses rests last next flushes = tt
-rest_next number DefersPending rests last next flushes = tt
-rest_next number Pends rests last next flushes = tt
-rest_next number Flushes rests last next flushes = tt
+rest_next : (number : Version) (stage : Stage) (last : ℕ) → number.0 ≡ last + 1 → RestIsNext last (Says (stage_phase stage) (stage_version number stage))
+rest_next number Rests last next = next
+rest_next number Prepares last next = tt
+rest_next number DefersProgress last next = tt
+rest_next number Progresses last next = tt
+rest_next number DefersPending last next = tt
+rest_next number Pends last next = tt
+rest_next number Flushes last next = tt
 
 pub version_now : (n : Now) (number : Version) (stage : Stage) → IsStaged n number stage → phase_version n.words ≡ (stage_version number stage).0
 version_now n number stage its = ap version_said its.word
@@ -221,9 +220,8 @@ life_staged opening start (event ∷ before) guarded opened rests =
     let was = version_now n past.number past.stage past.staged in
     let is = version_now (run opening (event ∷ before)).now on.its_number on.its_stage on.staged in
     let up = on.rises in
-    let has = past.staged.keeper.has in
-    let said : RestIsNext n.keeper.rests n.keeper.last.number.0 (phase_said (word_at n.words (shared_place one.Phase))) =
-    subst (λ (x : PhaseSaid). RestIsNext n.keeper.rests n.keeper.last.number.0 x) (sym past.staged.word) (rest_next past.number past.stage n.keeper.rests n.keeper.last.number.0 has.next has.rests) in
+    let said : RestIsNext n.keeper.last.number.0 (phase_said (word_at n.words (shared_place one.Phase))) =
+    subst (λ (x : PhaseSaid). RestIsNext n.keeper.last.number.0 x) (sym past.staged.word) (rest_next past.number past.stage n.keeper.last.number.0 past.staged.keeper.has.next) in
     record { number = on.its_number; stage = on.its_stage; staged = on.staged; rises = (omega (arith, was, is, up), past.rises); rests = (said, past.rests) }
 
 -- no session is ahead as a life begins

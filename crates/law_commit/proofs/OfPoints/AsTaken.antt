@@ -1,5 +1,5 @@
 -- The newest commit that has begun is the one in hand, with the points that were taken, as long as it isn't finished.
-use Rattle.std.proofs.Common.{◌≡◌, inl, inr, ℕ, ◌∙◌, List, [], ◌∷◌, refl, sym, subst, Bool, true, false}
+use Rattle.std.proofs.Common.{◌≡◌, ℕ, ◌∙◌, List, [], ◌∷◌, refl, sym, subst, Bool, true, false}
 use Rattle.std.specs.Prelude.{⊤, if◌then◌else◌, Option, Some, None}
 use Rattle.fkv_base.specs.declared.faults.Fault.TheVariants as fault
 use Rattle.fkv_base.specs.declared.shapes.Shape.{Shape}
@@ -29,13 +29,11 @@ use Rattle.law_refine.specs.Below.fkv_world.OwnEvents.{keeper_events}
 use Rattle.law_refine.proofs.Below.law_world.OfKeeper.OwnRun.{of_keeper}
 use Rattle.law_refine.proofs.Below.law_world.OfStanding.Runs.{happens_at}
 use Rattle.law_commit.specs.BegunCommits.{BegunCommit, begun_at_end, begun_at_gate, begun_at_writes, begun_by, commit_opened, commits_begun, with_finished, with_opening, with_sealed}
-use Rattle.law_commit.specs.HeldCommits.{AreFinished, BeginsAwake, HaveFinished, NoneBeginsInRest}
+use Rattle.law_commit.specs.HeldCommits.{AreFinished, HaveFinished}
 use Rattle.law_commit.specs.Points.{BeginsAsTaken, BegunAreAsTaken, IsAsTaken}
 use Rattle.law_commit.proofs.BegunStands.{Stands, StandsAt, run_stands, there}
-use Rattle.law_commit.proofs.InRest.{AfterRest, after_rest, come_awake, rest_begun, rests_there}
-use Rattle.law_commit.proofs.NextNumbers.{numbers_in_turn}
-use Rattle.law_commit.proofs.OfPhases.LifeStages.{life_staged}
-use Rattle.law_commit.proofs.LifeBegun.{life_awake, opening_finished}
+use Rattle.law_commit.proofs.InRest.{after_rest, come_awake, rest_begun, rests_there}
+use Rattle.law_commit.proofs.LifeBegun.{opening_finished}
 use Rattle.law_commit.proofs.OfPoints.Taking.{KeeperTakes, KeepingReply, KeepingTakes, SeekReply, called_takes, commit_takes, given_takes, has_taken, opened_takes, replied_takes, turn_takes}
 
 -- where its writes are under way, and where it finishes, it has its commit's points
@@ -227,13 +225,15 @@ module _ (shape : Shape) (p : Places) (begun : List BegunCommit) (s : KeeperStat
       either_on s.is_broken refused _ (begins_on s refused begun (record { commit = refl; points = refl; taken = refl }) its) (begins_on s _ begun (record { commit = refl; points = refl; taken = refl }) its)
   ended_led (BeginsCommit kind) told its =
       let refused : KeeperState = ended s (CommitRefused fault.Broken) in
-      either_on s.is_broken refused _ (begins_on s refused begun (record { commit = refl; points = refl; taken = refl }) its) (begins_on s _ begun (record { commit = refl; points = refl; taken = refl }) its)
+      let running : KeeperState = ended s (CommitRefused fault.CommitRunning) in
+      either_on s.is_broken refused _ (begins_on s refused begun (record { commit = refl; points = refl; taken = refl }) its)
+      (either_on s.rests running _ (begins_on s running begun (record { commit = refl; points = refl; taken = refl }) its) (begins_on s _ begun (record { commit = refl; points = refl; taken = refl }) its))
   ended_led (Replies reply granted) told its = its
   ended_led (Gets action) told its = its
   ended_led (Calls done bytes) told its = its
 
   -- each of them
-  step_on : (event : KeeperEvent) (step : Keeping) → s.step ≡ step → StandsAt HaveFinished begun s step → HasPoints s step → BeginsAsTaken s begun → Behind event step (keeper_happens shape p s event)
+  step_on : (event : KeeperEvent) (step : Keeping) → s.step ≡ step → StandsAt begun s step → HasPoints s step → BeginsAsTaken s begun → Behind event step (keeper_happens shape p s event)
   step_on event Writes at stands has_them its = subst (λ (a : KeeperState). Behind event Writes a) (there shape p s event Writes at) (writes_led event at has_them its)
   step_on event Finishes at stands has_them its = subst (λ (a : KeeperState). Behind event Finishes a) (there shape p s event Finishes at) (finishes_led event at its)
   step_on event (Ended told) at stands has_them its = subst (λ (a : KeeperState). BeginsAsTaken a begun) (there shape p s event (Ended told) at) (ended_led event told its)
@@ -246,39 +246,30 @@ module _ (shape : Shape) (p : Places) (begun : List BegunCommit) (s : KeeperStat
   step_on event Waits at stands has_them its = finished_none (keeper_happens shape p s event) begun stands.finished
 
   -- where writes rest the commit in hand is as it was
-  rests_on : (event : KeeperEvent) → s.rests ≡ true → MayRest s.step → BeginsAwake s.rests s.step (keeper_happens shape p s event).step → BeginsAsTaken s begun → Behind event s.step (keeper_happens shape p s event)
-  rests_on event rests may awake its = subst (λ (x : List BegunCommit). BeginsAsTaken a x) (sym (rest_begun s s.step event a.step begun may)) (by (after_rest shape p s event rests may))
-    where
-      a : KeeperState
-      a = keeper_happens shape p s event
+  rests_on : (event : KeeperEvent) → s.rests ≡ true → MayRest s.step → BeginsAsTaken s begun → Behind event s.step (keeper_happens shape p s event)
+  rests_on event rests may its =
+      let a : KeeperState = keeper_happens shape p s event in
+      let kept = (after_rest shape p s event rests may).kept in
+      subst (λ (x : List BegunCommit). BeginsAsTaken a x) (sym (rest_begun s s.step event a.step begun may)) (begins_on s a begun (record { commit = kept.commit; points = kept.points; taken = kept.taken }) its)
 
-      by : AfterRest s a → BeginsAsTaken a begun
-      by (inl kept) = begins_on s a begun (record { commit = kept.kept.commit; points = kept.kept.points; taken = kept.kept.taken }) its
-      by (inr begins) = absurd (clash (sym rests ∙ subst (λ (x : Keeping). BeginsAwake s.rests Starts x) begins.told (subst (λ (x : Keeping). BeginsAwake s.rests x a.step) begins.starts awake)))
-        where
-          clash : true ≡ false → ⊥
-          clash both = cc
-
-  event_on : (event : KeeperEvent) → (s.rests ≡ true → MayRest s.step) → BeginsAwake s.rests s.step (keeper_happens shape p s event).step → Stands HaveFinished begun s → HasPoints s s.step → BeginsAsTaken s begun
-      → Behind event s.step (keeper_happens shape p s event)
-  event_on event may awake stands has_them its = by s.rests refl
+  event_on : (event : KeeperEvent) → (s.rests ≡ true → MayRest s.step) → Stands begun s → HasPoints s s.step → BeginsAsTaken s begun → Behind event s.step (keeper_happens shape p s event)
+  event_on event may stands has_them its = by s.rests refl
     where
       by : (b : Bool) → s.rests ≡ b → Behind event s.step (keeper_happens shape p s event)
-      by true rests = rests_on event rests (may rests) awake its
-      by false none = step_on event s.step refl (subst (λ (x : Keeping). StandsAt HaveFinished begun s x) (come_awake s s.step none refl) stands) has_them its
+      by true rests = rests_on event rests (may rests) its
+      by false none = step_on event s.step refl (subst (λ (x : Keeping). StandsAt begun s x) (come_awake s s.step none refl) stands) has_them its
 
 -- ---- at each moment of a keeper's run
-run_begins : (shape : Shape) (p : Places) (opening : KeeperState) (first : List BegunCommit) (events : List KeeperEvent) → IsOpened opening → NoneBeginsInRest shape p opening events → HaveFinished first opening.last
+run_begins : (shape : Shape) (p : Places) (opening : KeeperState) (first : List BegunCommit) (events : List KeeperEvent) → IsOpened opening → HaveFinished first opening.last
     → BeginsAsTaken (keeper_run shape p opening events) (commits_begun shape p opening first events)
-unfolding keeper_run commits_begun NoneBeginsInRest
-run_begins shape p opening first [] opened none all = finished_none opening first all.finished
-run_begins shape p opening first (event ∷ before) opened none all =
+unfolding keeper_run commits_begun
+run_begins shape p opening first [] opened all = finished_none opening first all.finished
+run_begins shape p opening first (event ∷ before) opened all =
     let s : KeeperState = keeper_run shape p opening before in
-    event_on shape p (commits_begun shape p opening first before) s event (rests_there shape p opening before opened) none.0 (run_stands shape p opening first before opened none.1 all)
-    (run_points opening.seek.sessions shape p opening before opened refl) (run_begins shape p opening first before opened none.1 all)
+    event_on shape p (commits_begun shape p opening first before) s event (rests_there shape p opening before opened) (run_stands shape p opening first before opened all)
+    (run_points opening.seek.sessions shape p opening before opened refl) (run_begins shape p opening first before opened all)
 
 pub begun_as_taken : BegunAreAsTaken
 begun_as_taken opening start events opens =
     of_keeper (λ (s : KeeperState). BeginsAsTaken s (commits_begun opening.now.shape opening.now.places opening.now.keeper (commit_opened opening.now opening.past.opened ∷ []) (keeper_events opening events))) opening events
-    (run_begins opening.now.shape opening.now.places opening.now.keeper (commit_opened opening.now opening.past.opened ∷ []) (keeper_events opening events) opens.quiet.opened.keeper
-    (life_awake opening events (numbers_in_turn opening events opens.quiet.opened (life_staged opening start events opens.quiet.guarded opens.quiet.opened opens.quiet.seen.rests).rests)) (opening_finished opening))
+    (run_begins opening.now.shape opening.now.places opening.now.keeper (commit_opened opening.now opening.past.opened ∷ []) (keeper_events opening events) opens.quiet.opened.keeper (opening_finished opening))

@@ -143,7 +143,8 @@ module _ (R : ℕ → Type 0) where
   unfolding keeping_next keeping_given keeping_called
   ended_led shape p s BeginsTurn told at hand = either_says s.is_broken (ended s (TurnRefused fault.Broken)) _ (record { hand = hand; step = tt }) (record { hand = hand; step = tt })
   ended_led shape p s (BeginsCommit kind) told at hand =
-      either_says s.is_broken (ended s (CommitRefused fault.Broken)) (record s { start = start_begun s.start (asked_for s kind); step = Starts }) (record { hand = hand; step = tt }) (record { hand = hand; step = tt })
+      either_says s.is_broken (ended s (CommitRefused fault.Broken)) (if s.rests then ended s (CommitRefused fault.CommitRunning) else record s { start = start_begun s.start (asked_for s kind); step = Starts }) (record { hand = hand; step = tt })
+      (either_says s.rests (ended s (CommitRefused fault.CommitRunning)) (record s { start = start_begun s.start (asked_for s kind); step = Starts }) (record { hand = hand; step = tt }) (record { hand = hand; step = tt }))
   ended_led shape p s (Replies reply granted) told at hand = stays s (Ended told) at hand tt
   ended_led shape p s (Gets action) told at hand = stays s (Ended told) at hand tt
   ended_led shape p s (Calls done bytes) told at hand = stays s (Ended told) at hand tt

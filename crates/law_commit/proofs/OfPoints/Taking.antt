@@ -491,8 +491,8 @@ module _ (count : ℕ) (F : ℕ → ℕ → ℕ → Type 0) (A : ℕ → ℕ →
 
   pub commit_takes : (s : KeeperState) (kind : CommitKind) → Has s → KeeperTakes (commit_asked s kind)
   commit_takes s kind has =
-      either_takes s.is_broken (ended s (CommitRefused fault.Broken)) (record s { start = start_begun s.start (asked_for s kind); step = Starts }) (λ broken. record { sessions = has.sessions; last = has.last; hand = has.hand; rests = has.rests; step = tt })
-      (λ works. record { sessions = has.sessions; last = has.last; hand = has.hand; rests = has.rests; step = tt })
+      either_takes s.is_broken (ended s (CommitRefused fault.Broken)) (if s.rests then ended s (CommitRefused fault.CommitRunning) else record s { start = start_begun s.start (asked_for s kind); step = Starts }) (λ broken. record { sessions = has.sessions; last = has.last; hand = has.hand; rests = has.rests; step = tt })
+      (λ works. either_takes s.rests (ended s (CommitRefused fault.CommitRunning)) (record s { start = start_begun s.start (asked_for s kind); step = Starts }) (λ rests. record { sessions = has.sessions; last = has.last; hand = has.hand; rests = has.rests; step = tt }) (λ awake. record { sessions = has.sessions; last = has.last; hand = has.hand; rests = has.rests; step = tt }))
 
   pub asked_takes : (s begun : KeeperState) → KeeperTakes s → KeeperTakes begun → KeeperTakes (keeper_asked s begun)
   asked_takes s begun its next = by_hand (is_in_hand s.step)

@@ -14,7 +14,7 @@ use Rattle.law_refine.specs.Below.law_world.Guarded.Shows.{IsOpened}
 use Rattle.law_commit.specs.Accepted.{HasRisingVersion, NeverFall, point, versions_accepted}
 use Rattle.law_commit.specs.LastSerials.{serial_at}
 use Rattle.law_commit.specs.BegunCommits.{AreInTurn}
-use Rattle.law_commit.specs.HeldCommits.{AtKeeping, NoneBeginsInRest}
+use Rattle.law_commit.specs.HeldCommits.{AtKeeping}
 use Rattle.law_commit.specs.FinishedCommits.{commits_finished, commits_told, told_of}
 use Rattle.law_commit.specs.PhaseStores.{SparesPhase, StoresClaimed, StoresItsPhase, phase_at}
 use Rattle.law_commit.specs.PhaseVersions.{phase_version}
@@ -78,18 +78,11 @@ ViewsAreStamped =
     (opening : World) (events : List Event) (event : Event) (session : ℕ)
     → IsSightAfter (run opening events).now.words (sight_of opening events session) (sight_of opening (event ∷ events) session)
 
--- The commits that have begun are as the step says to which the keeper has come. Where no writes rest that is its own.
+-- The commits that have begun are as the step says to which the keeper has come: its own, and the writes where they rest.
 abbrev pub BegunAreAsKept : Type 0
 BegunAreAsKept =
     (opening : World) (events : List Event) → IsOpenedWorld opening
-    → NoneBeginsInRest opening.now.shape opening.now.places opening.now.keeper (keeper_events opening events)
     → AtKeeping (prefix_past opening events).begun (run opening events).now.keeper (come_to (run opening events).now.keeper)
-
--- none begins where the writes of another rest
-abbrev pub BeginNoneInRest : Type 0
-BeginNoneInRest =
-    (opening : World) (start : ℕ) (events : List Event) → IsOpenedWorld opening → IsOpened opening.now start → OpensAtRest opening.now
-    → NoneBeginsInRest opening.now.shape opening.now.places opening.now.keeper (keeper_events opening events)
 
 -- where a commit's words are stored it says what was written
 abbrev pub NewestIsAsWritten : Type 0

@@ -259,8 +259,8 @@ module _ (count : ℕ) where
 
   commit_spares : (n : ℕ) (s : KeeperState) (kind : CommitKind) → s.finish.sessions ≡ count → IsKeeperSparing n count (commit_asked s kind)
   commit_spares n s kind counts =
-      either_spares s.is_broken n (ended s (CommitRefused fault.Broken)) (record s { start = start_begun s.start (asked_for s kind); step = Starts }) (ended_spares n s _ counts)
-      (record { counts = counts; bounds = start_begun_spares s kind })
+      either_spares s.is_broken n (ended s (CommitRefused fault.Broken)) (if s.rests then ended s (CommitRefused fault.CommitRunning) else record s { start = start_begun s.start (asked_for s kind); step = Starts }) (ended_spares n s _ counts)
+      (either_spares s.rests n (ended s (CommitRefused fault.CommitRunning)) (record s { start = start_begun s.start (asked_for s kind); step = Starts }) (ended_spares n s _ counts) (record { counts = counts; bounds = start_begun_spares s kind }))
 
   begins_spares : (n : ℕ) (s : KeeperState) (busy : Bool) (begun : KeeperState) → IsKeeperSparing n count s → IsKeeperSparing n count begun → IsKeeperSparing n count (begins s busy begun)
   begins_spares n s true begun one other = one

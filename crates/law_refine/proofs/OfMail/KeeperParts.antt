@@ -89,7 +89,7 @@ module _ (Q : MaintainState → Type 0) where
       (either_with s.is_broken (ended s (TurnRefused fault.Broken)) (record s { maintain = parts_begun s.rests s.maintain; is_drain_full = false; step = Maintains }) tt begun)
   from_ended shape p s its (BeginsCommit kind) at was begun =
       subst (λ (x : Keeping). IsInTurn Q (begins s (is_in_hand x) (commit_asked s kind))) (sym at)
-      (either_with s.is_broken (ended s (CommitRefused fault.Broken)) (record s { start = start_begun s.start (asked_for s kind); step = Starts }) tt tt)
+      (either_with s.is_broken (ended s (CommitRefused fault.Broken)) (if s.rests then ended s (CommitRefused fault.CommitRunning) else record s { start = start_begun s.start (asked_for s kind); step = Starts }) tt (either_with s.rests (ended s (CommitRefused fault.CommitRunning)) (record s { start = start_begun s.start (asked_for s kind); step = Starts }) tt tt))
   from_ended shape p s its (Replies reply granted) at was begun = subst (λ (x : Keeping). IsInTurn Q (keeping_next shape p s x reply granted)) (sym at) was
   from_ended shape p s its (Gets action) at was begun = subst (λ (x : Keeping). IsInTurn Q (keeping_given shape p s x action)) (sym at) was
   from_ended shape p s its (Calls done bytes) at was begun = subst (λ (x : Keeping). IsInTurn Q (keeping_called shape p s x done bytes)) (sym at) was

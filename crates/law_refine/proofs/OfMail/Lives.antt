@@ -47,10 +47,12 @@ either_broken true before a b one other = one
 either_broken false before a b one other = other
 
 commit_idle : (s : KeeperState) (kind : CommitKind) → IsIdle (serving_of (commit_asked s kind))
-commit_idle s kind = either_idle s.is_broken (ended s (CommitRefused fault.Broken)) (record s { start = start_begun s.start (asked_for s kind); step = Starts }) tt tt
+commit_idle s kind = either_idle s.is_broken (ended s (CommitRefused fault.Broken)) (if s.rests then ended s (CommitRefused fault.CommitRunning) else record s { start = start_begun s.start (asked_for s kind); step = Starts }) tt (either_idle s.rests (ended s (CommitRefused fault.CommitRunning)) (record s { start = start_begun s.start (asked_for s kind); step = Starts }) tt tt)
 
 commit_broken : (s : KeeperState) (kind : CommitKind) → (commit_asked s kind).is_broken ≡ s.is_broken
-commit_broken s kind = either_broken s.is_broken s.is_broken (ended s (CommitRefused fault.Broken)) (record s { start = start_begun s.start (asked_for s kind); step = Starts }) refl refl
+commit_broken s kind =
+    either_broken s.is_broken s.is_broken (ended s (CommitRefused fault.Broken)) (if s.rests then ended s (CommitRefused fault.CommitRunning) else record s { start = start_begun s.start (asked_for s kind); step = Starts }) refl
+    (either_broken s.rests s.is_broken (ended s (CommitRefused fault.CommitRunning)) (record s { start = start_begun s.start (asked_for s kind); step = Starts }) refl refl)
 
 turn_idle : (s : KeeperState) → IsIdle (serving_of (turn_asked s))
 turn_idle s = either_idle s.is_broken (ended s (TurnRefused fault.Broken)) (record s { maintain = parts_begun s.rests s.maintain; is_drain_full = false; step = Maintains }) tt (parts_idle s.rests)

@@ -1,5 +1,5 @@
 -- The commits that have begun.
-use Rattle.law_commit.proofs.LifeBegun.{life_awake, life_stands, life_turn}
+use Rattle.law_commit.proofs.LifeBegun.{life_stands, life_turn}
 use Rattle.law_commit.proofs.NewestWritten.{life_written}
 use Rattle.law_commit.proofs.ToldFinished.{life_finished}
 use Rattle.law_commit.proofs.NextNumbers.{numbers_in_turn}
@@ -7,10 +7,7 @@ use Rattle.law_commit.proofs.OfPhases.LifeStages.{life_staged}
 use Rattle.law_commit.proofs.laws.law_begun.Goals as goal
 
 pub returns-clause-begun : goal.returns-clause-begun
-returns-clause-begun c = λ opening events opened none. life_stands opening events opened none
-
-pub returns-clause-awake : goal.returns-clause-awake
-returns-clause-awake c = λ opening start events opened guarded rests. life_awake opening events (numbers_in_turn opening events opened (life_staged opening start events guarded opened rests).rests)
+returns-clause-begun c = λ opening events opened. life_stands opening events opened
 
 pub returns-clause-written : goal.returns-clause-written
 returns-clause-written c = λ opening events opened stores. life_written opening events opened stores
