@@ -424,7 +424,7 @@ awake_stands shape p begun s event Seeks awake e its = calm_stands shape p begun
 
 -- ---- and where they rest
 module _ (shape : Shape) (p : Places) (begun : List BegunCommit) (s : KeeperState) (event : KeeperEvent) (rests : s.rests ≡ true) (may : MayRest s.step) (its : AtWrites begun s s.writes.step) where
-  a : KeeperState
+  abbrev a : KeeperState
   a = keeper_happens shape p s event
 
   -- they rest still, go on, or a call has failed

@@ -114,21 +114,21 @@ module _ (F : Version → Addr → Type 0) (E : Span → Type 0) where
   InHand true commit has_points copy triples = WritesEnds commit triples
   InHand false commit has_points copy triples = HandEnds commit has_points copy
 
-  abbrev pub Held : KeeperState → Type 0
-  Held s = InHand s.rests s.commit s.has_points s.copy s.writes.triples
+  abbrev pub IsHeld : KeeperState → Type 0
+  IsHeld s = InHand s.rests s.commit s.has_points s.copy s.writes.triples
 
-  held_awake : (s : KeeperState) → s.rests ≡ false → Hand s → Held s
+  held_awake : (s : KeeperState) → s.rests ≡ false → Hand s → IsHeld s
   held_awake s awake hand = subst (λ (x : Bool). InHand x s.commit s.has_points s.copy s.writes.triples) (sym awake) hand
 
-  held_at : (s : KeeperState) (rests : Bool) → s.rests ≡ rests → Held s → InHand rests s.commit s.has_points s.copy s.writes.triples
+  held_at : (s : KeeperState) (rests : Bool) → s.rests ≡ rests → IsHeld s → InHand rests s.commit s.has_points s.copy s.writes.triples
   held_at s rests so held = subst (λ (x : Bool). InHand x s.commit s.has_points s.copy s.writes.triples) so held
 
   -- a device that has failed is never used again
   abbrev pub KeepingEnds : KeeperState → Keeping → Type 0
-  KeepingEnds s (Ended told) = s.is_broken ≡ false → Held s
-  KeepingEnds s Starts = Held s × StartEnds s.start.step
-  KeepingEnds s Maintains = (s.is_broken ≡ false) × Held s
-  KeepingEnds s LoadsPhase = (s.is_broken ≡ false) × Held s
+  KeepingEnds s (Ended told) = s.is_broken ≡ false → IsHeld s
+  KeepingEnds s Starts = IsHeld s × StartEnds s.start.step
+  KeepingEnds s Maintains = (s.is_broken ≡ false) × IsHeld s
+  KeepingEnds s LoadsPhase = (s.is_broken ≡ false) × IsHeld s
   KeepingEnds s Copies = HandFirst s.commit × (s.has_points ≡ true → ⊥) × (s.rests ≡ false)
   KeepingEnds s Seeks = SeeksSo s s.seek.step
   KeepingEnds s Waits = (s.has_points ≡ true) × Hand s × (s.rests ≡ false)
@@ -221,7 +221,7 @@ module _ (F : Version → Addr → Type 0) (E : Span → Type 0) where
   start_tells s (start.LoadsTail number) ends = tt
   start_tells s (start.Defers number first) ends = passed_start (defer_ask s.defer)
 
-  started_ends : (s : KeeperState) (ask : Ask StartAnswer) → s.step ≡ Starts → Held s → StartEnds s.start.step → StartTells ask → KeeperEnds (start_ledto s ask)
+  started_ends : (s : KeeperState) (ask : Ask StartAnswer) → s.step ≡ Starts → IsHeld s → StartEnds s.start.step → StartTells ask → KeeperEnds (start_ledto s ask)
   unfolding start_ledto
   started_ends s (Done (started.Begun number first)) at hand ends tells = λ works. record {
     first = λ c is. subst (λ (x : Commit). F x.number x.first) (some_same is) tells;
@@ -232,7 +232,7 @@ module _ (F : Version → Addr → Type 0) (E : Span → Type 0) where
   started_ends s ask at hand ends tells = stays s Starts at (hand, ends)
 
   -- ---- a turn
-  maintained_ends : (s : KeeperState) (ask : Ask MaintainAnswer) → s.step ≡ Maintains → (s.is_broken ≡ false) × Held s → KeeperEnds (maintain_ledto s ask)
+  maintained_ends : (s : KeeperState) (ask : Ask MaintainAnswer) → s.step ≡ Maintains → (s.is_broken ≡ false) × IsHeld s → KeeperEnds (maintain_ledto s ask)
   unfolding maintain_ledto
   maintained_ends s (Done maintain.Through) at its = its
   maintained_ends s (Done maintain.Spent) at its = λ works. its.1
@@ -279,10 +279,10 @@ module _ (F : Version → Addr → Type 0) (E : Span → Type 0) where
   part_ends p s c Spoiled granted awake in_hand works hand = λ still. held_awake s awake hand
 
   -- writes that rest go on, or rest still
-  taken_up_ends : (s : KeeperState) (granted : Bool) → Held s → WritesSo s → KeeperEnds (writes_taken_up s granted)
+  taken_up_ends : (s : KeeperState) (granted : Bool) → IsHeld s → WritesSo s → KeeperEnds (writes_taken_up s granted)
   taken_up_ends s granted held writes = either_ends granted (record s { rests = false; is_granted = true; step = Writes }) (turned (record s { is_granted = false })) (λ yes. (writes, refl)) (λ no. (λ works. held))
 
-  phase_ends : (p : Places) (s : KeeperState) (found : Option Commit) (said : PhaseSaid) (granted : Bool) → s.commit ≡ found → (s.is_broken ≡ false) × Held s → KeeperEnds (phase_ledto p s found said granted)
+  phase_ends : (p : Places) (s : KeeperState) (found : Option Commit) (said : PhaseSaid) (granted : Bool) → s.commit ≡ found → (s.is_broken ≡ false) × IsHeld s → KeeperEnds (phase_ledto p s found said granted)
   unfolding phase_ledto
   phase_ends p s None said granted is its = λ works. its.1
   phase_ends p s (Some c) said granted is its =
@@ -466,20 +466,20 @@ module _ (F : Version → Addr → Type 0) (E : Span → Type 0) where
   called_ends shape p s step done bytes at its = stays s step at its
 
   -- what is begun where no call is in hand
-  turn_ends : (s : KeeperState) → (s.is_broken ≡ false → Held s) → KeeperEnds (turn_asked s)
+  turn_ends : (s : KeeperState) → (s.is_broken ≡ false → IsHeld s) → KeeperEnds (turn_asked s)
   turn_ends s hand =
       either_ends s.is_broken (ended s (TurnRefused fault.Broken)) (record s { maintain = parts_begun s.rests s.maintain; is_drain_full = false; step = Maintains }) (λ yes. hand) (λ no. (no, hand no))
 
-  commit_ends : (s : KeeperState) (kind : CommitKind) → (s.is_broken ≡ false → Held s) → KeeperEnds (commit_asked s kind)
+  commit_ends : (s : KeeperState) (kind : CommitKind) → (s.is_broken ≡ false → IsHeld s) → KeeperEnds (commit_asked s kind)
   commit_ends s kind hand =
       either_ends s.is_broken (ended s (CommitRefused fault.Broken)) (if s.rests then ended s (CommitRefused fault.CommitRunning) else record s { start = start_begun s.start (asked_for s kind); step = Starts }) (λ yes. hand)
       (λ no. either_ends s.rests (ended s (CommitRefused fault.CommitRunning)) (record s { start = start_begun s.start (asked_for s kind); step = Starts }) (λ rests. hand) (λ awake. (hand no, tt)))
 
-  idle_hand : (s : KeeperState) (step : Keeping) → is_in_hand step ≡ false → KeepingEnds s step → s.is_broken ≡ false → Held s
+  idle_hand : (s : KeeperState) (step : Keeping) → is_in_hand step ≡ false → KeepingEnds s step → s.is_broken ≡ false → IsHeld s
   idle_hand s (Ended told) idle its = its
   idle_hand s step idle its = cc
 
-  asked_ends : (s begun : KeeperState) → KeeperEnds s → ((s.is_broken ≡ false → Held s) → KeeperEnds begun) → KeeperEnds (keeper_asked s begun)
+  asked_ends : (s begun : KeeperState) → KeeperEnds s → ((s.is_broken ≡ false → IsHeld s) → KeeperEnds begun) → KeeperEnds (keeper_asked s begun)
   asked_ends s begun its next = by_hand (is_in_hand s.step) refl
     where
       by_hand : (b : Bool) → is_in_hand s.step ≡ b → KeeperEnds (if b then s else begun)
@@ -513,7 +513,7 @@ module _ (F G : Version → Addr → Type 0) (E H : Span → Type 0) (firsts : (
   in_hand_map true commit has_points copy triples its = writes_map commit triples its
   in_hand_map false commit has_points copy triples its = hand_map commit has_points copy its
 
-  held_map : (s : KeeperState) → Held F E s → Held G H s
+  held_map : (s : KeeperState) → IsHeld F E s → IsHeld G H s
   held_map s its = in_hand_map s.rests s.commit s.has_points s.copy s.writes.triples its
 
   at_map : (commit : Option Commit) (copy : Option Copier) (end : Addr) → EndsAt F E commit copy end → EndsAt G H commit copy end
