@@ -1,6 +1,6 @@
 -- A step of a commit that copies the index, waits, is written or finishes, as the keeper makes it.
 use Rattle.std.proofs.Common.{◌≡◌, ℕ, List, [], refl, ap, sym, subst, ◌∙◌, Bool, true, false}
-use Rattle.std.specs.Prelude.{Option, Some, None, slice_get, ◌+◌}
+use Rattle.std.specs.Prelude.{Option, Some, None, slice_get, ◌+◌, if◌then◌else◌}
 use Rattle.fkv_index.specs.Slots.{bucket_slots}
 use Rattle.std.proofs.lemmas.List.{set-get_or}
 use Rattle.fkv_base.specs.declared.numbers.Serial.{Serial}

@@ -1,5 +1,5 @@
 -- One event after another: one commit stands at each moment.
-use Rattle.std.proofs.Common.{◌≡◌, ℕ, ◌^◌, List, [], ◌∷◌, ◌++◌, Bool, true, false, refl, sym, ◌∙◌, ap, subst}
+use Rattle.std.proofs.Common.{◌≡◌, ◌⊎◌, inl, inr, ℕ, ◌^◌, List, [], ◌∷◌, ◌++◌, Bool, true, false, refl, sym, ◌∙◌, ap, subst}
 use Rattle.std.specs.Prelude.{if◌then◌else◌, Option}
 use Rattle.fkv_base.specs.declared.faults.Fault.TheVariants as fault
 use Rattle.fkv_base.specs.declared.shapes.Shape.{Shape}
@@ -290,10 +290,10 @@ module _ (shape : Shape) (p : Places) (opened : List ℕ) (buckets : p.buckets �
       writing_still step may = refl
 
       module _ (event : KeeperEvent) where
-        a : KeeperState
+        abbrev a : KeeperState
         a = keeper_happens shape p s event
 
-        Rested : Type 0
+        abbrev Rested : Type 0
         Rested = Shows s.step a (writing_after s.step event a w) (calls_at shape s s.step event ++ calls)
 
         -- what is shown where the lists beside the run are as they were

@@ -1,6 +1,7 @@
 -- By the law of the commit that stands, of its own run.
 use Rattle.std.specs.Prelude.{◌≡◌, false}
 use Rattle.fkv_keeper.specs.declared.keepers.Keeping.TheVariants.{Finishes}
+use Rattle.fkv_keeper.specs.Keeping.{come_to}
 use Rattle.fkv_record.specs.Places.{number_at}
 use Rattle.law_world.specs.Standing.Standing.{IsOneInForce, TriplesStand, is_at_writes}
 use Rattle.law_world.proofs.OfStanding.Runs.{run_at, run_named, run_stands, run_written}
