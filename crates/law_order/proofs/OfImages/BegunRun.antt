@@ -294,7 +294,7 @@ module _ (shape : Shape) (opened : List ℕ) (first : BegunCommit) (Good : Begun
 
   -- ---- while it is written
   -- it is as it was where the keeper has the same of the commit in hand
-  opening_of : Commit → List Serial → List ℕ → Checkpoint → List LostRange → BegunCommit
+  abbrev opening_of : Commit → List Serial → List ℕ → Checkpoint → List LostRange → BegunCommit
   opening_of c points triples used lost = record {
     number = c.number;
     points = points;
@@ -548,7 +548,7 @@ module _ (shape : Shape) (opened : List ℕ) (first : BegunCommit) (Good : Begun
   rest_goes step may = refl
 
   module _ (p : Places) (s : KeeperState) (was : Bool) (its : Standing) (w : Writing) (calls : List Call) (begun : List BegunCommit) (event : KeeperEvent) (rests : s.rests ≡ true) (resting : IsResting shape s w) (is : (was ≡ true) × IsWriting shape opened first Good s its w calls begun) where
-    after : KeeperState
+    abbrev after : KeeperState
     after = keeper_happens shape p s event
 
     abbrev Now : KeeperState → Type 0
