@@ -1,5 +1,5 @@
 -- What an event makes of a keeper while writes rest. They rest still, go on, or a call has failed, and what is written is as it was.
-use Rattle.std.proofs.Common.{◌≡◌, ℕ, ◌∙◌, ◌⊎◌, inl, inr, List, refl, ap, subst, Bool, true, false}
+use Rattle.std.proofs.Common.{◌≡◌, ◌∙◌, ◌⊎◌, inl, inr, List, refl, ap, subst, Bool, true, false}
 use Rattle.std.specs.Prelude.{Option, Some, None, if◌then◌else◌}
 use Rattle.fkv_base.specs.declared.commits.CommitKind.{CommitKind}
 use Rattle.fkv_base.specs.declared.faults.Fault.TheVariants as fault
@@ -14,11 +14,10 @@ use Rattle.law_refine.specs.Below.fkv_commit.Starting.{start_begun}
 use Rattle.law_refine.specs.Below.fkv_maintain.MaintainAnswer.{MaintainAnswer}
 use Rattle.law_refine.specs.Below.fkv_maintain.MaintainAnswer.TheVariants as maintain
 use Rattle.law_refine.specs.Below.fkv_maintain.Maintaining.{MaintainState, maintain_ask, maintain_called, maintain_given, maintain_next}
-use Rattle.law_refine.specs.Below.fkv_manifest.Committing.{CommitWriter}
 use Rattle.law_refine.specs.Below.fkv_keeper.KeeperTold.{KeeperTold}
 use Rattle.law_refine.specs.Below.fkv_keeper.KeeperTold.TheVariants.{CommitRefused, TurnRefused}
 use Rattle.law_refine.specs.Below.fkv_keeper.TheKeeping.{Keeping}
-use Rattle.law_refine.specs.Below.fkv_keeper.TheKeeping.TheVariants.{Ended, Starts, Maintains, LoadsPhase, Enters, Copies, Seeks, Waits, Writes, Finishes}
+use Rattle.law_refine.specs.Below.fkv_keeper.TheKeeping.TheVariants.{Ended, Starts, Maintains, LoadsPhase, Writes, Finishes}
 use Rattle.law_refine.specs.Below.fkv_keeper.CheckpointLaws.{MayFollow, MayStep}
 use Rattle.law_refine.specs.Below.fkv_keeper.Keeping.{KeeperState, asked_for, come_to, commit_asked, ended, keeping_called, keeping_given, keeping_next, maintain_ledto, part_begun, parts_begun, phase_ledto, turn_asked, writes_taken_up}
 use Rattle.law_refine.specs.Below.fkv_keeper.KeeperLaws.{MayRest}

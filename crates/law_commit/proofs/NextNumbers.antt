@@ -43,7 +43,7 @@ use Rattle.law_refine.specs.Below.fkv_world.Opened.{IsOpenedWorld}
 use Rattle.law_refine.specs.Below.fkv_world.OwnEvents.{keeper_got, keeper_slots, keeper_steps, keeper_part, keeper_part_of, keeper_events}
 use Rattle.law_refine.specs.Below.fkv_world.Runs.{World, read_by_keeper, run}
 use Rattle.law_refine.specs.Below.fkv_world.World as world
-use Rattle.law_refine.specs.Below.fkv_world.World.{Event, Commits, KeeperMoves, Crashes, Now, near}
+use Rattle.law_refine.specs.Below.fkv_world.World.{Event, Commits, KeeperMoves, Crashes, near}
 use Rattle.law_refine.proofs.Below.fkv_world.Shown.{keeper_runs, keeper_runs_on, places_stay, shape_stays}
 use Rattle.law_commit.specs.PhaseVersions.{RestIsNext, RestsAreNext}
 use Rattle.law_commit.proofs.InRest.{follows_or_writes}

@@ -1,5 +1,5 @@
 -- A commit's first address and its end lie at or below the tail; so what is decided below them is settled.
-use Rattle.std.proofs.Common.{◌≡◌, ◌⊎◌, ℕ, ◌<◌, ◌≤◌, inl, inr, List, refl, subst, arith, true}
+use Rattle.std.proofs.Common.{◌≡◌, ◌⊎◌, ℕ, ◌<◌, ◌≤◌, inl, inr, List, refl, subst, arith, Bool, true, false}
 use Rattle.std.specs.Prelude.{Some, if◌then◌else◌}
 use Rattle.law_refine.specs.Below.fkv_commit.Commit.{Commit}
 use Rattle.law_refine.specs.Below.fkv_keeper.TheKeeping.{Keeping}

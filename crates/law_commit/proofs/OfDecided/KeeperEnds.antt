@@ -1,5 +1,5 @@
 -- What the keeper knows of the moments at which a commit's first address and its end were the tail; and that each of its steps keeps it.
-use Rattle.std.proofs.Common.{◌≡◌, ℕ, ◌+◌, ◌∙◌, List, [], ◌∷◌, ◌++◌, length, refl, ap, sym, subst, Bool, true, false}
+use Rattle.std.proofs.Common.{◌≡◌, ℕ, ◌+◌, ◌∙◌, List, [], length, refl, ap, sym, subst, Bool, true, false}
 use Rattle.std.specs.Prelude.{⊤, nat_le, nat_lt, max, ◌==◌, if◌then◌else◌, Option, Some, None, ◌||◌, not}
 use Rattle.fkv_base.specs.Limits.{last_of}
 use Rattle.fkv_base.specs.declared.commits.CommitKind.{CommitKind}

@@ -1,5 +1,5 @@
 -- So in each life the view of each live session has its floor.
-use Rattle.std.proofs.Common.{◌≡◌, ◌*◌, inr, inl, ℕ, ◌+◌, ◌<◌, ◌≤◌, ◌∙◌, List, [], ◌∷◌, refl, arith, sym, ap, subst, true, false}
+use Rattle.std.proofs.Common.{◌≡◌, ◌*◌, inr, inl, ℕ, ◌+◌, ◌<◌, ◌≤◌, ◌∙◌, List, [], ◌∷◌, refl, arith, sym, ap, subst, Bool, true, false}
 use Rattle.std.specs.Prelude.{Some, None, if◌then◌else◌}
 use Rattle.fkv_base.specs.declared.numbers.Version.{Version}
 use Rattle.law_refine.specs.Below.fkv_commit.Commit.{Commit}

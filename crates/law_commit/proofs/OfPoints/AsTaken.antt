@@ -22,7 +22,7 @@ use Rattle.law_refine.specs.Below.fkv_manifest.Committing.{commit_answer, commit
 use Rattle.law_refine.specs.Below.fkv_keeper.KeeperTold.TheVariants.{CommitRefused, TurnRefused}
 use Rattle.law_refine.specs.Below.fkv_keeper.TheKeeping.{Keeping}
 use Rattle.law_refine.specs.Below.fkv_keeper.TheKeeping.TheVariants.{Ended, Starts, Maintains, LoadsPhase, Enters, Copies, Seeks, Waits, Writes, Finishes}
-use Rattle.law_refine.specs.Below.fkv_keeper.Keeping.{KeeperState, come_to, commit_asked, ended, finish_ledto, finished, keeping_called, keeping_given, keeping_next, must_rest, turn_asked, turned, write_ledto, writes_called}
+use Rattle.law_refine.specs.Below.fkv_keeper.Keeping.{KeeperState, commit_asked, ended, finish_ledto, finished, keeping_called, keeping_given, keeping_next, must_rest, turn_asked, turned, write_ledto, writes_called}
 use Rattle.law_refine.specs.Below.fkv_keeper.KeeperLaws.{MayRest}
 use Rattle.law_refine.specs.Below.fkv_keeper.KeeperRun.{BeginsCommit, BeginsTurn, Calls, Gets, IsOpened, KeeperEvent, Replies, begins, is_in_hand, keeper_happens, keeper_run}
 use Rattle.law_refine.specs.Below.fkv_world.OwnEvents.{keeper_events}

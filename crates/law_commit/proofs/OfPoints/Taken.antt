@@ -22,7 +22,6 @@ use Rattle.law_refine.specs.Below.fkv_keeper.TheKeeping.{Keeping}
 use Rattle.law_refine.specs.Below.fkv_keeper.TheKeeping.TheVariants.{Ended, Starts, Maintains, LoadsPhase, Enters, Copies, Seeks, Waits, Writes, Finishes}
 use Rattle.law_refine.specs.Below.fkv_keeper.Keeping.{KeeperState, commit_asked, keeper_ask, keeping_ask, turn_asked}
 use Rattle.fkv_map.specs.History.{point_of}
-use Rattle.law_refine.specs.Below.fkv_session.CatchingUp.{cut_at}
 use Rattle.law_refine.specs.Below.fkv_session.Sessions.{SessionState}
 use Rattle.law_refine.specs.Below.fkv_session.SessionRun.{session_run}
 use Rattle.law_refine.specs.Below.fkv_world.Moves.{keeper_gets}

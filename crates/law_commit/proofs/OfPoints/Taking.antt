@@ -1,6 +1,6 @@
 -- What the keeper knows of the points that it takes, whatever a point is, and whatever is known of words that it has met.
 use Rattle.std.proofs.Common.{◌≡◌, ℕ, zero, suc, ◌+◌, ◌<◌, ◌≤◌, ◌∙◌, List, [], ◌∷◌, ◌++◌, length, refl, arith, sym, ap, subst, Bool, true, false}
-use Rattle.std.specs.Prelude.{⊤, nat_le, nat_lt, max, ◌==◌, if◌then◌else◌, Option, Some, None, slice_get, ◌||◌, not}
+use Rattle.std.specs.Prelude.{⊤, nat_lt, max, ◌==◌, if◌then◌else◌, Option, Some, None, slice_get, ◌||◌, not}
 use Rattle.std.proofs.lemmas.Bool.Decides.{nat_tests}
 use Rattle.fkv_base.specs.declared.commits.CommitKind.{CommitKind}
 use Rattle.fkv_base.specs.declared.faults.Fault.TheVariants as fault

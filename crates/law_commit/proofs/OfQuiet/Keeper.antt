@@ -1,6 +1,6 @@
 -- As the keeper seeks the points of a commit, the sessions whose owing words it has read as 0 leave the commit's version, whatever that is.
-use Rattle.std.proofs.Common.{◌≡◌, ℕ, ◌+◌, ◌<◌, ◌≤◌, List, [], ◌∷◌, ◌++◌, length, refl, arith, sym, subst, Bool, true, false}
-use Rattle.std.specs.Prelude.{⊤, nat_le, nat_lt, max, ◌==◌, if◌then◌else◌, Option, Some, None, ◌||◌, not}
+use Rattle.std.proofs.Common.{◌≡◌, ℕ, ◌+◌, ◌<◌, ◌≤◌, List, [], length, refl, arith, sym, subst, Bool, true, false}
+use Rattle.std.specs.Prelude.{⊤, nat_lt, max, ◌==◌, if◌then◌else◌, Option, Some, None, ◌||◌, not}
 use Rattle.std.proofs.lemmas.Bool.Decides.{nat_tests}
 use Rattle.fkv_base.specs.declared.commits.CommitKind.{CommitKind}
 use Rattle.fkv_base.specs.declared.faults.Fault.TheVariants as fault
