@@ -267,7 +267,10 @@ int32_t fkv_make_turn(fkv_file *file, struct turn *turn, tell_turn_fn *tell, voi
 /* The same of a turn that only serves, while the writes of a commit rest. */
 int32_t fkv_serve_turn(fkv_file *file, struct turn *turn);
 
-/* Makes the sync before which the writes of a commit rest, without the turn. Who waits meanwhile serves by himself. The lock is held, but while it is made. */
+/*
+ * Makes the sync before which the writes of a commit rest, without the turn. Who waits meanwhile serves by himself. The lock is held, but
+ * while it is made.
+ */
 void fkv_sync_ahead(fkv_file *file);
 
 /*

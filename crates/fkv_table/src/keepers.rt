@@ -169,11 +169,23 @@ fn ask_word<D: Device, E: OfKeeper>(
     requires ask { ask.now ≡ said.keeper_ask machine.old.shape machine.old.places machine.old.state }
     requires word { (place : ℕ) × (said.asked_place ask.now ≡ Some place) }
     ensures seat { (seat.new.table_id ≡ seat.old.table_id) × (seat.new.id ≡ seat.old.id) }
-    ensures replied { said.KeeperReplied (said.opening_of D.seen) words.now.key seat.old.me (said.granted_for machine.old.state (is_some room) goes_on) machine.old seat.new.me machine.new }
+    ensures replied { said.KeeperReplied (said.opening_of D.seen) words.now.key seat.old.me (said.granted_for machine.old.state (is_some room) goes_on) machine.old
+        seat.new.me machine.new }
     ensures ask { result ≡ said.keeper_ask machine.new.shape machine.new.places machine.new.state }
 {
     let reply = perform::<D, Adding<E>, KeeperTold>(words, seat, ask);
     machine.go_on_with(reply, room, goes_on)
+}
+
+/// Whether the step is granted what it may need: that writes that rest go on, and elsewhere memory for a copy.
+fn is_granted(machine: &fkv_keeper::Keeper, room: &Option<CopyRoom>, goes_on: bool) -> bool
+    ensures { result ≡ said.granted_for machine.now.state (is_some room.now) goes_on }
+{
+    if machine.rests() {
+        goes_on
+    } else {
+        room.is_some()
+    }
 }
 
 /// The same, where the event is by what is granted: memory that was got, or that writes that rest go on.
@@ -191,15 +203,11 @@ fn ask_by_grant<D: Device>(
     requires ask { ask.now ≡ said.keeper_ask machine.old.shape machine.old.places machine.old.state }
     requires word { (place : ℕ) × (said.asked_place ask.now ≡ Some place) }
     ensures seat { (seat.new.table_id ≡ seat.old.table_id) × (seat.new.id ≡ seat.old.id) }
-    ensures replied { said.KeeperReplied (said.opening_of D.seen) words.now.key seat.old.me (said.granted_for machine.old.state (is_some room) goes_on) machine.old seat.new.me machine.new }
+    ensures replied { said.KeeperReplied (said.opening_of D.seen) words.now.key seat.old.me (said.granted_for machine.old.state (is_some room) goes_on) machine.old
+        seat.new.me machine.new }
     ensures ask { result ≡ said.keeper_ask machine.new.shape machine.new.places machine.new.state }
 {
-    let is_granted = if machine.rests() {
-        goes_on
-    } else {
-        room.is_some()
-    };
-    if is_granted {
+    if is_granted(machine, &room, goes_on) {
         ask_word::<D, Granted>(words, seat, machine, ask, room, goes_on)
     } else {
         ask_word::<D, Ungranted>(words, seat, machine, ask, room, goes_on)
