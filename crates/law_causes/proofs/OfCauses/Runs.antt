@@ -187,7 +187,7 @@ module _ (before : List KeeperEvent) (was : KeeperState) (event : KeeperEvent) (
   start_led : (t : KeeperState) (ask : Ask StartAnswer) → t.step ≡ Starts → start_ask t.start ≡ ask → Works t → StartKnows asked (asked_for t) t.start told → Outcome (start_ledto t ask)
   unfolding start_ledto
   start_led t (Done (start.Begun number first)) e asks works knows = record { broken = works; comes = tt }
-  start_led t (Done (start.Refused why)) e asks works knows = record { broken = works; comes = shown t why (start_refused asked (asked_for t) t.start told why knows asks) }
+  start_led t (Done (start.Refused why)) e asks works knows = record { broken = works; comes = shown (ended t (CommitRefused why)) why (start_refused asked (asked_for t) t.start told why knows asks) }
   start_led t (Done start.Idle) e asks works knows = absurd (start_not_idle asked (asked_for t) t.start told knows asks)
   start_led t ask e asks works knows = at t Starts e works knows
 

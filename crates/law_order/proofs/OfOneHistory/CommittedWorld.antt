@@ -41,6 +41,7 @@ new_keeper k = record k {
   is_broken = false;
   is_drain_full = false;
   has_finished = false;
+  rests = false;
   used = new_checkpoint;
   last = new_finality;
   lost = [];
@@ -117,6 +118,7 @@ module _ (o : Opened) (new : IsNewStore shape o) where
         none_left_out = refl;
         works = refl;
         granted = refl;
+        none_rest = refl;
       }
 
   pub committed_opens : (n : Now) (one other : SessionState) → IsOpeningWorld o n → IsOpeningWorld o (worked_now (new_keeper n.keeper) one other)
