@@ -1,5 +1,5 @@
 -- The image of a crash behind steps of the engine, by what the device foretells.
-use Rattle.std.proofs.Common.{◌≡◌, ◌∙◌, ℕ, List, [], sym, ap}
+use Rattle.std.proofs.Common.{◌≡◌, ◌∙◌, List, [], sym, ap}
 use Rattle.std.specs.Prelude.{◌++◌}
 use Rattle.fkv_disk.specs.Done.{calls_of}
 use Rattle.fkv_disk.specs.Fuse.{fuse_foretells}
@@ -10,7 +10,7 @@ use Rattle.fkv_disk.specs.declared.memory.MemDisk.{MemDisk}
 use Rattle.law_calls.specs.Crashes.{CrashesTakeWhatStepsNote}
 use Rattle.law_calls.specs.Steps.{device_behind}
 use Rattle.law_calls.proofs.Fuses.{in_memory, torn_since}
-use Rattle.law_calls.proofs.Met.{all_met}
+use Rattle.law_calls.proofs.CallsMet.{all_met}
 
 -- what a fuse around a device in memory foretells
 abbrev pub ForetellsAsFuse : Ghosts (Fuse MemDisk) → Type 0

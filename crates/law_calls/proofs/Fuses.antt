@@ -10,7 +10,6 @@ use Rattle.fkv_disk.specs.Fuse.{fuse_foretells, passed_on, with_refused}
 use Rattle.fkv_disk.specs.Fuses.{fuse_device, fuse_state}
 use Rattle.fkv_disk.specs.Kinds.{Foretold, Kind, Reading, Writing, Syncing, after_kind, noted}
 use Rattle.fkv_disk.specs.Memory.{disk_bytes, disk_calls, disk_opening}
-use Rattle.fkv_disk.specs.declared.devices.Device.{Ghosts}
 use Rattle.fkv_disk.specs.declared.fuses.Fuse.{Fuse}
 use Rattle.fkv_disk.specs.declared.fuses.FuseState.{FuseState}
 use Rattle.fkv_disk.specs.declared.fuses.FuseState.TheVariants.{Sound, Armed, Blown, BlownAt}

@@ -1,8 +1,8 @@
 -- What a fuse around a device in memory foretells tells how it stands.
-use Rattle.std.proofs.Common.{◌≡◌, ◌∙◌, ◌⊎◌, inl, inr, ℕ, zero, suc, ◌+◌, ◌-◌, ◌≤◌, List, [], ◌∷◌, length, Bool, true, false, not, refl, sym, ap, subst, arith}
+use Rattle.std.proofs.Common.{◌≡◌, ◌∙◌, ℕ, zero, suc, ◌+◌, ◌-◌, ◌≤◌, List, [], ◌∷◌, length, Bool, true, false, not, refl, sym, ap, subst, arith}
 use Rattle.std.specs.Prelude.{◌++◌}
 use Rattle.fkv_disk.specs.Bytes.{byte_at}
-use Rattle.fkv_disk.specs.Calls.{AllDone, Call, Write, Sync, far_end, is_untouched, reads_as}
+use Rattle.fkv_disk.specs.Calls.{AllDone, Call, Write, Sync, is_untouched, reads_as}
 use Rattle.fkv_disk.specs.Done.{calls_of}
 use Rattle.fkv_disk.specs.Fuse.{fuse_foretells, passed_on}
 use Rattle.fkv_disk.specs.Kinds.{Foretold, Kind, Reading, Writing, Syncing, after_kind, noted}
@@ -11,8 +11,7 @@ use Rattle.fkv_disk.specs.declared.fuses.FuseState.{FuseState}
 use Rattle.fkv_disk.specs.declared.fuses.FuseState.TheVariants.{Sound, Armed, Blown, BlownAt}
 use Rattle.fkv_disk.specs.declared.memory.MemDisk.{MemDisk}
 use Rattle.law_calls.specs.Stands.{LetsPass, StandsBehind, state_behind}
-use Rattle.law_calls.specs.Torn.{is_unsynced, last_byte, last_end}
-use Rattle.law_calls.proofs.Fuses.{all_done, each_passes, in_memory, more_left, still, still_at}
+use Rattle.law_calls.proofs.Fuses.{all_done, in_memory, more_left, still}
 use Rattle.law_calls.proofs.Torn.{byte_on, end_if_done, end_on, torn_on}
 
 -- ---- what is foretold behind calls that passed

@@ -1,5 +1,5 @@
 -- What a device has met of steps of the engine, by the call that is due in each.
-use Rattle.std.proofs.Common.{◌≡◌, ℕ, ◌+◌, Bool, true, false, List, [], ◌∷◌, length, refl, sym, ap, subst, ◌∙◌, arith}
+use Rattle.std.proofs.Common.{◌≡◌, ℕ, ◌+◌, Bool, true, false, List, [], ◌∷◌, length, refl, sym, ap, ◌∙◌, arith}
 use Rattle.std.specs.Prelude.{◌++◌, Option, Some, None, if◌then◌else◌}
 use Rattle.std.proofs.lemmas.List.{append_assoc, length-append}
 use Rattle.fkv_disk.specs.Asks.{AskedCall, Reads, Writes, Syncs, calls_by, count_by, kinds_by}
@@ -20,8 +20,8 @@ use Rattle.fkv_core.specs.declared.events.Event as event
 use Rattle.fkv_core.specs.declared.events.Event.TheVariants as events
 use Rattle.fkv_world.specs.Past.{calls_after}
 use Rattle.fkv_world.specs.World.{Now}
-use Rattle.law_calls.specs.Met.{HasMetAll, StepsMakeWhatTheyNote, in_notes}
-use Rattle.law_calls.specs.Steps.{AreMade, Step, calls_noted, device_behind, now_behind}
+use Rattle.law_calls.specs.Met.{StepsMakeWhatTheyNote, in_notes}
+use Rattle.law_calls.specs.Steps.{device_behind, now_behind}
 
 -- what a device has met of a step that wrote and synced so
 record HasMetBy (calls : List Call) (refuses refuses' : ℕ → Bool) (expects expects' : List Kind → Foretold) : Type 0 where
