@@ -115,9 +115,7 @@ impl<D: Device + Drop> KeeperSeat<D> {
         law_threads::<Snapshot<World<D>>>();
         self.keeper
             .device_step(&self.table, &mut self.pass, &mut self.device);
-        let next = self
-            .keeper
-            .drive(&self.table, &mut self.pass, self.goes_on);
+        let next = self.keeper.drive(&self.table, &mut self.pass, self.goes_on);
         self.in_turn = is_due(&next);
         next
     }
