@@ -49,7 +49,7 @@ use Rattle.fkv_record.specs.declared.lost_ranges.LostRange.{LostRange}
 use Rattle.law_order.specs.Images.Named.{AreTriplesOf, slot_of}
 use Rattle.law_order.proofs.OfImages.Begun.{AreWritesOf, BeginsSo, HasBegunFor, IsLast, IsLeft, IsWriting, IsWritten, Lists, Uses, UsesOwn, fresh, is_called, is_opened, left_after, plain, writes_on}
 use Rattle.law_order.proofs.OfImages.CopiedLength.{copied_length}
-use Rattle.law_order.proofs.OfImages.Resting.{IsSameInHand, still_same, taken_same}
+use Rattle.law_order.proofs.OfImages.Resting.{IsSameInHand, still_same}
 use Rattle.law_log.specs.Trace.{IsIn}
 use Rattle.law_commit.proofs.Below.law_world.OfStanding.Runs.{calls_at, happens_at, happens_so}
 use Rattle.law_commit.specs.Below.law_world.Standing.CallsMade.{calls_of}

@@ -1,5 +1,5 @@
 -- Each commit whose writes begin in a life fits it.
-use Rattle.std.proofs.Common.{◌≡◌, inl, inr, ℕ, ◌<◌, ◌≤◌, ◌∙◌, arith, refl, sym, ap, subst, Bool, List, [], ◌∷◌, length}
+use Rattle.std.proofs.Common.{◌≡◌, inl, inr, ℕ, ◌<◌, ◌≤◌, ◌∙◌, arith, refl, sym, ap, subst, Bool, true, List, [], ◌∷◌, length}
 use Rattle.std.specs.Prelude.{Option, Some, None}
 use Rattle.fkv_base.specs.Limits.{last_of}
 use Rattle.fkv_base.specs.declared.classes.StoreClass.{StoreClass}

@@ -1,5 +1,5 @@
 -- Where a commit's scan begins and its log ends: both are tails that the keeper has loaded, and the tail never falls.
-use Rattle.std.proofs.Common.{◌≡◌, ℕ, ◌+◌, ◌<◌, ◌≤◌, ◌∙◌, arith, refl, sym, ap, subst, Bool, true, false, List, [], ◌∷◌, ◌++◌, length}
+use Rattle.std.proofs.Common.{◌≡◌, ℕ, ◌+◌, ◌<◌, ◌≤◌, ◌∙◌, arith, refl, sym, ap, subst, Bool, true, false, List, [], ◌∷◌, length}
 use Rattle.std.specs.Prelude.{⊤, ◌==◌, max, nat_le, nat_lt, if◌then◌else◌, Option, Some, None, ◌||◌, not}
 use Rattle.fkv_base.specs.Limits.{last_of}
 use Rattle.fkv_base.specs.declared.commits.CommitKind.{CommitKind}
@@ -31,7 +31,7 @@ use Rattle.law_commit.specs.Below.fkv_commit.Deferring.{defer_ask, defer_next}
 use Rattle.law_commit.specs.Below.fkv_commit.Entering.{enter_ask, enter_next}
 use Rattle.law_commit.specs.Below.fkv_commit.Finishing.{finish_ask, finish_next}
 use Rattle.law_commit.specs.Below.fkv_commit.Seeking as search
-use Rattle.law_commit.specs.Below.fkv_commit.Seeking.{SeekState, cut_met, other_met, owing_from, point_taken, with_point, points_from, seek_ask, seek_begun, seek_next, seeking_ask, seeking_next, slot_led}
+use Rattle.law_commit.specs.Below.fkv_commit.Seeking.{SeekState, cut_met, other_met, owing_from, point_taken, with_point, points_from, seek_ask, seek_next, seeking_ask, seeking_next, slot_led}
 use Rattle.law_commit.specs.Below.fkv_commit.Starting as begin
 use Rattle.law_commit.specs.Below.fkv_commit.Starting.{StartState, is_lost_full, phase_found, seek_led, start_ask, start_next, starting_ask, starting_next}
 use Rattle.law_commit.specs.Below.fkv_commit.Waiting.{wait_ask, wait_begun, wait_next}
