@@ -18,10 +18,12 @@ returns-in-Ok g c =
     let left : g.D.Device.may_leave device image = rw c.in_ok-image.ensures at c.crash.ensures.allowed in
     let goes_on : CrashesFrom expects image life.player.world.device = subst (CrashesFrom expects image) (sym c.in_ok-report-in-Ok.ensures.0.over) (c.in-Ok.ensures.crashes image from) in (
       subst (λ (d : g.row.D.Denot). g.D.Device.may_leave d (crash_image expects d torn)) c.end-device.ensures.device left,
-      subst (λ (d : g.row.D.Denot). CrashesFrom expects (crash_image expects d torn) life.player.world.device) c.end-device.ensures.device goes_on,
-      crash_taken (Holds g.D.Device.honest g.D.Device.seen g.D.Device.may_leave g.D.Device.refuses) (crash_image expects c.args.player.world.device torn) (g.D.Device.seen c.in_ok-image.image) its.opened its.device its.pairs.items
-          c.args.player life.player c.deref.result.now c.args.settings.checks life.agrees (g.W.Write.contents c.args.output.now) (g.W.Write.contents c.report.new.output)
-          (seen ∙ ap (λ (d : g.row.D.Denot). crash_image expects d torn) c.end-device.ensures.device)
-          (c.deref.ensures.value ∙ c.end-device.ensures.history)
-          (c.in-Ok.ensures.store honest) (c.in-Ok.ensures.reads honest none) c.in_ok-report-in-Ok.ensures,
+      (
+        subst (λ (d : g.row.D.Denot). CrashesFrom expects (crash_image expects d torn) life.player.world.device) c.end-device.ensures.device goes_on,
+        crash_taken (Holds g.D.Device.honest g.D.Device.seen g.D.Device.may_leave g.D.Device.refuses) (crash_image expects c.args.player.world.device torn) (g.D.Device.seen c.in_ok-image.image) its.opened its.device its.pairs.items
+            c.args.player life.player c.deref.result.now c.args.settings.checks life.agrees (g.W.Write.contents c.args.output.now) (g.W.Write.contents c.report.new.output)
+            (seen ∙ ap (λ (d : g.row.D.Denot). crash_image expects d torn) c.end-device.ensures.device)
+            (c.deref.ensures.value ∙ c.end-device.ensures.history)
+            (c.in-Ok.ensures.store honest) (c.in-Ok.ensures.reads honest none) c.in_ok-report-in-Ok.ensures,
+      ),
     )
