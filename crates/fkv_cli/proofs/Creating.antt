@@ -2,12 +2,10 @@
 use Rattle.std.proofs.Common.{◌≡◌, ◌∙◌, ℕ, List, [], ◌∷◌, true, drop, refl, ap}
 use Rattle.std.specs.Prelude.{◌++◌, replicate}
 use Rattle.fkv_base.specs.declared.shapes.Shape.{Shape}
-use Rattle.fkv_creating.specs.Created.{created_bytes, created_kinds, laid, laid_kinds, new_said}
+use Rattle.fkv_creating.specs.Created.{created_bytes, created_kinds, laid, laid_kinds}
 use Rattle.fkv_disk.specs.Bytes.{written}
 use Rattle.fkv_disk.specs.Calls.{Call, Write, Sync, torn_image}
 use Rattle.fkv_disk.specs.Kinds.{Foretold, Kind, Writing, Syncing, noted}
-use Rattle.fkv_record.specs.Layout.{shape_bytes}
-use Rattle.fkv_record.specs.Manifest.{newest_bytes}
 use Rattle.fkv_runs.proofs.Shown.{reach_if_done, same_later}
 use Rattle.fkv_runs.specs.Openings.{CrashesFrom, foretold_image}
 
@@ -29,4 +27,4 @@ pub crashes_of_created : {D : Type 0} (expects : D → List Kind → Foretold) (
     → ((later : List Kind) → expects new later ≡ expects old (created_kinds shape ++ later)) → CrashesFrom expects (created_bytes image shape) new
 crashes_of_created expects image shape old new from noted_so = λ later torn.
     ap (λ (its : Foretold). foretold_image its torn) (noted_so later) ∙ from (created_kinds shape ++ later) torn
-    ∙ laid_on image (shape_bytes shape) (newest_bytes (new_said shape.sessions)) later torn
+    ∙ laid_on image _ _ later torn
