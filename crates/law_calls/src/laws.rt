@@ -1,6 +1,6 @@
 //! What a device meets of steps, and what a crash behind them takes.
 ghost use Rattle.law_calls.specs.Calls.{StepsMakeOneCall};
-ghost use Rattle.law_calls.specs.Crashes.{CrashesTakeWhatStepsNote};
+ghost use Rattle.law_calls.specs.Crashes.{CrashesTakeWhatIsMet, CrashesTakeWhatStepsNote};
 ghost use Rattle.law_calls.specs.Met.{StepsMakeWhatTheyNote};
 ghost use Rattle.law_calls.specs.Stands.{FusesStandBehindCalls};
 
@@ -18,10 +18,12 @@ pub fn law_of_noted_calls<D: Device>()
     ensures { StepsMakeWhatTheyNote D.Device }
 {}
 
-/// A crash in memory behind any steps of the engine leaves the image of the writes and syncs that they note, by the rule: each byte that was written and not
-/// synced since is torn, and each other one is what was written last. So a memory that notes another call than was made, or none, isn't proved.
+/// A crash in memory takes the image of the calls that its device has met, by the rule: each byte that was written and not synced since is torn, and each
+/// other one is what was written last. If the fuse blew at a write, all of its range is torn. Behind steps of the engine these are the writes and syncs that
+/// they note. The image is the one of a run's crash line. So a memory that notes another call than was made, or none, isn't proved.
 pub fn law_of_crashes()
-    ensures { CrashesTakeWhatStepsNote ⟦<Fuse<MemDisk> as Device>⟧ }
+    ensures met { CrashesTakeWhatIsMet ⟦<Fuse<MemDisk> as Device>⟧ }
+    ensures steps { CrashesTakeWhatStepsNote ⟦<Fuse<MemDisk> as Device>⟧ }
 {}
 
 /// A fuse around a device in memory stands as the calls have left it that it has met, if it has let each pass. So it is known how it stands where it is armed
