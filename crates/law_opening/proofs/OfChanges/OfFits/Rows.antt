@@ -16,7 +16,7 @@ use Rattle.law_refine.specs.Below.fkv_ops.HeldRecord.{HeldRecord}
 use Rattle.law_refine.specs.Below.fkv_ops.OldValue.{OldValue}
 use Rattle.law_refine.specs.Below.fkv_ops.OldValue.TheVariants.{InMemory, Known}
 use Rattle.law_refine.specs.Below.fkv_ops.TheTrying.{Trying}
-use Rattle.law_refine.specs.Below.fkv_ops.TheTrying.TheVariants.{Ended, TakesExclusive, Appends, DropsExclusive, DropsShared}
+use Rattle.law_refine.specs.Below.fkv_ops.TheTrying.TheVariants.{Ended, TakesExclusive, Appends, DropsExclusive, DropsShared, LoadsTail, LoadsTaken}
 use Rattle.law_refine.specs.Below.fkv_ops.WalkAnswer.{WalkAnswer}
 use Rattle.law_refine.specs.Below.fkv_ops.WalkAnswer.TheVariants as walk
 use Rattle.law_refine.specs.Below.fkv_ops.TheWalking.{Walking}
@@ -31,6 +31,7 @@ use Rattle.law_refine.specs.Below.fkv_pending.PendingRequest.{PendingRequest}
 use Rattle.law_opening.proofs.OfChanges.Rows.{IsAt, Stays}
 use Rattle.law_log.specs.Ghosts.{Log}
 use Rattle.law_refine.specs.Events.Published.{IsPublished}
+use Rattle.law_refine.specs.Below.fkv_ops.Waiting.{told_of}
 
 -- ---- on the device
 -- a published record is there, below the flushed offset
@@ -101,6 +102,8 @@ WordsOk its = NumberFits its.key.0 × NumberFits its.value
 
 abbrev pub TryRow : Log → ℕ → TryState → Trying → Type 0
 TryRow log flushed t (Ended its) = AnswerOk log flushed its
+TryRow log flushed t (LoadsTail waiting) = AnswerOk log flushed (told_of waiting)
+TryRow log flushed t (LoadsTaken waiting) = AnswerOk log flushed (told_of waiting)
 TryRow log flushed t (DropsExclusive its) = AnswerOk log flushed its
 TryRow log flushed t (DropsShared its) = AnswerOk log flushed its
 TryRow log flushed t (TakesExclusive old) = OldOk old
