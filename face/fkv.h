@@ -254,7 +254,8 @@ const char *fkv_text_of(int32_t result);
 /* ---- The store ------------------------------------------------------------------------------------------------------------ */
 
 /*
- * Writes a new living store's file of this shape, FKV_IMAGE_SIZE bytes. The caller puts them into a file, syncs it and its folder.
+ * Writes a new living store's file of this shape, FKV_IMAGE_SIZE bytes. The caller puts them into a file, syncs it and its folder. The store
+ * has 65 overflow buckets more for each session, as far as there may be so many: calls leave these to polls. So fkv_open tells them too.
  * 0; -FKV_BAD_SHAPE, -FKV_MEMORY, -FKV_ROOM_SMALL.
  */
 int32_t fkv_image(const fkv_shape *shape, uint8_t *into, size_t room);

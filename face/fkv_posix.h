@@ -75,7 +75,7 @@ typedef struct {
     uint64_t opening_bytes; /* about: at the height of an opening, where all these keys are there. The file's bytes come on top */
     uint64_t file_bytes;    /* of its file, at most. It grows as the log does: 24 bytes a record */
     uint64_t keys;          /* that fit, all but surely: by buckets, overflow buckets, and one spare of these for each session but one */
-    uint64_t records;       /* that the log takes in all the store's life */
+    uint64_t records;       /* that calls may append in all the store's life. 65 * sessions * sessions more are left to polls */
 } fkv_size;
 
 /*
@@ -88,7 +88,7 @@ typedef struct {
  */
 int32_t fkv_shape_for(const fkv_wish *wish, fkv_shape *shape);
 
-/* What a store of this shape takes, and holds. 0; -FKV_BAD_SHAPE, -FKV_MEMORY. */
+/* What a new store of this shape takes, and holds. 0; -FKV_BAD_SHAPE, -FKV_MEMORY. */
 int32_t fkv_size_of(const fkv_shape *shape, fkv_size *size);
 
 /* ---- The file ------------------------------------------------------------------------------------------------------------- */

@@ -27,6 +27,8 @@ enum {
     SESSION_WORDS = 16,
     BUCKET_WORDS = 8,
     RECORD_WORDS = 3,
+    /* Requests that a session has at most, each of which calls leave an overflow bucket to, and each session's share of the log's last records. */
+    IN_HAND = 65,
     /* Bytes that the copy of a full commit takes for each bucket. */
     COPY_SIZE = 112,
     /* An opening has the store's words twice for a moment, and so many bytes for each key. (measured: 170 to 230) */
@@ -46,7 +48,20 @@ static uint64_t power_for(uint64_t number) {
     return power;
 }
 
-static uint64_t buckets_of(const fkv_shape *shape) { return (UINT64_C(1) << shape->bucket_bits) + shape->overflow; }
+/* Overflow buckets that a new store has on top of those that it is asked for: its calls leave so many to its polls. */
+static fkv_shape made_of(const fkv_shape *shape) {
+    fkv_shape made = *shape;
+    made.overflow = least(shape->overflow + IN_HAND * shape->sessions, UINT64_C(1) << MOST_BUCKET_BITS);
+    return made;
+}
+
+/* Records that its calls take at most: they leave the last ones to its polls too. */
+static uint64_t records_of(const fkv_shape *shape) {
+    uint64_t room = shape->page * shape->disk_pages - 1, kept = IN_HAND * shape->sessions * shape->sessions;
+    return room > kept ? room - kept : 0;
+}
+
+static uint64_t buckets_of(const fkv_shape *shape) { return (UINT64_C(1) << shape->bucket_bits) + made_of(shape).overflow; }
 
 static uint64_t words_of(const fkv_shape *shape) {
     return STORE_WORDS + SESSION_WORDS * shape->sessions + BUCKET_WORDS * buckets_of(shape) + RECORD_WORDS * shape->page * shape->frames;
@@ -95,7 +110,7 @@ static uint64_t keys_of(const fkv_shape *shape) {
         if (fits) low = middle;
         else high = middle - 1;
     }
-    return least(low, shape->page * shape->disk_pages - 1);
+    return least(low, records_of(shape));
 }
 
 /* ---- Shapes --------------------------------------------------------------------------------------------------------------------- */
@@ -148,12 +163,13 @@ int32_t fkv_size_of(const fkv_shape *shape, fkv_size *size) {
     int32_t result = fkv_image(shape, image, sizeof image);
     if (result < 0) return result;
     uint64_t keys = keys_of(shape);
+    fkv_shape made = made_of(shape);
     *size = (fkv_size){
         .memory_bytes = memory_of(shape),
         .opening_bytes = 2 * 8 * words_of(shape) + OPENED_SIZE * keys,
-        .file_bytes = fkv_log_place(shape) + RECORD_SIZE * shape->page * shape->disk_pages,
+        .file_bytes = fkv_log_place(&made) + RECORD_SIZE * shape->page * shape->disk_pages,
         .keys = keys,
-        .records = shape->page * shape->disk_pages - 1,
+        .records = records_of(shape),
     };
     return 0;
 }
