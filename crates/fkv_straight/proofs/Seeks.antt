@@ -1,6 +1,6 @@
 -- How the slot of a home is sought.
 use Rattle.std.proofs.Common.{◌≡◌, ℕ, ◌+◌, ◌-◌, ◌/◌, ◌^◌, ◌<◌, ◌≤◌, ◌⊎◌, inl, inr, refl, sym, ap, ◌∙◌, subst, arith, Bool, true, false}
-use Rattle.std.specs.Prelude.{◌==◌, ◌&&◌, not, nat_lt, nat_le, None, Option, Some}
+use Rattle.std.specs.Prelude.{◌==◌, ◌&&◌, not, nat_lt, nat_le, None, Option, Some, is_some}
 use Rattle.std.proofs.lemmas.Bool.Decides.{nat_tests}
 use Rattle.fkv_base.specs.declared.numbers.Key.{Key}
 use Rattle.fkv_map.specs.declared.operations.Call.{Call}
@@ -130,7 +130,7 @@ pub entry_found : (c : Course) (base links slot word : ℕ) (s : SessionState) �
     → IsReached c (base + slot) word (entry_addr word) s
 unfolding HasSlot IsReached
 entry_found c base links slot word s has its some mine =
-    (record { base = base; links = links; first = None }, fresh_at c base links word (λ counted none. absurd (let e : true ≡ false = rw none some in cc e)), load.AtRest, Finds, subst (λ (t : TryState). IsLed c t s) (finds_entry c base links slot word its some mine) has)
+    (record { base = base; links = links; first = None }, fresh_at c base links word (λ counted none. absurd (let e : true ≡ false = subst (λ (n : ℕ). (n == 0) ≡ false) none some in cc e)), load.AtRest, Finds, subst (λ (t : TryState). IsLed c t s) (finds_entry c base links slot word its some mine) has)
 
 empty_slot : (c : Course) (base links slot : ℕ) (s : SessionState) → OwnSlot c links 0 → HasSlot c base links slot 0 s → IsReached c (base + slot) 0 (entry_addr 0) s
 unfolding HasSlot IsReached
@@ -166,25 +166,34 @@ some_entry : (word : ℕ) → is_entry word ≡ true → (word == 0) ≡ false
 some_entry word its = is_some word (λ none. absurd (let e : false ≡ true = subst (λ (n : ℕ). is_entry n ≡ true) none its in cc e))
 
 -- a search that the machine isn't to count behind
-bound_none : (b : Option Bounds) → is_some (tail_bound b) ≡ false → has_bounds b ≡ false
-bound_none None h = refl
-bound_none (Some bounds) h = absurd (cc h)
+some_bound : (b : Option Bounds) → has_bounds b ≡ true → is_some (tail_bound b) ≡ true
+some_bound None h = absurd (cc h)
+some_bound (Some bounds) h = refl
 
-counts_none : (b reads : Bool) → (b && not reads) ≡ true → (reads ≡ false) × (b ≡ true)
-counts_none true false h = (refl, refl)
-counts_none true true h = absurd (cc h)
-counts_none false reads h = absurd (cc h)
+counts_so : (b reads : Bool) → (b && not reads) ≡ true → (reads ≡ false) × (b ≡ true)
+counts_so true false h = (refl, refl)
+counts_so true true h = absurd (cc h)
+counts_so false reads h = absurd (cc h)
 
-own_slot : (c : Course) (g : Going) (links : ℕ) → c.seat.places ≡ g.places → tail_bound (bounds_at c.occasion) ≡ g.bound → counts c ≡ true → (is_some g.bound ≡ false) ⊎ (links ≡ 0) → c.seat.places.overflow ≤ g.places.overflow - links
-own_slot c g links same bound counted (inl none) =
-    let b : has_bounds (bounds_at c.occasion) ≡ true = (counts_none (has_bounds (bounds_at c.occasion)) (is_read c.op) counted).1 in
-    absurd (let e : false ≡ true = sym (bound_none (bounds_at c.occasion) (ap (λ (o : Option ℕ). is_some o) bound ∙ none)) ∙ b in cc e)
-own_slot c g links same bound counted (inr first) = rw first (let e : c.seat.places.overflow ≡ g.places.overflow = ap (λ (p : Places). p.overflow) same in omega (arith, e))
+zero_of : (word links : ℕ) (bounded reads : Bool) → (word == 0 && not (links == 0) && bounded && not reads) ≡ false → word ≡ 0 → bounded ≡ true → reads ≡ false → links ≡ 0
+zero_of word links bounded reads h none has updates = by (links == 0) refl
+  where
+    by : (b : Bool) → (links == 0) ≡ b → links ≡ 0
+    by true e = grind (arith, nat_tests, e)
+    by false e =
+        let zero : (word == 0) ≡ true = grind (arith, nat_tests, none) in
+        let all : (word == 0 && not (links == 0) && bounded && not reads) ≡ true = rw (zero, e, has, updates) refl in
+        absurd (let clash : true ≡ false = sym all ∙ h in cc clash)
 
-pub owns : (c : Course) (k : Seat) (op : Op) (g : Going) (links word : ℕ) → Goes c k op g → (word ≡ 0 → is_read op ≡ false → (is_some g.bound ≡ false) ⊎ (links ≡ 0)) → OwnSlot c (g.places.overflow - links) word
+none_behind : (mine its links : ℕ) → mine ≡ its → links ≡ 0 → mine ≤ its - links
+none_behind mine its links same first = omega (arith, same, first)
+
+pub owns : (c : Course) (k : Seat) (op : Op) (g : Going) (links word : ℕ) → Goes c k op g → (word == 0 && not (links == 0) && is_some g.bound && not (is_read op)) ≡ false → OwnSlot c (g.places.overflow - links) word
 owns c k op g links word goes h = λ counted none.
-    let updates : is_read c.op ≡ false = (counts_none (has_bounds (bounds_at c.occasion)) (is_read c.op) counted).0 in
-    own_slot c g links goes.its_places goes.its_bound counted (h none (ap (λ (o : Op). is_read o) (sym goes.its_op) ∙ updates))
+    let so = counts_so (has_bounds (bounds_at c.occasion)) (is_read c.op) counted in
+    let has : is_some g.bound ≡ true = ap (λ (o : Option ℕ). is_some o) (sym goes.its_bound) ∙ some_bound (bounds_at c.occasion) so.1 in
+    let updates : is_read op ≡ false = ap (λ (o : Op). is_read o) (sym goes.its_op) ∙ so.0 in
+    none_behind c.seat.places.overflow g.places.overflow links (ap (λ (p : Places). p.overflow) goes.its_places) (zero_of word links (is_some g.bound) (is_read op) h none has updates)
 
 -- where the search ends at a slot, and where it goes on behind it
 pub ends_here : (c : Course) (k : Seat) (op : Op) (g : Going) (tag base links slot word : ℕ) (s : SessionState) → Goes c k op g → tag ≡ (home_of g.bits (key_of op)).tag → OwnSlot c links word → HasSlot c base links slot word s

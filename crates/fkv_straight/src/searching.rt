@@ -1,5 +1,5 @@
 //! The search along bucket and chain, which all straight calls share.
-ghost use Rattle.std.specs.Prelude.{◌≡◌, ◌⊎◌, ◌<◌, ◌≤◌, ◌+◌, ◌-◌, ◌/◌, ◌^◌, IfSome, false, is_some, true};
+ghost use Rattle.std.specs.Prelude.{◌≡◌, ◌==◌, ◌&&◌, not, ◌⊎◌, ◌<◌, ◌≤◌, ◌+◌, ◌-◌, ◌/◌, ◌^◌, IfSome, false, is_some, true};
 ghost use Rattle.fkv_map.specs.declared.operations.Call.{Call};
 ghost use Rattle.fkv_map.specs.Keys.{key_of};
 ghost use Rattle.fkv_plane.specs.Places.{bucket_place};
@@ -99,14 +99,9 @@ enum Sought {
 /// counts the taken buckets then.
 #[inline]
 fn is_counted(going: &Going, op: Op, word: u64, passed: usize) -> bool
-    ensures { result ≡ false → word ≡ 0 → is_read op ≡ false → (is_some going.now.bound ≡ false) ⊎ (passed ≡ 0) }
+    ensures { result ≡ word == 0 && not (passed == 0) && is_some going.now.bound && not (is_read op) }
 {
-    if word != 0 || passed == 0 {
-        return false;
-    }
-    let bounded = going.is_bounded();
-    let reads = is_read(op);
-    bounded && !reads
+    word == 0 && passed != 0 && going.is_bounded() && !is_read(op)
 }
 
 /// Searches the seven slots of a bucket, of which the first has this word. So many buckets were passed before it.

@@ -1,4 +1,4 @@
-use Rattle.std.proofs.Common.{◌≡◌, ℕ, ◌+◌, ◌-◌, ap, ◌∙◌, subst, arith}
+use Rattle.std.proofs.Common.{◌≡◌, ℕ, ◌+◌, ◌-◌, sym, ap, ◌∙◌, subst, arith}
 use Rattle.fkv_index.specs.Slots.{entry_addr}
 use Rattle.fkv_plane.specs.declared.asks.Ask.TheVariants.{Load}
 use Rattle.fkv_straight.specs.declared.searching.Slot.{Slot}
@@ -17,7 +17,7 @@ pub returns-else-counted-clause-found : goal.returns-else-counted-clause-found
 returns-else-counted-clause-found g c = λ its is course goes has.
     let k = g.L.Line.seat c.args.line.now in
     let s = g.L.Line.stands c.slots.line in
-    let there = ends_here course k c.args.op c.args.going.now c.args.tag c.args.base (c.args.going.now.places.overflow - c.args.passed) c.slots.slot c.slots.word s goes c.requires.tag (owns course k c.args.op c.args.going.now c.args.passed c.slots.word goes (c.is_counted-counted.ensures c.if-counted.false)) (c.slots.invariant.stands course goes has) (c.judge-judged.ensures.here c.in-Here.is) in
+    let there = ends_here course k c.args.op c.args.going.now c.args.tag c.args.base (c.args.going.now.places.overflow - c.args.passed) c.slots.slot c.slots.word s goes c.requires.tag (owns course k c.args.op c.args.going.now c.args.passed c.slots.word goes (sym c.is_counted-counted.ensures ∙ c.if-counted.false)) (c.slots.invariant.stands course goes has) (c.judge-judged.ensures.here c.in-Here.is) in
     subst (λ (x : Slot). IsReached course x.place x.entry (entry_addr x.entry) s) (ap (λ (x : Sought). slot_in x its) is) there
 
 pub load-word-requires-clause-asked : goal.load-word-requires-clause-asked
@@ -53,7 +53,7 @@ returns-else-counted-2-clause-found g c = λ its is course goes has.
     let links = c.args.going.now.places.overflow - c.args.passed in
     let last : c.slots.slot ≡ 6 = (let h = c.slots-test.false in let e = c.slots.auto.slot-end in omega (arith, h, e)) in
     let at = subst (λ (n : ℕ). HasSlot course c.args.base links n c.slots.word s) last (c.slots.invariant.stands course goes has) in
-    let there = ends_here course k c.args.op c.args.going.now c.args.tag c.args.base links 6 c.slots.word s goes c.requires.tag (owns course k c.args.op c.args.going.now c.args.passed c.slots.word goes (c.is_counted-counted-2.ensures c.if-counted-2.false)) at (c.judge-judged-2.ensures.here c.in-Here-judged.is) in
+    let there = ends_here course k c.args.op c.args.going.now c.args.tag c.args.base links 6 c.slots.word s goes c.requires.tag (owns course k c.args.op c.args.going.now c.args.passed c.slots.word goes (sym c.is_counted-counted-2.ensures ∙ c.if-counted-2.false)) at (c.judge-judged-2.ensures.here c.in-Here-judged.is) in
     subst (λ (x : Slot). IsReached course x.place x.entry (entry_addr x.entry) s) (ap (λ (x : Sought). slot_in x its) is) there
 
 pub returns-in-Other-judged-clause-passed : goal.returns-in-Other-judged-clause-passed
