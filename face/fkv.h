@@ -86,6 +86,11 @@ typedef struct { void *at; } fkv_keeper;
 /*
  * How large a store is. This library makes living stores. It opens specified ones too, of which some sizes have lower limits.
  *
+ * Calls of a living store leave room to its polls, so that no request which is accepted waits for room that never comes: of S sessions 65 * S
+ * overflow buckets, and 65 * S * S records at the log's end. What would want more is refused at its call (FKV_INDEX_FULL, FKV_LOG_FULL), and
+ * commits go on. So a log no longer than that takes no record by calls. A store with no more overflow buckets than that links none by calls;
+ * a key that finds a slot in its own bucket at once needs none.
+ *
  * After a commit each key's first update appends a record. One page past the last record's is opened ahead, and no more. If a page
  * holds as many records as keys are updated during a commit, an update seldom waits for room (FKV_NO_ROOM).
  */
@@ -95,7 +100,7 @@ typedef struct {
     uint64_t frames;        /* pages in memory: a power of two from 2 to 4,096, of a specified store to 64 */
     uint64_t mutable_pages; /* pages whose records are updated in place: 1 to frames - 1 */
     uint64_t sessions;      /* 1 to 32; of fkv_posix.h, which adds one to a file, to 31 */
-    uint64_t overflow;      /* buckets that full ones overflow to: 0 to 2^24, of a specified store to 1,024 */
+    uint64_t overflow;      /* buckets that full ones overflow to: 0 to 2^24, of a specified store to 1,024. See fkv_image and fkv_shape_of */
     uint64_t disk_pages;    /* pages that the log may have in the file: 1 to 2^30, of a specified store to 65,536 */
 } fkv_shape;
 
@@ -189,8 +194,8 @@ enum {
 };
 
 /*
- * Why an update is pending. One that finds the index or the log full at its call is refused. One that finds it full at a later poll stays
- * pending, and a poll gives no reason: fkv_settle of fkv_posix.h finds that out.
+ * Why an update is pending. One that finds no room in the index or the log at its call is refused. In a living store no poll finds them full
+ * (fkv_shape). In a specified one an update that does stays pending, and a poll gives no reason: fkv_settle of fkv_posix.h finds that out.
  */
 enum {
     FKV_FUZZY = 1,     /* its record is about to become read-only */
@@ -220,8 +225,8 @@ enum {
     FKV_BAD_SHAPE = 1,       /* a size of the shape is outside its limits */
     FKV_VALUE_RESERVED = 2,  /* 2^64 - 1 is no value */
     FKV_PENDING_FULL = 3,    /* 64 requests of the session are pending: poll, refresh, and call again */
-    FKV_INDEX_FULL = 4,      /* the index has no room for another home of keys */
-    FKV_LOG_FULL = 5,        /* the log has no room for another record, and never will have */
+    FKV_INDEX_FULL = 4,      /* the index has no room for another home of keys, but what polls may need */
+    FKV_LOG_FULL = 5,        /* the log has no room for another record, but what polls may need, and never will have */
     FKV_VERSIONS_SPENT = 6,  /* the store has taken its last commit */
     FKV_SERIALS_SPENT = 7,   /* the session has taken its last serial, 2^48 - 1 */
     FKV_EPOCHS_SPENT = 8,    /* the last epoch is reached */
@@ -254,7 +259,9 @@ const char *fkv_text_of(int32_t result);
 /* ---- The store ------------------------------------------------------------------------------------------------------------ */
 
 /*
- * Writes a new living store's file of this shape, FKV_IMAGE_SIZE bytes. The caller puts them into a file, syncs it and its folder.
+ * Writes a new living store's file of this shape, FKV_IMAGE_SIZE bytes. The caller puts them into a file, syncs it and its folder. The store
+ * has 65 overflow buckets more for each session, as far as there may be so many: calls leave these to polls (fkv_shape). So fkv_open tells them
+ * too.
  * 0; -FKV_BAD_SHAPE, -FKV_MEMORY, -FKV_ROOM_SMALL.
  */
 int32_t fkv_image(const fkv_shape *shape, uint8_t *into, size_t room);
@@ -309,7 +316,8 @@ static inline void fkv_free_store(fkv_store store) { free(store.at); }
  * fkv_renew of the repository is a program that does so from file to file.
  *
  * `*shape` has the sizes of the new store, which is a living one then. If its sizes are all 0, the new store has the old one's sizes and
- * class.
+ * class. No overflow buckets are added: `overflow` says how many there are, with those that calls leave to polls (fkv_shape). What is renewed may
+ * take them too, and the log's last records.
  *
  * `keys` says how keys come to lie. With FKV_AS_THEY_LIE the new store is opened as the old one. FKV_SPREAD_NOW is for an old store of
  * FKV_SPREAD_ALREADY: each key is spread, and the new store is opened with FKV_SPREAD from then on. Nothing tells whether keys lie

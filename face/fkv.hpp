@@ -100,7 +100,7 @@ struct Keeping {
     std::chrono::microseconds turn_each{0};   /* how long the keeper rests when nothing is to be done; 0: 500 microseconds */
     std::function<void(const Commit &)> committed{};
     std::function<void(const Progress &)> progress{};
-    std::function<void(std::int32_t fault)> stopped{}; /* once, as commits end for good: FKV_LOG_FULL .. */
+    std::function<void(std::int32_t fault)> stopped{}; /* once, as commits end for good, or the log is full: FKV_LOG_FULL */
     std::function<void()> unwarmed{};                  /* once, if memory can't be kept warm in this store */
     bool warms = true;                                 /* memory is kept warm, if it can be */
 };

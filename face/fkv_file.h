@@ -75,8 +75,9 @@ struct fkv_file {
     char *path; /* without links; NULL where the system didn't say */
     uint32_t keys; /* how they are placed: see fkv_open */
     uint64_t warm; /* how many records an opening gives memory: see fkv_open */
-    fkv_shape shape; /* with the sessions of users alone */
-    bool has_own;    /* the session behind these is the library's */
+    fkv_shape shape; /* with the sessions of users alone, and all overflow buckets */
+    bool is_living;  /* its calls leave room to its polls, so that none of these ever finds it full */
+    bool has_own;    /* the session behind those of users is the library's */
     fkv_store store;
     fkv_keeper keeper; /* of whoever has the turn, and so are the next three */
     bool is_mapped;    /* records are read back by a mapping, as long as the system gives one */
@@ -135,7 +136,7 @@ struct fkv_file {
     int32_t fault;     /* 0 while there are turns and commits */
     int32_t full;      /* -FKV_LOG_FULL once an update was refused by it */
     bool index_full;   /* an update was refused by the index */
-    int32_t stuck;     /* an update seems to wait for ever: -FKV_LOG_FULL or -FKV_INDEX_FULL. Then no commit is finished; else it was wrong */
+    int32_t stuck;     /* of a specified store: an update seems to wait for ever, by -FKV_LOG_FULL or -FKV_INDEX_FULL. Then no commit is finished; else it was wrong */
     fkv_keeping keeping;
 
     uint64_t turns;        /* that have ended well, since the opening */
@@ -187,13 +188,22 @@ void fkv_give_up(fkv_file *file);
 /* The bytes of the file before the log's record of address 0, which there is none of. */
 uint64_t fkv_log_place(const fkv_shape *shape);
 
-/* ---- Of the library's own session ------------------------------------------------------------------------------------------------- */
+/* ---- Of what a living file has beside what was asked for ------------------------------------------------------------------------------ */
 
 /* Whether the store of these bytes is a living one. They are a store's. */
 bool fkv_is_living(const uint8_t *bytes);
 
 /* The shape of a file for one that was asked for: it has one session more. 0, or -FKV_BAD_SHAPE where so many can't be asked for. */
 int32_t fkv_with_own(const fkv_shape *asked, fkv_shape *shape);
+
+/* What a file is made of for a shape that was asked for: it has one session more, and overflow buckets that its calls leave to its polls. */
+fkv_shape fkv_made_of(const fkv_shape *asked);
+
+/* The shape that an open file was asked for, as it is made now: of an older one fewer overflow buckets may be left than it was. */
+fkv_shape fkv_asked_of(const fkv_file *file);
+
+/* Records that calls take at most in a file for this shape: they leave the log's last ones to its polls too. */
+uint64_t fkv_records_of(const fkv_shape *asked);
 
 /* Takes the last session of a store that was just opened for the library, if it has one for it: users are told of the others alone. */
 void fkv_take_own(fkv_file *file, bool is_living);
@@ -280,7 +290,7 @@ void fkv_find_end(fkv_file *file);
 /* The wait begins, or begins anew: something was finished. */
 void fkv_begin_patience(const fkv_file *file, struct patience *its, uint32_t of);
 
-/* Whether what waits will wait for ever: -FKV_LOG_FULL or -FKV_INDEX_FULL, or 0. */
+/* Whether what waits will wait for ever: -FKV_LOG_FULL or -FKV_INDEX_FULL, or 0. In a living store nothing does. */
 int32_t fkv_never_room(const fkv_file *file, const struct patience *its);
 
 /* An update seems to wait for ever, for this fault. 0 says nothing. */

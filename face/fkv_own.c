@@ -1,4 +1,7 @@
-/* The library's own session. In each living store of two sessions or more it is the last one, and users have the others. */
+/*
+ * What a living file has beside what was asked for: the library's own session, which is the last one of two or more, and overflow buckets
+ * that its calls leave to its polls.
+ */
 #define _POSIX_C_SOURCE 200809L
 #include "fkv_file.h"
 
@@ -13,7 +16,10 @@ enum {
     SLOT_SIZE = 512,
     COUNT_PLACE = 48,
     POINTS_PLACE = 56,
-    WORD = 8
+    WORD = 8,
+    /* Requests that a session has in hand at most: those that are pending, and the one that it makes. */
+    IN_HAND = FKV_MOST_PENDING + 1,
+    MOST_OVERFLOW = 1 << 24
 };
 
 /* No point is so large. */
@@ -35,7 +41,30 @@ int32_t fkv_with_own(const fkv_shape *asked, fkv_shape *shape) {
     return 0;
 }
 
+static uint64_t least(uint64_t one, uint64_t other) { return one < other ? one : other; }
+
+fkv_shape fkv_made_of(const fkv_shape *asked) {
+    fkv_shape made = *asked;
+    made.sessions++;
+    /* (too many of them are refused as they are) */
+    if (made.overflow < MOST_OVERFLOW) made.overflow = least(made.overflow + IN_HAND * made.sessions, MOST_OVERFLOW);
+    return made;
+}
+
+fkv_shape fkv_asked_of(const fkv_file *file) {
+    fkv_shape asked = file->shape;
+    if (file->is_living) asked.overflow -= least(asked.overflow, IN_HAND * (asked.sessions + file->has_own));
+    return asked;
+}
+
+/* (No record has address 0.) */
+uint64_t fkv_records_of(const fkv_shape *asked) {
+    uint64_t sessions = asked->sessions + 1, kept = IN_HAND * sessions * sessions + 1, room = asked->page * asked->disk_pages;
+    return room - least(room, kept);
+}
+
 void fkv_take_own(fkv_file *file, bool is_living) {
+    file->is_living = is_living;
     file->has_own = is_living && file->shape.sessions >= 2;
     if (!file->has_own) return;
     file->shape.sessions--;

@@ -27,11 +27,14 @@ void fkv_give_bytes(struct bytes *room) {
     errno = why;
 }
 
-/* The shape that a renewal takes for one that was asked for: all zeros stand for the old store's own, and any other gets one session more. */
+/* The shape that a renewal takes for one that was asked for: all zeros stand for the old store's own. Any other gets what each file has beside it. */
 static int32_t shape_for_renewal(const fkv_shape *asked, fkv_shape *shape) {
     static const fkv_shape none;
     *shape = none;
-    return asked && memcmp(asked, &none, sizeof none) != 0 ? fkv_with_own(asked, shape) : 0;
+    if (!asked || memcmp(asked, &none, sizeof none) == 0) return 0;
+    int32_t result = fkv_with_own(asked, shape);
+    if (result == 0) *shape = fkv_made_of(asked);
+    return result;
 }
 
 /*

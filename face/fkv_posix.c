@@ -457,7 +457,7 @@ fkv_shape fkv_shape_of(const fkv_file *its) {
     fkv_file *file = (fkv_file *)its;
     /* (a renewal may give it another one) */
     pthread_mutex_lock(&file->lock);
-    fkv_shape shape = file->shape;
+    fkv_shape shape = fkv_asked_of(file);
     pthread_mutex_unlock(&file->lock);
     return shape;
 }

@@ -19,12 +19,14 @@
  * Where a result is -FKV_DEVICE, errno says what the system has refused: ENOENT no such file, EEXIST there is one already, EWOULDBLOCK
  * it is open already, ENOSPC no room. That holds too if another thread made the call.
  *
- * Who waits is refused by the keeper's fault (fkv_keeper_fault) where that can't go on, by -FKV_NO_KEEPER where fkv_start was forgotten
- * or fkv_stop came, and by -FKV_LOG_FULL or -FKV_INDEX_FULL where an update will never find room. The engine gives no reason at a poll, so
- * the last two go by a rule. Nothing of the session was finished for a second and 200 turns: then it is -FKV_LOG_FULL if the log's last pages
- * are in use, as far as the file's writes say so; else -FKV_INDEX_FULL if no other session is joined, or the index has refused an update. If
- * an update was refused by a full log before, 50 milliseconds are enough. The update stays pending then, and no commit finishes past it. If
- * one does all the same, the rule was wrong, and fkv_tick takes its answer back. Renew the store (fkv_renew).
+ * Who waits is refused by the keeper's fault (fkv_keeper_fault) where that can't go on, and by -FKV_NO_KEEPER where fkv_start was forgotten
+ * or fkv_stop came. In a living store nobody waits for room that never comes: what finds none is refused at its call (fkv_shape).
+ *
+ * In a specified store (FKVSTOR1) who waits is refused by -FKV_LOG_FULL or -FKV_INDEX_FULL too, where an update will never find room. The engine
+ * gives no reason at a poll, so these two go by a rule. Nothing of the session was finished for a second and 200 turns: then it is -FKV_LOG_FULL
+ * if the log's last pages are in use, as far as the file's writes say so; else -FKV_INDEX_FULL if no other session is joined, or the index has
+ * refused an update. If an update was refused by a full log before, 50 milliseconds are enough. The update stays pending then, and no commit
+ * finishes past it. If one does all the same, the rule was wrong, and fkv_tick takes its answer back. Renew the store (fkv_renew).
  */
 #ifndef FKV_POSIX_H
 #define FKV_POSIX_H
@@ -55,7 +57,7 @@ typedef void fkv_committed_fn(void *user, uint64_t number, const uint64_t *point
 /* A request that was pending and is finished. */
 typedef void fkv_finished_fn(void *user, const fkv_finished *finished);
 
-/* There are no commits any more, or no room: what fkv_tick answers from now on. */
+/* There are no commits any more, or the log has no room: what fkv_tick answers from now on. */
 typedef void fkv_stopped_fn(void *user, int32_t fault);
 
 /* Nothing keeps this store's memory warm: see fkv_start. */
@@ -87,7 +89,7 @@ typedef struct {
     uint64_t opening_bytes; /* about: at the height of an opening, where all these keys are there. The file's bytes come on top */
     uint64_t file_bytes;    /* of its file, at most. It grows as the log does: 24 bytes a record */
     uint64_t keys;          /* that fit, all but surely: by buckets, overflow buckets, and one spare of these for each session but one */
-    uint64_t records;       /* that the log takes in all the store's life */
+    uint64_t records;       /* that calls may append in all the store's life. Others are left to polls (fkv_shape) */
 } fkv_size;
 
 /*
@@ -100,16 +102,17 @@ typedef struct {
  */
 int32_t fkv_shape_for(const fkv_wish *wish, fkv_shape *shape);
 
-/* What a store of this shape takes, and holds, with the library's session. 0; -FKV_BAD_SHAPE (of 32 sessions too), -FKV_MEMORY. */
+/* What a new store of this shape takes, and holds, with the library's session. 0; -FKV_BAD_SHAPE (of 32 sessions too), -FKV_MEMORY. */
 int32_t fkv_size_of(const fkv_shape *shape, fkv_size *size);
 
 /* ---- The file ------------------------------------------------------------------------------------------------------------- */
 
 /*
- * Makes the file of a new living store of this shape, which has 1 to 31 sessions (FKV_MOST_JOINED). It is written under another name in
- * the same folder, synced, and put in place by a rename that replaces nothing; then the folder is synced. So a crash leaves the whole file or
- * none of this name. It may leave one of another name, `path` with ".new" and eight digits, which no store needs. The file isn't open after
- * the call.
+ * Makes the file of a new living store of this shape, which has 1 to 31 sessions (FKV_MOST_JOINED). The file has one session more, and 65
+ * overflow buckets more for each of its sessions, as far as there may be so many: calls leave these to polls (fkv_shape). It is written under
+ * another name in the same folder, synced, and put in place by a rename that replaces nothing; then the folder is synced. So a crash leaves the
+ * whole file or none of this name. It may leave one of another name, `path` with ".new" and eight digits, which no store needs. The file isn't
+ * open after the call.
  * 0; -FKV_BAD_SHAPE (of 32 sessions too), -FKV_MEMORY, -FKV_DEVICE (errno EEXIST: there is a file of this name, and it stays as it is). If the
  * folder's sync alone has failed, the new file stays in place, and the next call tells EEXIST. An opening syncs the folder again.
  */
@@ -150,9 +153,9 @@ int32_t fkv_open_file(const char *path, const fkv_how *how, fkv_file **out);
 /*
  * Closes the file. If the keeper's thread runs, and a session has done something that no commit keeps, a last commit is made first. Then
  * the thread ends. Without the thread, what no commit has kept is lost. Requests of an abandoned session, or of the library's, that can't be
- * finished hold the store's memory until the process ends: a call of the file has failed, or the index or the log is full. Then it takes a
- * second or two.
- * 0; the fault of the last commit (-FKV_DEVICE, -FKV_VERSIONS_SPENT, -FKV_LOG_FULL ..). The file is closed then too.
+ * finished hold the store's memory until the process ends: a call of the file has failed, or in a specified store the index or the log is full.
+ * Then it takes a second or two.
+ * 0; the fault of the last commit (-FKV_DEVICE, -FKV_VERSIONS_SPENT, of a specified store -FKV_LOG_FULL ..). The file is closed then too.
  * -FKV_HANDLE_OUT while a session is joined, and in a hook of the keeper's thread. Then the file stays open.
  */
 int32_t fkv_close_file(fkv_file *file);
@@ -187,8 +190,9 @@ int32_t fkv_each(fkv_file *file, fkv_pair_fn *each, void *user);
 
 /*
  * Renews the store of the old file in a new one, as fkv_renew does, and puts that in place as fkv_make_file does. The old one is locked
- * meanwhile, and stays as it is. `shape` is NULL or all zeros for its own sizes and class: the new file has as many sessions then. Of other
- * sizes the new store is a living one, with 1 to 31 sessions (FKV_MOST_JOINED). The library's session begins anew. `renewed` may be NULL.
+ * meanwhile, and stays as it is. `shape` is NULL or all zeros for its own sizes and class: the new file has as many sessions and overflow
+ * buckets then. Of other sizes the new store is a living one, with 1 to 31 sessions (FKV_MOST_JOINED), and has beside them what fkv_make_file
+ * adds. The library's session begins anew. `renewed` may be NULL.
  * The refusals are those of fkv_renew but -FKV_ROOM_SMALL; -FKV_DEVICE (errno EWOULDBLOCK: the old store is open; EEXIST: there is a file
  * of the new name).
  */
@@ -209,7 +213,10 @@ int32_t fkv_renew_file(const char *old_path, const char *new_path, const fkv_sha
  */
 int32_t fkv_renew_here(fkv_file *file, const fkv_shape *shape, fkv_renewed *renewed);
 
-/* The store's shape. Its sessions are those that can be joined. */
+/*
+ * The store's shape, as fkv_make_file takes it: its sessions are those that can be joined, and of a living store its overflow buckets are those
+ * that calls may link. An older file may have fewer of these than it was asked for.
+ */
 fkv_shape fkv_shape_of(const fkv_file *file);
 
 /* The number of the last finished commit, 0 in a new store, and the last serial of each session that it keeps: see fkv_open. */
@@ -233,7 +240,7 @@ int32_t fkv_leave(fkv_file *file, fkv_session *session);
 /*
  * Takes it back in any case, for who can't settle or doesn't want to wait. What is pending is finished by the keeper's thread, as soon
  * as one runs, and isn't reported. Until all of it is finished nobody joins the session. Commits don't wait for its refresh, and keep its
- * updates. While an update of it waits for a full index or log, no commit finishes.
+ * updates. While an update of it waits for the full index or log of a specified store, no commit finishes.
  */
 void fkv_abandon(fkv_file *file, fkv_session *session);
 
@@ -254,8 +261,9 @@ int32_t fkv_settle_for(fkv_file *file, fkv_session *session, uint32_t ms, fkv_fi
  * Lets the store go on: call it between a session's calls, as often as you like. Each 64th tick, or each 8th while a commit waits for the
  * session, polls and refreshes it. The others take a few instructions. What a poll of it has finished isn't reported.
  * 0 while commits go on; -FKV_ASLEEP; and why none is finished any more: the keeper's fault, -FKV_VERSIONS_SPENT once the store has taken
- * its last commit, -FKV_NO_KEEPER; -FKV_LOG_FULL once a call of this header has found the log full, and -FKV_INDEX_FULL once an update was
- * found to wait for ever. Calls of the session go on meanwhile, as far as they can, and what no commit keeps is lost with the process.
+ * its last commit, -FKV_NO_KEEPER, or in a specified store -FKV_INDEX_FULL once an update was found to wait for ever. Calls of the session go on
+ * meanwhile, as far as they can, and what no commit keeps is lost with the process. -FKV_LOG_FULL once a call of this header has found the log
+ * full: commits of a living store go on then, and it is to be renewed.
  */
 int32_t fkv_tick(fkv_file *file, fkv_session *session);
 
@@ -327,7 +335,7 @@ typedef struct {
  * (FKV_MOST_JOINED): fkv_keep makes a new record of it. It keeps each key too that fkv_read or fkv_read_many has found in the file alone.
  * Serials, points and values of users stay as they are. A store in which nothing is appended and found does none of it. What it may take:
  *
- *   log     Of all records that the log has room for in the store's life an eighth at most are the library's, and for reads no more than half
+ *   log     Of all records that calls may append in the store's life an eighth at most are the library's, and for reads no more than half
  *           of those that are there. So -FKV_LOG_FULL comes by an eighth of the log earlier at most. Nothing is kept any more where a
  *           sixteenth of that room is left, or 65,536 records if that is more. A renewal begins anew
  *   time    Half of the thread's at most, and none while a commit waits for sessions. If it is behind with what is about to leave memory, it
@@ -337,7 +345,7 @@ typedef struct {
  * If memory has no room for the newest records of all homes, more than three in four of those that leave it are such. Then pages are let go
  * as they are, until they are half at most. Of keys that share a home only the last updated is kept.
  *
- * It can't be if the store has no session for it, if its pages in memory are fewer than 4, or if its log has room for 65,536 records at most.
+ * It can't be if the store has no session for it, if its pages in memory are fewer than 4, or if its calls may append 65,536 records at most.
  * Then `unwarmed` is called, once for each opening. It works a quarter of memory ahead: so five eighths hold what is live, or more. Pages that are
  * mutable are passed over: if no commit makes them read-only, and all but one page are mutable, nothing is kept.
  * 0; -FKV_HANDLE_TAKEN where it runs already, -FKV_DEVICE (errno) where the system starts none.
@@ -372,8 +380,8 @@ int32_t fkv_ask_commit(fkv_file *file, uint64_t *ticket);
  * Waits until that commit is finished: what sessions had done when it was asked for survives a crash. `ticket` is of this file.
  * `session` is that of the calling thread. It sleeps meanwhile, so that the commit doesn't wait for its refresh. It is NULL if the thread
  * has none, or its session sleeps. The call may wait for ever as fkv_commit_and_wait does.
- * 0; -FKV_PENDING_LEFT: fkv_settle comes first; the fault of the commit; -FKV_NO_KEEPER where no thread runs any more; -FKV_LOG_FULL or
- * -FKV_INDEX_FULL where an update of some session was found to wait for ever, and the commit isn't finished within a second.
+ * 0; -FKV_PENDING_LEFT: fkv_settle comes first; the fault of the commit; -FKV_NO_KEEPER where no thread runs any more; in a specified store
+ * -FKV_LOG_FULL or -FKV_INDEX_FULL where an update of some session was found to wait for ever, and the commit isn't finished within a second.
  */
 int32_t fkv_wait_commit(fkv_file *file, uint64_t ticket, fkv_session *session);
 
@@ -424,7 +432,7 @@ typedef struct {
     uint64_t flushed;       /* records below it are in the file, and synced */
     uint64_t read_only;     /* records below it aren't updated in place */
     uint64_t tail;          /* the next record's address */
-    uint64_t overflow;      /* overflow buckets of the index that are taken, of the shape's `overflow` */
+    uint64_t overflow;      /* overflow buckets of the index that are taken: calls of a living store take the shape's `overflow`, polls the rest */
     uint64_t entries;       /* entries of the index that were taken at the opening, or as the last full commit since copied it. See below */
     int32_t stopped;        /* what fkv_tick answers of the store, 0 while commits go on */
     uint64_t waited[FKV_REASONS]; /* requests that calls of this header had to wait for: updates by their first reason (FKV_FUZZY ..), reads at 0 */
@@ -437,7 +445,7 @@ typedef struct {
  *
  * `entries` costs no search: it is what the opening found, and then what each full commit writes. Keys that came later aren't in it, and log
  * commits don't count. An entry is never given back, and `overflow` is of this moment: an update is refused (-FKV_INDEX_FULL) once its bucket
- * is full and all overflow buckets are taken. `pending` has the reads and updates that calls of this header wait for. If waiting was
+ * is full and calls have taken all overflow buckets that they may. `pending` has the reads and updates that calls of this header wait for. If waiting was
  * refused, they stay in it until a wait or a tick of the session, or the keeper's thread after fkv_abandon, finds that nothing of it is pending.
  * What the calls of fkv.h have left pending isn't in it: each of them told its reason to its caller.
  * 0; -FKV_DEVICE where the system doesn't tell the file's size.

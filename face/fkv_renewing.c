@@ -41,7 +41,7 @@ static void swap(fkv_file *file, fkv_file *fresh) {
     old.fd = file->fd, old.store = file->store, old.keeper = file->keeper;
     memcpy(old.sessions, file->sessions, sizeof old.sessions);
     file->fd = fresh->fd, file->store = fresh->store, file->keeper = fresh->keeper, file->shape = fresh->shape;
-    file->has_own = fresh->has_own, file->warmer = fresh->warmer;
+    file->is_living = fresh->is_living, file->has_own = fresh->has_own, file->warmer = fresh->warmer;
     memcpy(file->sessions, fresh->sessions, sizeof old.sessions);
     memcpy(file->points, fresh->points, sizeof file->points);
     file->most_commits = fresh->most_commits, file->number = fresh->number, file->log_end = fresh->log_end;

@@ -49,9 +49,9 @@ static uint64_t power_for(uint64_t number) {
     return power;
 }
 
-static uint64_t buckets_of(const fkv_shape *shape) { return (UINT64_C(1) << shape->bucket_bits) + shape->overflow; }
+/* (of the file that is made for it, and so are the words) */
+static uint64_t buckets_of(const fkv_shape *shape) { return (UINT64_C(1) << shape->bucket_bits) + fkv_made_of(shape).overflow; }
 
-/* (the library's session beside those that are asked for) */
 static uint64_t words_of(const fkv_shape *shape) {
     return STORE_WORDS + SESSION_WORDS * (shape->sessions + 1) + BUCKET_WORDS * buckets_of(shape) + RECORD_WORDS * shape->page * shape->frames;
 }
@@ -99,7 +99,7 @@ static uint64_t keys_of(const fkv_shape *shape) {
         if (fits) low = middle;
         else high = middle - 1;
     }
-    return least(low, shape->page * shape->disk_pages - 1);
+    return least(low, fkv_records_of(shape));
 }
 
 /* ---- Shapes --------------------------------------------------------------------------------------------------------------------- */
@@ -154,12 +154,13 @@ int32_t fkv_size_of(const fkv_shape *shape, fkv_size *size) {
     if (result == 0) result = fkv_image(&its, image, sizeof image);
     if (result < 0) return result;
     uint64_t keys = keys_of(shape);
+    fkv_shape made = fkv_made_of(shape);
     *size = (fkv_size){
         .memory_bytes = memory_of(shape),
         .opening_bytes = most(2 * 8 * words_of(shape), SORTED_SIZE * least(shape->page * shape->disk_pages, MOST_SORTED)) + OPENED_SIZE * keys,
-        .file_bytes = fkv_log_place(shape) + RECORD_SIZE * shape->page * shape->disk_pages,
+        .file_bytes = fkv_log_place(&made) + RECORD_SIZE * shape->page * shape->disk_pages,
         .keys = keys,
-        .records = shape->page * shape->disk_pages - 1,
+        .records = fkv_records_of(shape),
     };
     return 0;
 }

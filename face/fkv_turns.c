@@ -69,12 +69,12 @@ void fkv_begin_patience(const fkv_file *file, struct patience *its, uint32_t of)
 }
 
 /*
- * A poll gives no reason, so this goes by what else is known. After so many turns each read is served. A session that is awake alone waits
- * for nobody's refresh. So what is left then waits for room. If others are joined, then one of them may hold it up: so the log has to be
- * known as full, or to be near its end.
+ * In a living store calls leave room to polls, so what waits comes to it. In a specified one a poll gives no reason, so this goes by what else
+ * is known. After so many turns each read is served. A session that is awake alone waits for nobody's refresh. So what is left then waits for
+ * room. If others are joined, then one of them may hold it up: so the log has to be known as full, or to be near its end.
  */
 int32_t fkv_never_room(const fkv_file *file, const struct patience *its) {
-    if (file->turns - its->turns < FULL_TURNS || fkv_unserved(file)) return 0;
+    if (file->is_living || file->turns - its->turns < FULL_TURNS || fkv_unserved(file)) return 0;
     uint64_t waited = fkv_since(its->begun);
     if (waited >= KNOWN_FULL_US && file->full) return file->full;
     if (waited < FULL_US) return 0;

@@ -43,13 +43,11 @@ static uint64_t most(uint64_t one, uint64_t other) { return one > other ? one : 
 
 static uint64_t ring_of(const fkv_shape *shape) { return shape->page * shape->frames; }
 
-static uint64_t records_of(const fkv_shape *shape) { return shape->page * shape->disk_pages; }
-
 /* So many records ahead of what leaves memory it works. */
 static uint64_t records_ahead(const fkv_shape *shape) { return ring_of(shape) / AHEAD; }
 
 bool fkv_can_warm(const fkv_file *file) {
-    return file->has_own && file->shape.frames >= LEAST_FRAMES && records_of(&file->shape) > LEAST_LEFT;
+    return file->has_own && file->shape.frames >= LEAST_FRAMES && fkv_records_of(&file->shape) > LEAST_LEFT;
 }
 
 /* ---- Which records leave memory ------------------------------------------------------------------------------------------------- */
@@ -174,7 +172,7 @@ static size_t look(fkv_file *file, uint64_t to) {
 /* Whether it may keep SLICE records more: nothing of its session waits, and it hasn't had its share of the log. */
 static bool may_keep(const fkv_file *file) {
     const struct warmer *its = &file->warmer;
-    return its->is_on && !its->is_awake && its->serial + SLICE <= records_of(&file->shape) / SHARE;
+    return its->is_on && !its->is_awake && its->serial + SLICE <= fkv_records_of(&file->shape) / SHARE;
 }
 
 /* Goes over the records below this one, as far as that takes no more than so many looks. */
@@ -254,7 +252,7 @@ void fkv_begin_warming(fkv_file *file) {
 /* Whether it may go on: it stops where no commit follows, where it has had its share of the log, and where that is nearly full. */
 static bool may_go_on(fkv_file *file, fkv_offsets *at) {
     const struct warmer *its = &file->warmer;
-    uint64_t records = records_of(&file->shape), left = most(records / LAST, LEAST_LEFT);
+    uint64_t records = fkv_records_of(&file->shape), left = most(records / LAST, LEAST_LEFT);
     if (!its->is_on || atomic_load(&file->ends) || fkv_hint_offsets(own(file), at) < 0) return false;
     return its->serial + SLICE <= records / SHARE && at->tail < records - left;
 }

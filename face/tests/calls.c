@@ -519,7 +519,8 @@ static void is_renewed(const uint8_t *bytes, size_t size, uint32_t keys, const u
 
 /* A store whose keys lie as they are is renewed with them, and with spread ones. */
 static void renewing(void) {
-    enum { SIZE = FKV_IMAGE_SIZE + 224 * (16 + 16) + 24 * (KEYS + 1) };
+    /* (with the overflow buckets that the first image has got) */
+    enum { OVERFLOW = 16 + 65 * SESSIONS, SIZE = FKV_IMAGE_SIZE + 224 * (16 + OVERFLOW) + 24 * (KEYS + 1) };
     static uint8_t old[DEVICE_SIZE], image[SIZE];
     const fkv_shape own = {0}, other = {6, 4, 8, 2, 3, 16, 64};
     uint64_t points[FKV_MOST_SESSIONS];

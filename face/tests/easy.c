@@ -270,7 +270,7 @@ static void goes_on(void) {
     WANTS("closing", fkv_close_file(file), 0);
 }
 
-/* Two sessions want the log's last records. Each update is done or refused, and none waits for ever. */
+/* Sessions want the log's last records. Each update is done or refused, and none waits for ever. */
 static void *fill(void *its) {
     struct worker *worker = its;
     fkv_session *session = joined(worker->number);
@@ -280,13 +280,13 @@ static void *fill(void *its) {
     for (; result == FKV_DONE; key++) result = fkv_put(file, session, worker->number << 32 | key, key, &told);
     WANTS("why no more is put", result, -FKV_LOG_FULL);
     WANTS("a tick", fkv_tick(file, session), -FKV_LOG_FULL);
-    if (told.serial) fkv_abandon(file, session);
-    else WANTS("leaving", fkv_leave(file, session), 0);
+    WANTS("its serial", told.serial, 0);
+    WANTS("leaving", fkv_leave(file, session), 0);
     return NULL;
 }
 
 static void full(void) {
-    static const fkv_shape small = {8, 4, 4, 1, WORKERS, 64, 16};
+    static const fkv_shape small = {8, 4, 4, 1, WORKERS, 64, 276};
     static struct worker workers[WORKERS];
     atomic_int stopped = 0;
     fkv_keeping keeping = {.stopped = note_stopped, .user = &stopped};
@@ -299,7 +299,7 @@ static void full(void) {
     for (int i = 0; i < WORKERS; i++) pthread_join(workers[i].thread, NULL);
     for (int i = 0; i < 1000 && !stopped; i++) nanosleep(&(struct timespec){0, 1000000}, NULL);
     WANTS("what the hook was told", stopped, -FKV_LOG_FULL);
-    WANTS("dropping", fkv_drop_file(file), 0);
+    WANTS("closing, with a last commit", fkv_close_file(file), 0);
 }
 
 static void no_keeper(void) {

@@ -178,7 +178,7 @@ static void sessions(const std::string &path) {
 
 /* The log is full: the hook says so, once. */
 static void stopped(const std::string &path) {
-    fkv::Store::make(path, fkv::Shape{8, 4, 4, 1, 2, 64, 16});
+    fkv::Store::make(path, fkv::Shape{8, 4, 4, 1, 2, 64, 163});
     fkv::Store store = fkv::Store::open(path);
     std::atomic<int> told{0};
     std::atomic<std::int32_t> why{0};

@@ -11,15 +11,16 @@
 #include <signal.h>
 #include <stdatomic.h>
 #include <stdbool.h>
+#include <string.h>
 #include <sys/resource.h>
 #include <time.h>
 #include <unistd.h>
 
 /* A test that waits for ever is ended by a signal behind so many seconds. */
-enum { WAIT_MS = 300, MOST_SECONDS = 240, MANY_TICKS = 1000, SESSIONS = FKV_MOST_JOINED, LAST = SESSIONS - 1, PATH_ROOM = 500 };
+enum { WAIT_MS = 300, MOST_SECONDS = 240, MANY_TICKS = 1000, SESSIONS = FKV_MOST_JOINED, LAST = SESSIONS - 1, OVERFLOW_PLACE = 48, PATH_ROOM = 500 };
 
 /* Little memory, so that updates soon wait for the keeper. */
-static const fkv_shape SHAPE = {6, 16, 8, 4, SESSIONS, 64, 4096};
+static const fkv_shape SHAPE = {6, 16, 8, 4, SESSIONS, 64, 8192};
 static const char *folder;
 
 static const char *path_of(const char *name) {
@@ -36,6 +37,19 @@ static fkv_file *opened_with(const char *name, const fkv_shape *shape) {
 }
 
 static fkv_file *opened(const char *name) { return opened_with(name, &SHAPE); }
+
+/* A specified store of this shape. Its calls leave no room to its polls, and it has no overflow buckets for these. */
+static fkv_file *specified(const char *name, const fkv_shape *shape) {
+    uint8_t image[FKV_IMAGE_SIZE];
+    fkv_file *file;
+    WANTS("an image", fkv_image(shape, image, sizeof image), 0);
+    memcpy(image, fkv_formats(), 8);
+    memcpy(image + OVERFLOW_PLACE, &shape->overflow, sizeof shape->overflow);
+    FILE *its = fopen(path_of(name), "wb");
+    WANTS("making a file", its && fwrite(image, sizeof image, 1, its) == 1 && fclose(its) == 0, true);
+    WANTS("opening it", fkv_open_file(path_of(name), NULL, &file), 0);
+    return file;
+}
 
 static int64_t microseconds(clockid_t clock) {
     struct timespec time;
@@ -161,11 +175,11 @@ static void count_finished(void *its, const fkv_finished *finished) {
 /* A hook that is told why commits end. */
 static void note_stopped(void *its, int32_t fault) { *(_Atomic int32_t *)its = fault; }
 
-/* Updates wait for a log that is full, and for good: who waits for them is told so. Then no commit finishes, and who waits for one hears it too. */
+/* In a specified store updates wait for a log that is full, and for good: who waits for them is told so. Then no commit finishes, and who waits for one hears it too. */
 static void full(void) {
     enum { ROOM = 11, MORE = 5 }; /* of the log: no record has address 0 */
     static const fkv_shape small = {4, 4, 2, 1, 2, 0, (ROOM + 1) / 4};
-    fkv_file *file = opened_with("full", &small);
+    fkv_file *file = specified("full", &small);
     fkv_session *session, *other;
     fkv_update told;
     done_updates done = {0, 0};
@@ -214,7 +228,7 @@ static void full(void) {
 /* Nobody has found out that what was abandoned waits for ever. The last commit tells it, and doesn't wait for ever. */
 static void full_and_abandoned(void) {
     static const fkv_shape small = {4, 4, 2, 1, 1, 0, 3};
-    fkv_file *file = opened_with("full_and_abandoned", &small);
+    fkv_file *file = specified("full_and_abandoned", &small);
     fkv_session *session;
     fkv_update told;
     WANTS("joining", fkv_join(file, 0, &session), 0);
@@ -224,11 +238,11 @@ static void full_and_abandoned(void) {
     WANTS("closing", fkv_close_file(file), -FKV_LOG_FULL);
 }
 
-/* Updates waited for a page, and then find the index full, for good: who waits for them is told so, and so are a tick and a hook. */
+/* In a specified store updates waited for a page, and then find the index full, for good: who waits for them is told so, and so are a tick and a hook. */
 static void index_full(void) {
     enum { ENTRIES = 14, ALL = 40 };
     static const fkv_shape small = {1, 4, 2, 1, 1, 0, 64};
-    fkv_file *file = opened_with("index_full", &small);
+    fkv_file *file = specified("index_full", &small);
     fkv_session *session;
     fkv_update told;
     done_updates done = {0, 0};

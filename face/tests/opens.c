@@ -6,7 +6,7 @@
 
 enum { SESSIONS = 4, EACH_FILE = 100, PATH_ROOM = 500 };
 
-static const fkv_shape SHAPE = {3, 4, 4, 2, SESSIONS, 2, 64};
+static const fkv_shape SHAPE = {3, 4, 4, 2, SESSIONS, 2, 1024};
 
 /* A store of bytes, with some of its handles. */
 static void open_bytes(uint64_t round) {

@@ -130,7 +130,7 @@ static void goes_on(void) {
     add_to_all(1);
     WANTS("renewing it again", fkv_renew_here(file, NULL, NULL), 0);
     wants_all(4);
-    WANTS("too small a shape", fkv_renew_here(file, &(fkv_shape){2, 4, 8, 4, SESSIONS, 0, 4096}, &told), -FKV_INDEX_FULL);
+    WANTS("too small a shape", fkv_renew_here(file, &(fkv_shape){2, 4, 8, 4, SESSIONS, 0, 1}, &told), -FKV_LOG_FULL);
     add_to_all(2);
     WANTS("closing", fkv_close_file(file), 0);
     open_store();

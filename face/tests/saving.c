@@ -110,7 +110,7 @@ static void pairs_at_rest(void) {
 }
 
 static void renewals(const char *path, const char *copy) {
-    static const fkv_shape large = {12, 64, 8, 4, WORKERS, 1024, 65536}, small = {2, 4, 8, 4, WORKERS, 0, 4096};
+    static const fkv_shape large = {12, 64, 8, 4, WORKERS, 1024, 65536}, small = {2, 4, 8, 4, WORKERS, 0, 1};
     fkv_renewed told;
     unlink(copy);
     WANTS("renewing a store", fkv_renew_file(path, copy, NULL, FKV_AS_THEY_LIE, NULL), 0);
@@ -122,7 +122,7 @@ static void renewals(const char *path, const char *copy) {
     WANTS("whether a size was told", told.size > 0, true);
     WANTS("the commit of a renewed store", checked(copy), 1);
     unlink(copy);
-    WANTS("renewing it too small", fkv_renew_file(path, copy, &small, FKV_AS_THEY_LIE, &told), -FKV_INDEX_FULL);
+    WANTS("renewing it too small", fkv_renew_file(path, copy, &small, FKV_AS_THEY_LIE, &told), -FKV_LOG_FULL);
     WANTS("whether a file is left", access(copy, F_OK), -1);
     WANTS("opening a store", fkv_open_file(path, NULL, &file), 0);
     WANTS("renewing it while it is open", fkv_renew_file(path, copy, NULL, FKV_AS_THEY_LIE, &told), -FKV_DEVICE);

@@ -111,7 +111,7 @@ static void reads(void) {
 
 /* An update that finds no open page is pending for that reason, until the keeper has opened one. */
 static void updates(void) {
-    static const fkv_shape small = {4, 4, 2, 1, 1, 16, 64};
+    static const fkv_shape small = {4, 4, 2, 1, 1, 16, 128};
     uint64_t key = 0;
     int32_t result;
     open_shape("updates", &small);

@@ -44,7 +44,7 @@ static void opens(const fkv_shape *shape, const char *formats, int32_t as_specif
 static void renews(const char *formats) {
     static const fkv_shape own;
     const char *specified = formats, *living = formats + TEXT + 1;
-    uint8_t image[FKV_IMAGE_SIZE], renewed[8 * FKV_IMAGE_SIZE];
+    uint8_t image[FKV_IMAGE_SIZE], renewed[32 * FKV_IMAGE_SIZE];
     fkv_renewed told;
     WANTS("an image", fkv_image(&SMALL, image, sizeof image), 0);
     memcpy(image, specified, TEXT);

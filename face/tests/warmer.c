@@ -20,7 +20,7 @@
 /* Live keys fill half of the memory: PAGE times FRAMES records. */
 enum { PAGE = 2048, FRAMES = 32, RING = PAGE * FRAMES, KEYS = RING / 2, SESSIONS = 3, TURNS = 10 };
 enum { BUCKET_BITS = 13, TAG_BITS = 15, HOMES = 1 << (BUCKET_BITS + TAG_BITS) };
-enum { SESSIONS_PLACE = 40, COMMIT_MS = 50, BLOCK = 64, ROUNDS = 20, CRASHES = 5, MOST_SECONDS = 280, TRIES = 3, PATH_ROOM = 500 };
+enum { SESSIONS_PLACE = 40, OVERFLOW_PLACE = 48, COMMIT_MS = 50, BLOCK = 64, ROUNDS = 20, CRASHES = 5, MOST_SECONDS = 280, TRIES = 3, PATH_ROOM = 500 };
 
 static const fkv_shape SHAPE = {BUCKET_BITS, PAGE, FRAMES, FRAMES * 3 / 4, SESSIONS, 8192, 4096};
 /* Its log is soon full: it has room for four times as many records as the library leaves to users alone. */
@@ -129,7 +129,8 @@ static void asked_for(void) {
     WANTS("its size", fkv_size_of(&shape, &size), 0);
     shape.sessions--;
     WANTS("the size of fewer", fkv_size_of(&shape, &larger), 0);
-    WANTS("what a session takes", size.memory_bytes - larger.memory_bytes, 128);
+    /* (its words, and its overflow buckets with their copy) */
+    WANTS("what a session takes", size.memory_bytes - larger.memory_bytes, 128 + 65 * (64 + 112));
     shape.sessions = wish.sessions = FKV_MOST_JOINED + 1;
     WANTS("making 32", fkv_make_file(path_of("none"), &shape), -FKV_BAD_SHAPE);
     WANTS("a size of 32", fkv_size_of(&shape, &size), -FKV_BAD_SHAPE);
@@ -142,12 +143,13 @@ static void asked_for(void) {
     WANTS("its sessions", shape.sessions, FKV_MOST_JOINED);
 }
 
-/* A file of so many sessions, as fkv_image and older libraries make it, of this class. */
+/* A file of so many sessions, as older libraries make it, of this class. */
 static void put_image(const char *name, uint64_t sessions, bool is_living) {
     static uint8_t image[FKV_IMAGE_SIZE];
     fkv_shape shape = {6, 64, 16, 8, sessions, 64, 4096};
     WANTS("an image", fkv_image(&shape, image, sizeof image), 0);
     if (!is_living) memcpy(image, fkv_formats(), 8);
+    memcpy(image + OVERFLOW_PLACE, &shape.overflow, sizeof shape.overflow);
     int fd = open(path_of(name), O_WRONLY | O_CREAT | O_TRUNC, 0666);
     WANTS("writing it", write(fd, image, sizeof image), sizeof image);
     close(fd);
@@ -358,9 +360,9 @@ static void idle(void) {
 
 /* ---- A full log ----------------------------------------------------------------------------------------------------------------- */
 
-/* The log is the user's up to its end, but for the library's share. Its last part is the user's alone. */
+/* The log is the user's up to where calls end, but for the library's share. Its last part is the user's alone. */
 static void full_log(void) {
-    const uint64_t records = SHORT.page * SHORT.disk_pages, last = records - 65536;
+    const uint64_t records = SHORT.page * SHORT.disk_pages - 65 * (SESSIONS + 1) * (SESSIONS + 1), last = records - 65536;
     fkv_keeping keeping = {.commit_ms = 5, .log_commits = UINT32_MAX};
     uint64_t kept = 0;
     int32_t result = FKV_DONE;
@@ -380,7 +382,7 @@ static void full_log(void) {
     }
     fkv_stats stats = stats_now();
     WANTS("why no more is put", result, -FKV_LOG_FULL);
-    WANTS("where the log ends", stats.tail, records);
+    WANTS("where calls end", stats.tail, records);
     WANTS("whether records were kept", stats.kept > 0, true);
     WANTS("whether they are within their share", stats.kept <= records / 8, true);
     fkv_abandon(file, session);

@@ -66,6 +66,7 @@ WORDS = {
     "empty entries from_entries": "the map without keys; a map's pairs in the order of its keys; the map of such pairs",
     "is_some option_map take flat_map": "whether there is a value; a function of the value, if there is one; the first elements; the lists of all elements, one after another",
     "Result Ok Err": "what a call returns, or its fault",
+    "IsErr OnErr IfErr": "that it is a fault; if it is a fault, so much holds; if it is a fault, so much holds of that",
     "IsTrue": "that a truth value is `true`",
     "codes decimal": "the bytes of a text in quotes; those of a number in decimal digits",
     "Appends": "a writer's known bytes go on by these, as far as it says what it holds",

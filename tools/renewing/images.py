@@ -97,7 +97,8 @@ def made_living(folder):
     updates = [f"{key % 2} up {key * 4096} {key + 7}" for key in range(40)]
     # a turn behind each quarter of a page, so that no update waits for room
     lines = [line for key, update in enumerate(updates) for line in (update, "k turn")[: 2 if key % 4 == 3 else 1]]
-    script = ["large 12 16 4 2 2 8 64", *lines, "0 del 0", "k commit", "k finish"]
+    # (its calls leave 130 overflow buckets to polls)
+    script = ["large 12 16 4 2 2 138 64", *lines, "0 del 0", "k commit", "k finish"]
     need("a living store", played(pair.old, "\n".join(script) + "\n")[1][-1], "k finished 1 points 21 20")
     image = held(pair.old)
     need("a living store's text", image[:8], b"FKVSTOR2")

@@ -34,6 +34,15 @@ def full():
     return [f"0 add {n % 7} {n}" for n in range(300)] + ["k commit", "k finish", "k finish"]
 
 
+def filling(sizes):
+    """Four sessions add to ascending keys of a living store until it is full. What was accepted never waits for room, so each commit ends."""
+    lines = [f"large {sizes}"]
+    for key in range(60):
+        lines += [f"{session} add {key} 1" for session in range(4)]
+        lines += ["k commit", "k finish"] if key % 20 == 19 else []
+    return lines
+
+
 RUNS = [
     ("a sum of two sessions", [SMALL, *["0 add 1 1"] * 3, *["1 add 1 2"] * 2, "k commit", "k finish"], agree(1, 1)),
     ("one session, which reads what it wrote", [ONE, "0 up 1 10", "0 get 1", "k commit", "k finish"], agree(1, 1)),
@@ -45,6 +54,8 @@ RUNS = [
     ("a session that the shape hasn't", [SMALL, "9 up 1 1", "0 up 2 2", "k commit", "k finish"], agree(1, 2)),
     ("a living store", [LARGE_TWO, "0 up 1 1", "1 up 2 2", "k commit", "k finish"], agree(1, 2)),
     ("a living store of small sizes", ["large 4 16 4 2 2 0 64", "0 up 1 1", "1 max 2 2", "1 min 2 1", "k commit", "k finish"], agree(1, 2)),
+    ("a living store's index that gets full", filling("1 4 4 2 4 264 65536"), agree(3, 60)),
+    ("a living store's log that gets full", filling("4 4 4 2 4 400 280"), agree(3, 60)),
     ("merges of one session", [LARGE_ONE, "0 min 1 9", "0 sub 1 2", "0 and 1 6", "0 or 2 1", "0 first 3 5", "0 keep 4", "k commit", "k finish"], agree(1, 4)),
     ("merges of two sessions are compared of no key", [LARGE_TWO, "0 min 1 9", "1 min 1 5", "0 add 2 1", "1 sub 2 1", "0 keep 3", "k commit", "k finish"], agree(1, 1)),
 ]

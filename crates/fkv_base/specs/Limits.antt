@@ -1,5 +1,5 @@
 -- The limits of a shape's seven sizes, and of the numbers that a store counts.
-use Rattle.std.specs.Prelude.{◌≡◌, ℕ, ◌-◌, ◌^◌, ◌≤◌, ◌<◌, Bool, true, false, ◌&&◌, nat_le, nat_lt, IsTrue}
+use Rattle.std.specs.Prelude.{◌≡◌, ℕ, ◌-◌, ◌*◌, ◌^◌, ◌≤◌, ◌<◌, if◌then◌else◌, Bool, true, false, ◌&&◌, nat_le, nat_lt, IsTrue}
 use Rattle.std.specs.Int.{is_power_of_two}
 use Rattle.fkv_base.specs.declared.classes.StoreClass.{StoreClass}
 use Rattle.fkv_base.specs.declared.classes.StoreClass.TheVariants.{Specified, Living}
@@ -10,6 +10,10 @@ max_sessions = 32
 
 abbrev pub max_pending : ℕ
 max_pending = 64
+
+-- and of one session that are in hand: those that are pending, and the one of its call
+abbrev pub max_in_hand : ℕ
+max_in_hand = 65
 
 -- so many drain slots
 abbrev pub drain_slots : ℕ
@@ -127,3 +131,17 @@ IsOfClass class small = class ≡ Specified → small
 abbrev pub is_specified : StoreClass → Bool
 is_specified Specified = true
 is_specified Living = false
+
+-- What the calls of a living store leave to its polls. Of the index: an overflow bucket for each request in hand.
+abbrev pub margin_buckets : StoreClass → ℕ → ℕ
+margin_buckets Specified sessions = 0
+margin_buckets Living sessions = max_in_hand * sessions
+
+-- Of the log: for each of them a record for each session, since one that is published can make each other session lose one.
+abbrev pub margin_records : StoreClass → ℕ → ℕ
+margin_records Specified sessions = 0
+margin_records Living sessions = max_in_hand * sessions * sessions
+
+-- so many overflow buckets, or as many as there may be
+abbrev pub overflow_within : ℕ → ℕ
+overflow_within wanted = if nat_lt wanted max_overflow then wanted else max_overflow

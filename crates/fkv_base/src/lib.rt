@@ -13,10 +13,10 @@ pub use classes::StoreClass;
 pub use commits::CommitKind;
 pub use faults::{Damage, Fault, ScriptFault};
 pub use limits::{
-    DRAIN_SLOTS, LAST_EPOCH, MAX_BUCKET_BITS, MAX_DISK_PAGES, MAX_FRAMES, MAX_OVERFLOW, MAX_PAGE,
-    MAX_PENDING, MAX_SESSIONS, MIN_FRAMES, MIN_PAGE, SMALL_BUCKET_BITS, SMALL_DISK_PAGES,
-    SMALL_FRAMES, SMALL_OVERFLOW, SMALL_PAGE,
+    DRAIN_SLOTS, LAST_EPOCH, MAX_BUCKET_BITS, MAX_DISK_PAGES, MAX_FRAMES, MAX_IN_HAND,
+    MAX_OVERFLOW, MAX_PAGE, MAX_PENDING, MAX_SESSIONS, MIN_FRAMES, MIN_PAGE, SMALL_BUCKET_BITS,
+    SMALL_DISK_PAGES, SMALL_FRAMES, SMALL_OVERFLOW, SMALL_PAGE,
 };
 pub use numbers::{Addr, Key, Serial, Value, Version};
 pub use phases::Phase;
-pub use shapes::Shape;
+pub use shapes::{Margin, Shape};

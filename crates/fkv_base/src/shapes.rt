@@ -1,14 +1,15 @@
 //! How large a store is.
-ghost use Rattle.std.specs.Prelude.{◌≡◌, ◌↔◌, ℕ, IsOk, is_ok, IfOk, OnErr, Err, ◌&&◌};
-ghost use Rattle.fkv_base.specs.Limits.{IsShape, IsSmall, IsOfClass, is_specified, is_ring_size, is_shape, is_small};
+ghost use Rattle.std.specs.Prelude.{◌≡◌, ◌↔◌, ℕ, ◌+◌, ◌≤◌, IsOk, is_ok, IfOk, OnErr, Err, ◌&&◌};
+ghost use Rattle.fkv_base.specs.Limits.{IsShape, IsSmall, IsOfClass, is_specified, is_ring_size, is_shape, is_small, margin_buckets, margin_records, overflow_within};
 ghost use Rattle.fkv_base.specs.declared.classes.StoreClass.TheVariants.{Specified, Living};
 ghost use Rattle.fkv_base.specs.declared.faults.Fault.TheVariants.{BadShape};
 
 use crate::classes::StoreClass;
 use crate::faults::Fault;
 use crate::limits::{
-    MAX_BUCKET_BITS, MAX_DISK_PAGES, MAX_FRAMES, MAX_OVERFLOW, MAX_PAGE, MAX_SESSIONS, MIN_FRAMES,
-    MIN_PAGE, SMALL_BUCKET_BITS, SMALL_DISK_PAGES, SMALL_FRAMES, SMALL_OVERFLOW, SMALL_PAGE,
+    MAX_BUCKET_BITS, MAX_DISK_PAGES, MAX_FRAMES, MAX_IN_HAND, MAX_OVERFLOW, MAX_PAGE, MAX_SESSIONS,
+    MIN_FRAMES, MIN_PAGE, SMALL_BUCKET_BITS, SMALL_DISK_PAGES, SMALL_FRAMES, SMALL_OVERFLOW,
+    SMALL_PAGE,
 };
 
 /// The class of a store, and its seven sizes, each within the limits of that class. Two shapes of equal sizes and unlike class are unequal.
@@ -32,6 +33,15 @@ pub struct Shape {
     pub disk_pages: u64,
     ghost limits: { IsShape bucket_bits page frames mutable sessions overflow disk_pages },
     ghost of_its_class: { IsOfClass class (IsSmall bucket_bits page frames overflow disk_pages) },
+}
+
+/// What the calls of a living store leave to its polls, so that no request which waits ever meets a full store.
+#[derive(Clone, Copy, Debug, PartialEq, Eq)]
+pub struct Margin {
+    /// Overflow buckets: one for each request in hand.
+    pub buckets: u64,
+    /// Records at the log's end: for each request in hand one for each session, since each session can lose one to it.
+    pub records: u64,
 }
 
 impl Shape {
@@ -161,6 +171,51 @@ impl Shape {
     {
         matches!(self.class, StoreClass::Specified)
     }
+
+    /// What its calls leave to its polls: nothing in a specified store.
+    pub fn margin(self) -> Margin
+        ensures buckets { result.buckets ≡ margin_buckets self.class self.sessions }
+        ensures records { result.records ≡ margin_records self.class self.sessions }
+        ensures few_buckets { result.buckets ≤ 2080 }
+        ensures few_records { result.records ≤ 66560 }
+    {
+        match self.class {
+            StoreClass::Specified => Margin {
+                buckets: 0,
+                records: 0,
+            },
+            StoreClass::Living => {
+                let buckets = MAX_IN_HAND * self.sessions;
+                Margin {
+                    buckets,
+                    records: buckets * self.sessions,
+                }
+            }
+        }
+    }
+
+    /// The same, with its margin on top of its overflow buckets, as far as there may be so many.
+    pub fn with_margin(self) -> Shape
+        ensures class { result.class ≡ self.class }
+        ensures bucket_bits { result.bucket_bits ≡ self.bucket_bits }
+        ensures page { result.page ≡ self.page }
+        ensures frames { result.frames ≡ self.frames }
+        ensures mutable { result.mutable ≡ self.mutable }
+        ensures sessions { result.sessions ≡ self.sessions }
+        ensures overflow { result.overflow ≡ overflow_within (self.overflow + margin_buckets self.class self.sessions) }
+        ensures disk_pages { result.disk_pages ≡ self.disk_pages }
+    {
+        Shape {
+            class: self.class,
+            bucket_bits: self.bucket_bits,
+            page: self.page,
+            frames: self.frames,
+            mutable: self.mutable,
+            sessions: self.sessions,
+            overflow: overflow_within(self.overflow + self.margin().buckets),
+            disk_pages: self.disk_pages,
+        }
+    }
 }
 
 /// Whether a size is a power of two within two bounds.
@@ -168,6 +223,17 @@ fn is_ring_size(size: u64, least: u64, most: u64) -> bool
     ensures { result ≡ is_ring_size size least most }
 {
     size.is_power_of_two() && least <= size && size <= most
+}
+
+/// So many overflow buckets, or as many as there may be.
+fn overflow_within(wanted: u64) -> u64
+    ensures { result ≡ overflow_within wanted }
+{
+    if wanted < MAX_OVERFLOW {
+        wanted
+    } else {
+        MAX_OVERFLOW
+    }
 }
 
 /// Whether none of five sizes is above what a specified store has.

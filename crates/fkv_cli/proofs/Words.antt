@@ -3,8 +3,8 @@ use Rattle.std.proofs.Common.{◌≡◌, ◌∙◌, inl, inr, ℕ, Bool, true, f
 use Rattle.std.proofs.lemmas.List.{take_all}
 use Rattle.std.specs.Io.KnownBytes.{Appends, Keeps}
 use Rattle.fkv_base.specs.declared.faults.Fault.{Fault}
-use Rattle.fkv_base.specs.declared.faults.Fault.TheVariants.{Script}
-use Rattle.fkv_base.specs.declared.faults.ScriptFault.{ScriptFault}
+use Rattle.fkv_base.specs.declared.faults.Fault.TheVariants as faults
+use Rattle.fkv_base.specs.declared.faults.Fault.TheVariants.{Memory, Script}
 use Rattle.fkv_base.specs.declared.shapes.Shape.{Shape}
 use Rattle.fkv_runs.specs.Below.fkv_core.Worlds.{WorldModel}
 use Rattle.fkv_runs.specs.Below.fkv_core.Event.{Event}
@@ -12,7 +12,6 @@ use Rattle.fkv_runs.specs.Below.fkv_core.TheTold.{Told}
 use Rattle.fkv_lines.specs.Reading.{TellsFault}
 use Rattle.fkv_lines.specs.Script.{LineFault, ScriptText, script_of}
 use Rattle.fkv_lines.specs.declared.scripts.Line.{Line}
-use Rattle.fkv_lines.specs.declared.scripts.Mode.{Mode}
 use Rattle.fkv_lines.specs.declared.scripts.Opening as openings
 use Rattle.fkv_lines.specs.declared.scripts.Opening.TheVariants as opening
 use Rattle.fkv_opening.specs.declared.opened_store.Opened.{Opened}
@@ -28,21 +27,57 @@ use Rattle.fkv_runs.specs.Runs.{RunState}
 use Rattle.fkv_runs.specs.declared.settings.Settings.{Settings}
 use Rattle.fkv_runs.specs.declared.pieces.Piece.{Piece}
 use Rattle.fkv_texts.specs.Lines.{line_of}
-use Rattle.fkv_runs.proofs.Shown.{appends_kept, breaks_weaker, text_breaks}
+use Rattle.fkv_runs.proofs.Shown.{appends_kept, breaks_weaker}
 use Rattle.fkv_cli.proofs.Appending.{writes_broken, writes_kept, writes_weaker}
-use Rattle.fkv_cli.specs.Output.{AreLives, AreUnreadWords, Devices, IsLifeInFile, IsOutputOf, IsPlayed, IsRunInFile, IsRunInMemory, IsRunInNewFile, IsRunOfOldStore, IsRunOfScript, IsRunOfShape, IsRunOfStore, IsRunOfText, Places, Refuses, line_fault_text, mode_of, path_in, script_limit, settings_of}
+use Rattle.fkv_cli.specs.Output.{AreLives, AreUnreadWords, Devices, IsLifeInFile, IsOutputOf, IsPlayed, IsRunInFile, IsRunInMemory, IsRunInNewFile, IsRunOfOldStore, IsRunOfScript, IsRunOfShape, IsEndingBy, IsRunOfInput, IsRunOfStore, IsRunOfText, Places, ReadsOrEnds, Refuses, mode_of, path_in, script_limit, settings_of}
 
--- the first faulty line of a script breaks off
-pub fault_breaks : {M F : Type 0} (devices : Devices M F) (options : Options) (read : Mode) (bytes : List ℕ) (fault : Fault) (line : ℕ) (kind : ScriptFault) (a b : Option (List ℕ))
-    → read ≡ mode_of (is_some options.file) → fault ≡ Script line kind → TellsFault (script_of read bytes) fault
-    → BreaksOff (λ text. text ≡ line_fault_text (record { line = line; kind = kind })) a b
-    → BreaksOff (IsRunOfText devices options (script_of (mode_of (is_some options.file)) bytes) 4) a b
-fault_breaks devices options read bytes fault line kind a b e f told =
-    let said : script_of read bytes ≡ Err (record { line = line; kind = kind }) = subst (TellsFault (script_of read bytes)) f told in
-    let wanted : Err (record { line = line; kind = kind }) ≡ script_of (mode_of (is_some options.file)) bytes = sym said ∙ ap (λ (m : Mode). script_of m bytes) e in
-    let text : List ℕ = line_fault_text (record { line = line; kind = kind }) in
-    text_breaks (IsRunOfText devices options (script_of (mode_of (is_some options.file)) bytes) 4) text a b
-    (subst (λ (read : Result ScriptText LineFault). IsRunOfText devices options read 4 text) wanted (inr refl, refl))
+-- a script's fault, and how a run ends by it
+pub ends_by : (read : Result ScriptText LineFault) (fault : Fault) (ended : RunFault) → TellsFault read fault → IsEndingBy fault ended → ReadsOrEnds read (Err ended)
+ends_by read (Script line kind) ended told (inl want) = inl want
+ends_by read (Script line kind) ended told (inr ends) = inr (record { line = line; kind = kind }, told, ends)
+ends_by read Memory ended told want = inl want
+ends_by read faults.BadShape ended told want = absurd told
+ends_by read faults.ValueReserved ended told want = absurd told
+ends_by read faults.PendingFull ended told want = absurd told
+ends_by read faults.IndexFull ended told want = absurd told
+ends_by read faults.LogFull ended told want = absurd told
+ends_by read faults.VersionsSpent ended told want = absurd told
+ends_by read faults.SerialsSpent ended told want = absurd told
+ends_by read faults.EpochsSpent ended told want = absurd told
+ends_by read faults.DrainFull ended told want = absurd told
+ends_by read faults.CommitRunning ended told want = absurd told
+ends_by read faults.PendingLeft ended told want = absurd told
+ends_by read faults.Asleep ended told want = absurd told
+ends_by read faults.Broken ended told want = absurd told
+ends_by read faults.Device ended told want = absurd told
+ends_by read faults.NotAStore ended told want = absurd told
+ends_by read faults.NoSession ended told want = absurd told
+ends_by read faults.Awake ended told want = absurd told
+ends_by read faults.LostFull ended told want = absurd told
+ends_by read (faults.Damaged part place) ended told want = absurd told
+
+-- the line that tells of it is printed
+pub fault_told : {M F : Type 0} (devices : Devices M F) (options : Options) (read : Result ScriptText LineFault) (ended : RunFault) (status : ℕ) (a b : Option (List ℕ))
+    → ReadsOrEnds read (Err ended) → status ≡ ended.status → (ended.status ≡ 4 → ⊥) → Appends a b (string_bytes ended.text) → Writes (IsRunOfText devices options read status) a b
+fault_told devices options read ended status a b (inl want) same other h = absurd (other want.0)
+fault_told devices options read ended status a b (inr (fault, is, ends)) same other h = (
+  string_bytes ended.text,
+  subst (λ (its : Result ScriptText LineFault). IsRunOfText devices options its status (string_bytes ended.text)) (sym is) (inl (same ∙ ends.0), ends.1),
+  h,
+)
+
+-- it breaks off
+fault_at_4 : {M F : Type 0} (devices : Devices M F) (options : Options) (read : Result ScriptText LineFault) (ended : RunFault) (text : List ℕ)
+    → ReadsOrEnds read (Err ended) → (ended.status ≡ 4 → ⊥) → text ≡ string_bytes ended.text → IsRunOfText devices options read 4 text
+fault_at_4 devices options read ended text (inl want) other same = absurd (other want.0)
+fault_at_4 devices options read ended text (inr (fault, is, ends)) other same =
+    subst (λ (its : Result ScriptText LineFault). IsRunOfText devices options its 4 text) (sym is) (inr refl, same ∙ ends.1)
+
+pub fault_breaks : {M F : Type 0} (devices : Devices M F) (options : Options) (read : Result ScriptText LineFault) (ended : RunFault) (a b : Option (List ℕ))
+    → ReadsOrEnds read (Err ended) → BreaksOff (λ text. (ended.status ≡ 4 → ⊥) × (text ≡ string_bytes ended.text)) a b → BreaksOff (IsRunOfText devices options read 4) a b
+fault_breaks devices options read ended a b told =
+    breaks_weaker (λ text. (ended.status ≡ 4 → ⊥) × (text ≡ string_bytes ended.text)) (IsRunOfText devices options read 4) a b
+    (λ text h. fault_at_4 devices options read ended text told h.0 h.1)
 
 -- ---- status 4, where all is written
 
@@ -145,96 +180,98 @@ text_at_4 : {M F : Type 0} (devices : Devices M F) (options : Options) (read : R
 text_at_4 devices options (Ok script) status text h = script_at_4 devices options script.opening script.lines status text h
 text_at_4 devices options (Err fault) status text h = (inr refl, h.1)
 
--- ---- words and bytes
+-- ---- the input
 
--- what is written of a script's bytes is written of the words and the script, where it is known
-known_text : {M F : Type 0} (devices : Devices M F) (options : Options) (known : Option (List ℕ)) (items : List ℕ) (status : ℕ) (text : List ℕ)
+-- what is written of a script's first bytes is written of the input, where it is known
+first_bytes_run : {M F : Type 0} (devices : Devices M F) (options : Options) (known : Option (List ℕ)) (items : List ℕ) (status : ℕ) (text : List ℕ)
     → IfSome known (λ script. items ≡ take script_limit script)
-    → IsRunOfText devices options (script_of (mode_of (is_some options.file)) items) status text
-    → IfSome known (λ bytes. IsRunOfText devices options (script_of (mode_of (is_some options.file)) (take script_limit bytes)) status text)
-known_text devices options None items status text taken run = tt
-known_text devices options (Some script) items status text taken run =
+    → IsRunOfText devices options (script_of (mode_of (is_some options.file)) items) status text → IsRunOfInput devices options known status text
+first_bytes_run devices options None items status text taken run = tt
+first_bytes_run devices options (Some script) items status text taken run =
     subst (λ (front : List ℕ). IsRunOfText devices options (script_of (mode_of (is_some options.file)) front) status text) taken run
 
-known_run : {M F : Type 0} (devices : Devices M F) (words : List (List ℕ)) (options : Options) (known : Option (List ℕ)) (bytes items : List ℕ) (status : ℕ) (text : List ℕ)
-    → AreMatchesOf words options → bytes ≡ items → IfSome known (λ script. items ≡ take script_limit script)
-    → IsRunOfText devices options (script_of (mode_of (is_some options.file)) bytes) status text → IsOutputOf devices words known status text
-known_run devices words options known bytes items status text asked same taken run =
-    inr (record {
-      options = options;
-      asked = asked;
-      run = known_text devices options known items status text taken
-          (subst (λ (its : List ℕ). IsRunOfText devices options (script_of (mode_of (is_some options.file)) its) status text) same run);
-    })
+module _ {M F : Type 0} (devices : Devices M F) (options : Options) (known : Option (List ℕ)) (bytes items : List ℕ) (same : bytes ≡ items) (taken : IfSome known (λ script. items ≡ take script_limit script)) where
+  known_run : (status : ℕ) (text : List ℕ) → IsRunOfText devices options (script_of (mode_of (is_some options.file)) bytes) status text → IsRunOfInput devices options known status text
+  known_run status text run =
+      first_bytes_run devices options known items status text taken
+      (subst (λ (its : List ℕ). IsRunOfText devices options (script_of (mode_of (is_some options.file)) its) status text) same run)
 
--- Words that are accepted: what is written of them, and a flush behind it keeps all of it.
-pub runs_words : {M F W : Type 0} (devices : Devices M F) (words : List (List ℕ)) (options : Options) (known : Option (List ℕ)) (bytes items : List ℕ) (status said : ℕ) (contents : W → Option (List ℕ)) (a : Option (List ℕ))
-    (between output after : W) → AreMatchesOf words options → bytes ≡ items → IfSome known (λ script. items ≡ take script_limit script)
-    → Writes (IsRunOfText devices options (script_of (mode_of (is_some options.file)) bytes) said) a (contents output) → status ≡ said → between ≡ output → Keeps (contents between) (contents after)
-    → Writes (IsOutputOf devices words known status) a (contents after)
-runs_words {M} {F} {W} devices words options known bytes items status said contents a between output after asked same taken h same_status same_output kept =
-    subst (λ (n : ℕ). Writes (IsOutputOf devices words known n) a (contents after)) (sym same_status)
-    (writes_kept (IsOutputOf devices words known said) a (contents output) (contents after)
-    (writes_weaker (IsRunOfText devices options (script_of (mode_of (is_some options.file)) bytes) said) (IsOutputOf devices words known said) a (contents output)
-    (λ text. known_run devices words options known bytes items said text asked same taken)
-    h)
-    (subst (λ (o : W). Keeps (contents o) (contents after)) same_output kept))
+  -- a flush behind it keeps all of it
+  pub runs_input : {W : Type 0} (status said : ℕ) (contents : W → Option (List ℕ)) (a : Option (List ℕ)) (between output after : W)
+      → Writes (IsRunOfText devices options (script_of (mode_of (is_some options.file)) bytes) said) a (contents output) → status ≡ said → between ≡ output → Keeps (contents between) (contents after)
+      → Writes (IsRunOfInput devices options known status) a (contents after)
+  runs_input {W} status said contents a between output after h same_status same_output kept =
+      subst (λ (n : ℕ). Writes (IsRunOfInput devices options known n) a (contents after)) (sym same_status)
+      (writes_kept (IsRunOfInput devices options known said) a (contents output) (contents after)
+      (writes_weaker (IsRunOfText devices options (script_of (mode_of (is_some options.file)) bytes) said) (IsRunOfInput devices options known said) a (contents output)
+      (λ text. known_run said text)
+      h)
+      (subst (λ (o : W). Keeps (contents o) (contents after)) same_output kept))
 
--- all is written, and then the flush fails
-pub words_flushed : {M F W : Type 0} (devices : Devices M F) (words : List (List ℕ)) (options : Options) (known : Option (List ℕ)) (bytes items : List ℕ) (said : ℕ) (contents : W → Option (List ℕ)) (a : Option (List ℕ))
-    (between output after : W) → AreMatchesOf words options → bytes ≡ items → IfSome known (λ script. items ≡ take script_limit script)
-    → Writes (IsRunOfText devices options (script_of (mode_of (is_some options.file)) bytes) said) a (contents output) → between ≡ output → Keeps (contents between) (contents after)
-    → BreaksOff (IsOutputOf devices words known 4) a (contents after)
-words_flushed {M} {F} {W} devices words options known bytes items said contents a between output after asked same taken h same_output kept =
-    writes_broken (IsOutputOf devices words known 4) a (contents after)
-    (writes_kept (IsOutputOf devices words known 4) a (contents output) (contents after)
-    (writes_weaker (IsRunOfText devices options (script_of (mode_of (is_some options.file)) bytes) said) (IsOutputOf devices words known 4) a (contents output)
-    (λ text run. known_run devices words options known bytes items 4 text asked same taken (text_at_4 devices options (script_of (mode_of (is_some options.file)) bytes) said text run))
-    h)
-    (subst (λ (o : W). Keeps (contents o) (contents after)) same_output kept))
+  -- all is written, and then the flush fails
+  pub input_flushed : {W : Type 0} (said : ℕ) (contents : W → Option (List ℕ)) (a : Option (List ℕ)) (between output after : W)
+      → Writes (IsRunOfText devices options (script_of (mode_of (is_some options.file)) bytes) said) a (contents output) → between ≡ output → Keeps (contents between) (contents after)
+      → BreaksOff (IsRunOfInput devices options known 4) a (contents after)
+  input_flushed {W} said contents a between output after h same_output kept =
+      writes_broken (IsRunOfInput devices options known 4) a (contents after)
+      (writes_kept (IsRunOfInput devices options known 4) a (contents output) (contents after)
+      (writes_weaker (IsRunOfText devices options (script_of (mode_of (is_some options.file)) bytes) said) (IsRunOfInput devices options known 4) a (contents output)
+      (λ text run. known_run 4 text (text_at_4 devices options (script_of (mode_of (is_some options.file)) bytes) said text run))
+      h)
+      (subst (λ (o : W). Keeps (contents o) (contents after)) same_output kept))
 
--- it breaks off
-pub words_break : {M F : Type 0} (devices : Devices M F) (words : List (List ℕ)) (options : Options) (known : Option (List ℕ)) (bytes items : List ℕ) (a b : Option (List ℕ))
-    → AreMatchesOf words options → bytes ≡ items → IfSome known (λ script. items ≡ take script_limit script)
-    → BreaksOff (IsRunOfText devices options (script_of (mode_of (is_some options.file)) bytes) 4) a b → BreaksOff (IsOutputOf devices words known 4) a b
-words_break devices words options known bytes items a b asked same taken =
-    breaks_weaker (IsRunOfText devices options (script_of (mode_of (is_some options.file)) bytes) 4) (IsOutputOf devices words known 4) a b
-    (λ text. known_run devices words options known bytes items 4 text asked same taken)
-
--- words that are refused
-refused_text : {M F : Type 0} (devices : Devices M F) (words : List (List ℕ)) (fault : RunFault) (known : Option (List ℕ)) (text : List ℕ)
-    → TellsMatches words (Err fault) → (fault.status ≡ 4 → ⊥) → text ≡ string_bytes fault.text → IsOutputOf devices words known fault.status text
-refused_text devices words fault known text (inl want) other says = absurd (other want.0)
-refused_text devices words fault known text (inr (refused, line)) other says = inl (record { refused = refused; answers = inl line.0; says = says ∙ line.1 })
-
-refused_at_4 : {M F : Type 0} (devices : Devices M F) (words : List (List ℕ)) (fault : RunFault) (known : Option (List ℕ)) (text : List ℕ)
-    → TellsMatches words (Err fault) → (fault.status ≡ 4 → ⊥) → text ≡ string_bytes fault.text → IsOutputOf devices words known 4 text
-refused_at_4 devices words fault known text (inl want) other says = absurd (other want.0)
-refused_at_4 devices words fault known text (inr (refused, line)) other says = inl (record { refused = refused; answers = inr refl; says = says ∙ line.1 })
-
-pub refuses_words : {M F W : Type 0} (devices : Devices M F) (words : List (List ℕ)) (fault : RunFault) (known : Option (List ℕ)) (status said : ℕ) (contents : W → Option (List ℕ)) (a : Option (List ℕ)) (between output after : W)
-    → TellsMatches words (Err fault) → said ≡ fault.status → (fault.status ≡ 4 → ⊥) → Appends a (contents output) (string_bytes fault.text) → status ≡ said → between ≡ output
-    → Keeps (contents between) (contents after) → Writes (IsOutputOf devices words known status) a (contents after)
-refuses_words {M} {F} {W} devices words fault known status said contents a between output after told same other h same_status same_output kept =
-    subst (λ (n : ℕ). Writes (IsOutputOf devices words known n) a (contents after)) (sym (same_status ∙ same))
-    (writes_kept (IsOutputOf devices words known fault.status) a (contents output) (contents after)
-    (string_bytes fault.text, refused_text devices words fault known (string_bytes fault.text) told other refl, h)
-    (subst (λ (o : W). Keeps (contents o) (contents after)) same_output kept))
-
--- the line is written, and then the flush fails
-pub refusal_flushed : {M F W : Type 0} (devices : Devices M F) (words : List (List ℕ)) (fault : RunFault) (known : Option (List ℕ)) (contents : W → Option (List ℕ)) (a : Option (List ℕ)) (between output after : W)
-    → TellsMatches words (Err fault) → (fault.status ≡ 4 → ⊥) → Appends a (contents output) (string_bytes fault.text) → between ≡ output
-    → Keeps (contents between) (contents after) → BreaksOff (IsOutputOf devices words known 4) a (contents after)
-refusal_flushed {M} {F} {W} devices words fault known contents a between output after told other h same_output kept =
-    writes_broken (IsOutputOf devices words known 4) a (contents after)
-    (writes_kept (IsOutputOf devices words known 4) a (contents output) (contents after)
-    (string_bytes fault.text, refused_at_4 devices words fault known (string_bytes fault.text) told other refl, h)
-    (subst (λ (o : W). Keeps (contents o) (contents after)) same_output kept))
+  -- it breaks off
+  pub input_breaks : (a b : Option (List ℕ)) → BreaksOff (IsRunOfText devices options (script_of (mode_of (is_some options.file)) bytes) 4) a b → BreaksOff (IsRunOfInput devices options known 4) a b
+  input_breaks a b =
+      breaks_weaker (IsRunOfText devices options (script_of (mode_of (is_some options.file)) bytes) 4) (IsRunOfInput devices options known 4) a b
+      (λ text. known_run 4 text)
 
 -- a run that comes to status 4 by itself
-pub ends_at_4 : {M F : Type 0} (devices : Devices M F) (words : List (List ℕ)) (known : Option (List ℕ)) (status : ℕ) (a b : Option (List ℕ)) → Writes (IsOutputOf devices words known status) a b → status ≡ 4
-    → BreaksOff (IsOutputOf devices words known 4) a b
-ends_at_4 devices words known status a b h e = writes_broken (IsOutputOf devices words known 4) a b (subst (λ (n : ℕ). Writes (IsOutputOf devices words known n) a b) e h)
+pub ends_at_4 : (Its : ℕ → List ℕ → Type 0) (status : ℕ) (a b : Option (List ℕ)) → Writes (Its status) a b → status ≡ 4 → BreaksOff (Its 4) a b
+ends_at_4 Its status a b h e = writes_broken (Its 4) a b (subst (λ (n : ℕ). Writes (Its n) a b) e h)
+
+-- ---- words
+
+module _ {M F : Type 0} (devices : Devices M F) (words : List (List ℕ)) (known : Option (List ℕ)) where
+  -- what is written by the options that the words ask for
+  asked_run : (options : Options) (status : ℕ) (text : List ℕ) → AreMatchesOf words options → IsRunOfInput devices options known status text → IsOutputOf devices words known status text
+  asked_run options status text asked run = inr (record { options = options; asked = asked; run = run })
+
+  pub runs_words : (options : Options) (status said : ℕ) (a b : Option (List ℕ)) → AreMatchesOf words options → status ≡ said → ((said ≡ 4 → ⊥) → Writes (IsRunOfInput devices options known said) a b)
+      → (status ≡ 4 → ⊥) → Writes (IsOutputOf devices words known status) a b
+  runs_words options status said a b asked same h other =
+      writes_weaker (IsRunOfInput devices options known status) (IsOutputOf devices words known status) a b (λ text. asked_run options status text asked)
+      (subst (λ (n : ℕ). Writes (IsRunOfInput devices options known n) a b) (sym same) (h (λ four. other (same ∙ four))))
+
+  pub words_break : (options : Options) (status said : ℕ) (a b : Option (List ℕ)) → AreMatchesOf words options → status ≡ said → (said ≡ 4 → BreaksOff (IsRunOfInput devices options known 4) a b)
+      → status ≡ 4 → BreaksOff (IsOutputOf devices words known 4) a b
+  words_break options status said a b asked same h four =
+      breaks_weaker (IsRunOfInput devices options known 4) (IsOutputOf devices words known 4) a b (λ text. asked_run options 4 text asked) (h (sym same ∙ four))
+
+  -- words that are refused
+  pub refuses_words : (fault : RunFault) (status : ℕ) (a b : Option (List ℕ)) → TellsMatches words (Err fault) → (status ≡ 4 → ⊥) → status ≡ fault.status → Appends a b (string_bytes fault.text)
+      → Writes (IsOutputOf devices words known status) a b
+  refuses_words fault status a b (inl want) other same h = absurd (other (same ∙ want.0))
+  refuses_words fault status a b (inr (refused, line)) other same h =
+      (string_bytes fault.text, inl (record { refused = refused; answers = inl (same ∙ line.0); says = line.1 }), h)
+
+  refused_at_4 : (fault : RunFault) (text : List ℕ) → TellsMatches words (Err fault) → (fault.status ≡ 4 → ⊥) → text ≡ string_bytes fault.text → IsOutputOf devices words known 4 text
+  refused_at_4 fault text (inl want) other says = absurd (other want.0)
+  refused_at_4 fault text (inr (refused, line)) other says = inl (record { refused = refused; answers = inr refl; says = says ∙ line.1 })
+
+  pub refusal_breaks : (fault : RunFault) (a b : Option (List ℕ)) → TellsMatches words (Err fault) → BreaksOff (λ text. (fault.status ≡ 4 → ⊥) × (text ≡ string_bytes fault.text)) a b
+      → BreaksOff (IsOutputOf devices words known 4) a b
+  refusal_breaks fault a b told =
+      breaks_weaker (λ text. (fault.status ≡ 4 → ⊥) × (text ≡ string_bytes fault.text)) (IsOutputOf devices words known 4) a b
+      (λ text h. refused_at_4 fault text told h.0 h.1)
+
+-- the line of a refusal, and a flush behind it
+pub refusal_kept : {W : Type 0} (fault : RunFault) (contents : W → Option (List ℕ)) (a : Option (List ℕ)) (between output after : W)
+    → (fault.status ≡ 4 → ⊥) → Appends a (contents output) (string_bytes fault.text) → between ≡ output → Keeps (contents between) (contents after)
+    → BreaksOff (λ text. (fault.status ≡ 4 → ⊥) × (text ≡ string_bytes fault.text)) a (contents after)
+refusal_kept {W} fault contents a between output after other h same kept =
+    writes_broken (λ text. (fault.status ≡ 4 → ⊥) × (text ≡ string_bytes fault.text)) a (contents after)
+    (string_bytes fault.text, (other, refl), appends_kept a (contents output) (contents after) (string_bytes fault.text) h (subst (λ (o : W). Keeps (contents o) (contents after)) same kept))
 
 -- words of which one is no text
 pub unread_breaks : (told : List ℕ) (a b : Option (List ℕ)) → told ≡ line_of (codes "options") → BreaksOff (λ text. text ≡ told) a b → BreaksOff (AreUnreadWords 4) a b

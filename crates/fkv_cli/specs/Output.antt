@@ -5,7 +5,7 @@ use Rattle.fkv_base.specs.declared.numbers.Value.{Value}
 use Rattle.fkv_base.specs.Fault.{script_fault_name}
 use Rattle.fkv_base.specs.Limits.{IsShape, IsSmall, IsOfClass}
 use Rattle.fkv_base.specs.declared.faults.Fault.{Fault}
-use Rattle.fkv_base.specs.declared.faults.Fault.TheVariants.{BadShape, Damaged, Device, Memory, NotAStore}
+use Rattle.fkv_base.specs.declared.faults.Fault.TheVariants.{BadShape, Damaged, Device, Memory, NotAStore, Script}
 use Rattle.fkv_base.specs.declared.shapes.Shape.{Shape}
 use Rattle.fkv_creating.specs.Created.{IsCreated, IsNewStore}
 use Rattle.fkv_disk.specs.Device.{LeavesOnly}
@@ -13,17 +13,21 @@ use Rattle.fkv_opening.specs.Faults.{IsFaultOf}
 use Rattle.fkv_runs.specs.Below.fkv_core.Worlds.{WorldModel}
 use Rattle.fkv_runs.specs.Below.fkv_core.Event.{Event}
 use Rattle.fkv_runs.specs.Below.fkv_core.TheTold.{Told}
+use Rattle.fkv_lines.specs.Reading.{script_text}
 use Rattle.fkv_lines.specs.Script.{LineFault, ScriptText, script_of}
 use Rattle.fkv_lines.specs.declared.scripts.Line.{Line}
 use Rattle.fkv_lines.specs.declared.scripts.Mode.{Mode}
 use Rattle.fkv_lines.specs.declared.scripts.Mode.TheVariants as mode
 use Rattle.fkv_lines.specs.declared.scripts.Opening as openings
 use Rattle.fkv_lines.specs.declared.scripts.Opening.TheVariants as opening
+use Rattle.fkv_lines.specs.declared.scripts.Script as scripts
 use Rattle.fkv_lines.specs.declared.scripts.Sizes.{Sizes}
 use Rattle.fkv_opening.specs.Opened.{IsStoreOf}
 use Rattle.fkv_opening.specs.declared.opened_store.Opened.{Opened}
 use Rattle.fkv_options.specs.CommandLine.{AreAccepted}
 use Rattle.fkv_options.specs.Options.{AreMatchesOf}
+use Rattle.fkv_options.specs.RunFault.{IsWant}
+use Rattle.fkv_options.specs.declared.endings.RunFault.{RunFault}
 use Rattle.fkv_options.specs.declared.options.Options.{Options}
 use Rattle.fkv_runs.specs.Below.fkv_playing.Players.{EngineStep, PlayerState}
 use Rattle.fkv_runs.specs.Files.{IsPartOfLife, IsRunOfLife}
@@ -212,6 +216,25 @@ abbrev pub mode_of : Bool → Mode
 mode_of false = mode.Memory
 mode_of true = mode.File
 
+-- how a run ends at a faulty line: with status 2, and the line that tells of it is left to print
+abbrev pub EndsAt : LineFault → RunFault → Type 0
+EndsAt fault ended = (ended.status ≡ 2) × (string_bytes ended.text ≡ line_fault_text fault)
+
+-- how a run ends whose script has this fault
+abbrev pub IsEndingBy : Fault → RunFault → Type 0
+IsEndingBy (Script line kind) ended = IsWant ended ⊎ EndsAt (record { line = line; kind = kind }) ended
+IsEndingBy other ended = IsWant ended
+
+-- the script that the bytes say; or memory was refused, or a run ends at the first faulty line
+abbrev pub ReadsOrEnds : Result ScriptText LineFault → Result scripts.Script RunFault → Type 0
+ReadsOrEnds read (Ok script) = read ≡ Ok (script_text script)
+ReadsOrEnds read (Err ended) = IsWant ended ⊎ ((fault : LineFault) × (read ≡ Err fault) × EndsAt fault ended)
+
+-- by these options, of a reader whose bytes are known this is written
+abbrev pub IsRunOfInput : {M F : Type 0} → Devices M F → Options → Option (List ℕ) → ℕ → List ℕ → Type 0
+IsRunOfInput devices options known status text =
+    IfSome known (λ bytes. IsRunOfText devices options (script_of (mode_of (is_some options.file)) (take script_limit bytes)) status text)
+
 -- Words that are refused: the line `options`.
 pub record AreRefusedWords (words : List (List ℕ)) (status : ℕ) (text : List ℕ) : Type 0 where
   pub refused : AreAccepted words → ⊥
@@ -222,11 +245,11 @@ pub record AreRefusedWords (words : List (List ℕ)) (status : ℕ) (text : List
 abbrev pub AreUnreadWords : ℕ → List ℕ → Type 0
 AreUnreadWords status text = ComesTo 2 status × (text ≡ line_of (codes "options"))
 
--- words that are accepted: of a reader whose bytes are known this is written
+-- words that are accepted: what is written by the options that they ask for
 pub record IsRunOfWords {M F : Type 0} (devices : Devices M F) (words : List (List ℕ)) (known : Option (List ℕ)) (status : ℕ) (text : List ℕ) : Type 0 where
   pub options : Options
   pub asked : AreMatchesOf words options
-  pub run : IfSome known (λ bytes. IsRunOfText devices options (script_of (mode_of (is_some options.file)) (take script_limit bytes)) status text)
+  pub run : IsRunOfInput devices options known status text
 
 -- What is written for these words and a script, by the status. With status 4 it is what would stand behind a beginning: the run breaks off in it.
 abbrev pub IsOutputOf : {M F : Type 0} → Devices M F → List (List ℕ) → Option (List ℕ) → ℕ → List ℕ → Type 0

@@ -1,20 +1,21 @@
 //! Whole runs of the program.
-ghost use Rattle.std.specs.Prelude.{◌≡◌, ◌≢◌, IfOk, IfSome, OnErr, OnOk, is_some, string_bytes, take};
+ghost use Rattle.std.specs.Prelude.{◌≡◌, ◌≢◌, [], IfErr, IfOk, IfSome, OnErr, OnOk, is_some, string_bytes, take};
 ghost use Rattle.std.specs.Io.KnownBytes.{Appends};
 ghost use Rattle.fkv_lines.specs.Script.{script_of};
 ghost use Rattle.clap.specs.Walk.{texts};
+ghost use Rattle.fkv_options.specs.RunFault.{ended_status};
 ghost use Rattle.fkv_runs.specs.Below.fkv_playing.InTurn.{Writes};
 ghost use Rattle.fkv_runs.specs.Beginnings.{BreaksOff};
 ghost use Rattle.fkv_runs.specs.Openings.{RefusesNoCall, medium_of};
-ghost use Rattle.fkv_cli.specs.Output.{AreUnreadWords, IsOutputOf, IsRunOfText, line_fault_text, mode_of, places_of, script_limit};
+ghost use Rattle.fkv_cli.specs.Output.{AreUnreadWords, IsOutputOf, IsRunOfInput, IsRunOfText, mode_of, places_of, script_limit};
 
 use crate::complaints::{Complaint, LineFault, WordFault, complain, tell_usage};
+use crate::reading::{ending_by, mode_for};
 use crate::scripts::run_script;
-use fkv_base::{Fault, ScriptFault};
+use fkv_base::Fault;
 use fkv_disk::{Device, Fuse, MemDisk};
 use fkv_files::StorePlaces;
-use fkv_lines::{Mode, script_of};
-use fkv_options::{Options, RunFault, options_of};
+use fkv_options::{Options, RunFault, Verdict, ended_with, options_of, status_of};
 use fkv_runs::{Breaks, Crashes, write_text};
 use std::alloc::Global;
 use std::io::{self, ErrorKind, Read, Write};
@@ -40,12 +41,36 @@ where
     ensures whole { result ≢ 4 → Writes (IsOutputOf (record { memory = medium_of ⟦<Fuse<MemDisk> as Device>⟧.honest ⟦<Fuse<MemDisk> as Device>⟧.seen ⟦<Fuse<MemDisk> as Device>⟧.may_leave ⟦<Fuse<MemDisk> as Device>⟧.failed ⟦<Fuse<MemDisk> as Device>⟧.refuses ⟦<Fuse<MemDisk> as Breaks>⟧.broken ⟦<Fuse<MemDisk> as Crashes>⟧.image ⟦<Fuse<MemDisk> as Crashes>⟧.armed; file = places_of S.Disk.honest S.Disk.seen S.Disk.may_leave S.Disk.failed S.Disk.refuses S.Disk.broken (S.is_opened places.now) (S.is_made places.now) }) (texts words.now) (R.remaining input) result) (W.contents output.old) (W.contents output.new) }
     ensures part { result ≡ 4 → BreaksOff (IsOutputOf (record { memory = medium_of ⟦<Fuse<MemDisk> as Device>⟧.honest ⟦<Fuse<MemDisk> as Device>⟧.seen ⟦<Fuse<MemDisk> as Device>⟧.may_leave ⟦<Fuse<MemDisk> as Device>⟧.failed ⟦<Fuse<MemDisk> as Device>⟧.refuses ⟦<Fuse<MemDisk> as Breaks>⟧.broken ⟦<Fuse<MemDisk> as Crashes>⟧.image ⟦<Fuse<MemDisk> as Crashes>⟧.armed; file = places_of S.Disk.honest S.Disk.seen S.Disk.may_leave S.Disk.failed S.Disk.refuses S.Disk.broken (S.is_opened places.now) (S.is_made places.now) }) (texts words.now) (R.remaining input) 4) (W.contents output.old) (W.contents output.new) }
 {
+    match options_of(alloc, words) {
+        Ok(options) => {
+            let ended = run_with(places, alloc, &options, input, output, complaints);
+            status_of(&ended)
+        }
+        Err(fault) => refuse_words(words, &fault, output, complaints),
+    }
+}
+
+/// The same, by the options that the words ask for. What there is to print is printed.
+pub fn run_with<S: StorePlaces, R: Read + Drop, W: Write, E: Write>(
+    places: &S,
+    alloc: Global,
+    options: &Options,
+    input: R,
+    output: &mut W,
+    complaints: &mut E,
+) -> Result<Verdict, RunFault>
+where
+    S::Disk: Breaks,
+    ensures whole { ended_status result ≢ 4 → Writes (IsRunOfInput (record { memory = medium_of ⟦<Fuse<MemDisk> as Device>⟧.honest ⟦<Fuse<MemDisk> as Device>⟧.seen ⟦<Fuse<MemDisk> as Device>⟧.may_leave ⟦<Fuse<MemDisk> as Device>⟧.failed ⟦<Fuse<MemDisk> as Device>⟧.refuses ⟦<Fuse<MemDisk> as Breaks>⟧.broken ⟦<Fuse<MemDisk> as Crashes>⟧.image ⟦<Fuse<MemDisk> as Crashes>⟧.armed; file = places_of S.Disk.honest S.Disk.seen S.Disk.may_leave S.Disk.failed S.Disk.refuses S.Disk.broken (S.is_opened places.now) (S.is_made places.now) }) options.now (R.remaining input) (ended_status result)) (W.contents output.old) (W.contents output.new) }
+    ensures part { ended_status result ≡ 4 → BreaksOff (IsRunOfInput (record { memory = medium_of ⟦<Fuse<MemDisk> as Device>⟧.honest ⟦<Fuse<MemDisk> as Device>⟧.seen ⟦<Fuse<MemDisk> as Device>⟧.may_leave ⟦<Fuse<MemDisk> as Device>⟧.failed ⟦<Fuse<MemDisk> as Device>⟧.refuses ⟦<Fuse<MemDisk> as Breaks>⟧.broken ⟦<Fuse<MemDisk> as Crashes>⟧.image ⟦<Fuse<MemDisk> as Crashes>⟧.armed; file = places_of S.Disk.honest S.Disk.seen S.Disk.may_leave S.Disk.failed S.Disk.refuses S.Disk.broken (S.is_opened places.now) (S.is_made places.now) }) options.now (R.remaining input) 4) (W.contents output.old) (W.contents output.new) }
+    ensures printed { IfErr result (λ fault. string_bytes fault.text ≡ []) }
+{
     let memory = Fuse::new(MemDisk::new(alloc));
-    match run_words(places, alloc, words, memory, input, output, complaints) {
-        Ok(status) => status,
+    match run_input(places, alloc, options, memory, input, output, complaints) {
+        Ok(status) => ended_with(alloc, status),
         Err(stop) => {
             stop.complain(complaints);
-            4
+            Err(RunFault::want(alloc))
         }
     }
 }
@@ -114,11 +139,11 @@ fn write_options<W: Write>(output: &mut W) -> io::Result<()>
     output.flush()
 }
 
-/// The same as `run`, over this device in memory, with what stopped it.
-fn run_words<S: StorePlaces, M: Crashes, R: Read + Drop, W: Write, E: Write>(
+/// The same as `run_with`, over this device in memory, with what stopped it.
+fn run_input<S: StorePlaces, M: Crashes, R: Read + Drop, W: Write, E: Write>(
     places: &S,
     alloc: Global,
-    words: &[&str],
+    options: &Options,
     memory: M,
     input: R,
     output: &mut W,
@@ -128,19 +153,11 @@ where
     S::Disk: Breaks,
     requires honest { M.honest memory }
     requires sound { RefusesNoCall M.refuses memory }
-    ensures whole { IfOk result (λ status. Writes (IsOutputOf (record { memory = medium_of M.honest M.seen M.may_leave M.failed M.refuses M.broken M.image M.armed; file = places_of S.Disk.honest S.Disk.seen S.Disk.may_leave S.Disk.failed S.Disk.refuses S.Disk.broken (S.is_opened places.now) (S.is_made places.now) }) (texts words.now) (R.remaining input) status) (W.contents output.old) (W.contents output.new)) }
-    ensures part { OnErr result (BreaksOff (IsOutputOf (record { memory = medium_of M.honest M.seen M.may_leave M.failed M.refuses M.broken M.image M.armed; file = places_of S.Disk.honest S.Disk.seen S.Disk.may_leave S.Disk.failed S.Disk.refuses S.Disk.broken (S.is_opened places.now) (S.is_made places.now) }) (texts words.now) (R.remaining input) 4) (W.contents output.old) (W.contents output.new)) }
+    ensures whole { IfOk result (λ status. Writes (IsRunOfInput (record { memory = medium_of M.honest M.seen M.may_leave M.failed M.refuses M.broken M.image M.armed; file = places_of S.Disk.honest S.Disk.seen S.Disk.may_leave S.Disk.failed S.Disk.refuses S.Disk.broken (S.is_opened places.now) (S.is_made places.now) }) options.now (R.remaining input) status) (W.contents output.old) (W.contents output.new)) }
+    ensures part { OnErr result (BreaksOff (IsRunOfInput (record { memory = medium_of M.honest M.seen M.may_leave M.failed M.refuses M.broken M.image M.armed; file = places_of S.Disk.honest S.Disk.seen S.Disk.may_leave S.Disk.failed S.Disk.refuses S.Disk.broken (S.is_opened places.now) (S.is_made places.now) }) options.now (R.remaining input) 4) (W.contents output.old) (W.contents output.new)) }
 {
-    let status = match options_of(alloc, words) {
-        Ok(options) => {
-            let bytes = script_bytes(alloc, input)?;
-            run_text(places, alloc, &options, memory, &bytes, output, complaints)?
-        }
-        Err(fault) => {
-            complain_of_words(complaints, words, &fault);
-            refuse_words(output, &fault)?
-        }
-    };
+    let bytes = script_bytes(alloc, input)?;
+    let status = run_text(places, alloc, options, memory, &bytes, output, complaints)?;
     output.flush()?;
     Ok(status)
 }
@@ -164,8 +181,38 @@ fn complain_of_words<E: Write>(complaints: &mut E, words: &[&str], fault: &RunFa
     }
 }
 
-/// Prints why the words are refused, where it isn't for want of memory.
-fn refuse_words<W: Write>(output: &mut W, fault: &RunFault) -> io::Result<u8>
+/// Tells why the words are refused. The status: 2; 4 where memory was refused, or the writer failed.
+fn refuse_words<W: Write, E: Write>(
+    words: &[&str],
+    fault: &RunFault,
+    output: &mut W,
+    complaints: &mut E,
+) -> u8
+    ensures whole { result ≢ 4 → (result ≡ fault.now.status) × Appends (W.contents output.old) (W.contents output.new) (string_bytes fault.now.text) }
+    ensures part { result ≡ 4 → BreaksOff (λ text. (¬ (fault.now.status ≡ 4)) × (text ≡ string_bytes fault.now.text)) (W.contents output.old) (W.contents output.new) }
+{
+    complain_of_words(complaints, words, fault);
+    match write_refusal(output, fault) {
+        Ok(status) => status,
+        Err(error) => {
+            complain_of_stop(complaints, error);
+            4
+        }
+    }
+}
+
+/// The line of words that are refused, at once.
+fn write_refusal<W: Write>(output: &mut W, fault: &RunFault) -> io::Result<u8>
+    ensures whole { IfOk result (λ status. (status ≡ fault.now.status) × (¬ (fault.now.status ≡ 4)) × Appends (W.contents output.old) (W.contents output.new) (string_bytes fault.now.text)) }
+    ensures part { OnErr result (BreaksOff (λ text. (¬ (fault.now.status ≡ 4)) × (text ≡ string_bytes fault.now.text)) (W.contents output.old) (W.contents output.new)) }
+{
+    let status = print_fault(output, fault)?;
+    output.flush()?;
+    Ok(status)
+}
+
+/// Prints why a run ended before it began, where it isn't for want of memory.
+fn print_fault<W: Write>(output: &mut W, fault: &RunFault) -> io::Result<u8>
     ensures whole { IfOk result (λ status. (status ≡ fault.now.status) × (¬ (fault.now.status ≡ 4)) × Appends (W.contents output.old) (W.contents output.new) (string_bytes fault.now.text)) }
     ensures part { OnErr result (BreaksOff (λ text. (¬ (fault.now.status ≡ 4)) × (text ≡ string_bytes fault.now.text)) (W.contents output.old) (W.contents output.new)) }
 {
@@ -193,39 +240,19 @@ where
     ensures whole { IfOk result (λ status. Writes (IsRunOfText (record { memory = medium_of M.honest M.seen M.may_leave M.failed M.refuses M.broken M.image M.armed; file = places_of S.Disk.honest S.Disk.seen S.Disk.may_leave S.Disk.failed S.Disk.refuses S.Disk.broken (S.is_opened places.now) (S.is_made places.now) }) options.now (script_of (mode_of (is_some options.now.file)) bytes.now) status) (W.contents output.old) (W.contents output.new)) }
     ensures part { OnErr result (BreaksOff (IsRunOfText (record { memory = medium_of M.honest M.seen M.may_leave M.failed M.refuses M.broken M.image M.armed; file = places_of S.Disk.honest S.Disk.seen S.Disk.may_leave S.Disk.failed S.Disk.refuses S.Disk.broken (S.is_opened places.now) (S.is_made places.now) }) options.now (script_of (mode_of (is_some options.now.file)) bytes.now) 4) (W.contents output.old) (W.contents output.new)) }
 {
-    let mode = match &options.file {
-        Some(_) => Mode::File,
-        None => Mode::Memory,
-    };
-    match script_of(alloc, bytes, mode) {
+    match fkv_lines::script_of(alloc, bytes, mode_for(options)) {
         Ok(script) => run_script(places, alloc, options, memory, &script, output, complaints),
-        Err(Fault::Script(line, kind)) => {
-            complain_of_line(complaints, bytes, line, kind);
-            write_line_fault(alloc, output, line, kind)?;
-            Ok(2)
+        Err(fault) => {
+            complain_of_script(complaints, bytes, fault);
+            print_fault(output, &ending_by(alloc, fault))
         }
-        Err(_) => Err(io::ErrorKind::OutOfMemory.into()),
     }
 }
 
-/// Tells what is wrong with the first faulty line of a script.
-fn complain_of_line<E: Write>(complaints: &mut E, bytes: &[u8], number: u64, kind: ScriptFault) {
-    let fault = LineFault::of(bytes, number, kind);
-    complain(complaints, Complaint::Line { number, fault });
-}
-
-/// The first faulty line of a script: `script line 7 Count`.
-fn write_line_fault<W: Write>(
-    alloc: Global,
-    output: &mut W,
-    line: u64,
-    kind: ScriptFault,
-) -> io::Result<()>
-    ensures whole { OnOk result (Appends (W.contents output.old) (W.contents output.new) (line_fault_text (record { line = line; kind = kind }))) }
-    ensures part { OnErr result (BreaksOff (λ text. text ≡ line_fault_text (record { line = line; kind = kind })) (W.contents output.old) (W.contents output.new)) }
-{
-    let name = kind.name();
-    let mut text = Vec::new(alloc);
-    writeln!(text, "script line {line} {name}")?;
-    write_text(output, text.as_slice())
+/// Tells what is wrong with the first faulty line of a script. Refused memory is told where it ends the run.
+fn complain_of_script<E: Write>(complaints: &mut E, bytes: &[u8], fault: Fault) {
+    if let Fault::Script(number, kind) = fault {
+        let fault = LineFault::of(bytes, number, kind);
+        complain(complaints, Complaint::Line { number, fault });
+    }
 }

@@ -1,6 +1,6 @@
 -- Sizes of a store, and what its image has told.
-use Rattle.std.specs.Prelude.{◌≡◌, ℕ, Bool}
-use Rattle.fkv_base.specs.Limits.{is_shape}
+use Rattle.std.specs.Prelude.{◌≡◌, ◌+◌, ℕ, Bool}
+use Rattle.fkv_base.specs.Limits.{is_shape, margin_buckets, overflow_within}
 use Rattle.fkv_base.specs.declared.classes.StoreClass.TheVariants.{Living}
 use Rattle.fkv_base.specs.declared.faults.Damage.{Damage}
 use Rattle.fkv_base.specs.declared.faults.Damage.TheVariants as damage
@@ -28,6 +28,10 @@ pub record HasSizes (sizes : Sizes) (shape : Shape) : Type 0 where
 pub record IsLivingOf (sizes : Sizes) (shape : Shape) : Type 0 where
   pub class : shape.class ≡ Living
   pub its_sizes : HasSizes sizes shape
+
+-- these sizes, with the margin that a living store's calls leave to its polls on top of the overflow buckets
+abbrev pub with_margin : Sizes → Sizes
+with_margin s = record s { overflow = overflow_within (s.overflow + margin_buckets Living s.sessions) }
 
 -- a living store may have these sizes
 abbrev pub are_sizes : Sizes → Bool

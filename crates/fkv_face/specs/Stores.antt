@@ -15,7 +15,7 @@ use Rattle.fkv_face.specs.declared.sizes.Image.{Image}
 use Rattle.fkv_face.specs.declared.sizes.Sizes.{Sizes}
 use Rattle.fkv_face.specs.Numbers.{fault_told, refusal_told}
 use Rattle.fkv_face.specs.Points.{ArePoints}
-use Rattle.fkv_face.specs.Sizes.{HasSizes, IsLivingOf, are_sizes, damaged_by, told_of}
+use Rattle.fkv_face.specs.Sizes.{HasSizes, IsLivingOf, are_sizes, damaged_by, told_of, with_margin}
 use Rattle.fkv_spread.specs.declared.keys.Keys.{Keys}
 use Rattle.fkv_spread.specs.declared.keys.Keys.TheVariants.{Spread, AsTheyAre}
 pub use Rattle.fkv_handles.specs.Below.fkv_threads.Models.{opening}
@@ -37,10 +37,10 @@ pub record IsPut (bytes : List ℕ) (result : ℤ) (room room' : List ℕ) : Typ
 abbrev pub IsOutOfMemory : ℤ → Type 0
 IsOutOfMemory result = result ≡ neg_ℤ (pos 18)
 
--- Where a living store may have these sizes the image of a new one is put into the room, unless memory was refused.
+-- Where a living store may have these sizes the image of a new one is put into the room, unless memory was refused. It has its margin on top.
 pub record IsImage (sizes : Sizes) (result : ℤ) (room room' : List ℕ) : Type 0 where
   pub bad : are_sizes sizes ≡ false → (result ≡ neg_ℤ (pos 1)) × (room' ≡ room)
-  pub good : are_sizes sizes ≡ true → ((IsOutOfMemory result × (room' ≡ room)) ⊎ ((shape : Shape) × IsLivingOf sizes shape × IsPut (created_bytes [] shape) result room room'))
+  pub good : are_sizes sizes ≡ true → ((IsOutOfMemory result × (room' ≡ room)) ⊎ ((shape : Shape) × IsLivingOf (with_margin sizes) shape × IsPut (created_bytes [] shape) result room room'))
 
 -- A handle was given, unless memory was refused for its box; or none was, and the word is as it was.
 abbrev pub IsHandedOut : {X : Type 0} {P : Type 0} → Result X Refusal → ℤ → P → P → Type 0

@@ -50,13 +50,14 @@ pub(crate) fn put(bytes: &[u8], into: &mut [u8]) -> i32
     0
 }
 
-/// Writes the image of a new living store: 1,536 bytes, for a file that the caller makes. `BadShape`, `Memory`; `ROOM_SMALL` where there is less room.
+/// Writes the image of a new living store: 1,536 bytes, for a file that the caller makes. Its index has the margin of its sessions on top of the
+/// overflow buckets that are asked for. `BadShape`, `Memory`; `ROOM_SMALL` where there is less room.
 #[unsafe(no_mangle)]
 pub extern "C" fn fkv_image(alloc: Global, sizes: &Sizes, into: &mut [u8]) -> i32
     ensures { says.IsImage sizes.now result into.old into.new }
 {
     match shape_of(sizes) {
-        Ok(shape) => match image_of(alloc, shape) {
+        Ok(shape) => match image_of(alloc, shape.with_margin()) {
             Ok(bytes) => put(&bytes, into),
             Err(why) => refused(why),
         },

@@ -152,7 +152,7 @@ module _ (w : GuardWorld) (a : ℕ) (x : Actor) (sound : IsSound w) (got : slice
   begun_arms (ToDo epochs.ToScan) slot c e = cc
   begun_arms (ToDo epochs.ToClaim) slot c e = cc
   begun_arms (ToDo epochs.ToRaise) slot c e = cc
-  begun_arms ToReserve slot c e = inl (e, refl)
+  begun_arms (ToReserve bound) slot c e = inl (e, refl)
   begun_arms (ToFill its_words) slot c e = inl (e, refl)
   begun_arms (ToInvalidate header) slot c e = inl (e, refl)
   begun_arms ToShift slot c e = inl (e, refl)

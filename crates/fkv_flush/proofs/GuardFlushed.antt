@@ -460,7 +460,7 @@ module _ (keeper start : ℕ) (opened : List ℕ) (calls : List Call) (words : �
 
   pub happens_flushed : (event : GuardEvent) → FlushesAlone keeper event → IsPermittedEvent w.now event → After event (event_calls w.now event ++ calls)
   happens_flushed (Begins a (ToDo task)) alone permitted = quiet_case (Begins a (ToDo task)) permitted refl
-  happens_flushed (Begins a ToReserve) alone permitted = quiet_case (Begins a ToReserve) permitted refl
+  happens_flushed (Begins a (ToReserve bound)) alone permitted = quiet_case (Begins a (ToReserve bound)) permitted refl
   happens_flushed (Begins a (ToFill its_words)) alone permitted = quiet_case (Begins a (ToFill its_words)) permitted refl
   happens_flushed (Begins a (ToInvalidate header)) alone permitted = quiet_case (Begins a (ToInvalidate header)) permitted refl
   happens_flushed (Begins a ToShift) alone permitted = quiet_case (Begins a ToShift) permitted refl

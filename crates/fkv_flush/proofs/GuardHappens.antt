@@ -222,9 +222,9 @@ begins w a x (ToDo task) sound got rest idle may =
     let x' : Actor = record x { machine = first_machine task; work = Rests } in
     worded w a x x' w.now.words sound got refl (begins_epochs w a x x' task sound got rest may refl) (rises_same (levels_of w.now.words) (levels_of w.now.words) refl) sound.guard.in_order sound.guard.cover (λ s h. refl) sound.guard.safe.read_only sound.guard.safe.head refl
     (λ sight. sym (rest_goes x.machine sight rest)) (sym (rest_steady x.machine rest)) (λ slot c i. absurd (first_arms task slot c i)) refl (λ addr u. inl u) tt
-begins w a x ToReserve sound got rest idle may =
+begins w a x (ToReserve bound) sound got rest idle may =
     let t = both (is_none x.undecided) (is_awake w.now a x) may in
-    looks w a x (record x { work = Reserves reserve.LoadsLimit }) sound got refl refl (λ addr u. u) (awake_goes w a x got t.1, none_is x.undecided t.0)
+    looks w a x (record x { work = Reserves (reserve.LoadsLimit bound) }) sound got refl refl (λ addr u. u) (awake_goes w a x got t.1, none_is x.undecided t.0)
 begins w a x (ToFill its_words) sound got rest idle may = looks w a x (record x { work = Fills (fill.StoresValue (address_of x.undecided) its_words) }) sound got refl refl (λ addr u. u) (some_is x.undecided may)
 begins w a x (ToInvalidate header) sound got rest idle may = looks w a x (record x { work = Invalidates (invalidate.StoresHeader (address_of x.undecided) header) }) sound got refl refl (λ addr u. u) (some_is x.undecided may)
 begins w a x ToShift sound got rest idle may = looks w a x (record x { work = Shifts shift_begun }) sound got refl refl (λ addr u. u) (refl, rest)

@@ -98,7 +98,7 @@ module _ (n : GuardNow) (keeper : ℕ) (reads : List MailRead) (boxes : ℕ → 
 
   started_row : (task : GuardTask) → ServesAlone keeper (Begins a task) → Holds (started n x task).work
   started_row (ToDo task) alone = tt
-  started_row ToReserve alone = tt
+  started_row (ToReserve bound) alone = tt
   started_row (ToFill its_words) alone = tt
   started_row (ToInvalidate header) alone = tt
   started_row ToShift alone = tt

@@ -38,7 +38,7 @@ either_sees actors n m false p q = q
 -- a machine that is begun has seen nothing yet
 begun_seen : (n : GuardNow) (x : Actor) (task : GuardTask) → (started n x task).seen ≡ x.seen
 begun_seen n x (ToDo task) = refl
-begun_seen n x ToReserve = refl
+begun_seen n x (ToReserve bound) = refl
 begun_seen n x (ToFill its_words) = refl
 begun_seen n x (ToInvalidate header) = refl
 begun_seen n x ToShift = refl

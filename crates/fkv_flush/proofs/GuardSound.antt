@@ -84,7 +84,7 @@ TurnKnows shape l d turn.Moves m = MoveKnows l d m.step m.raising m.arming
 abbrev pub Knows : Shape → Levels → Type 0 → EpochMachine → Option ℕ → Work → Type 0
 Knows shape l Awake d undecided Rests = ⊤
 Knows shape l Awake d undecided (Reserves reserve.AtRest) = ⊤
-Knows shape l Awake d undecided (Reserves reserve.LoadsLimit) = Awake × (undecided ≡ None)
+Knows shape l Awake d undecided (Reserves (reserve.LoadsLimit bound)) = Awake × (undecided ≡ None)
 Knows shape l Awake d undecided (Reserves (reserve.LoadsTail limit)) = Awake × (undecided ≡ None) × (limit ≤ l.limit)
 Knows shape l Awake d undecided (Reserves (reserve.TakesTail tail)) = Awake × (undecided ≡ None) × (tail < l.limit)
 Knows shape l Awake d undecided (Fills fill.AtRest) = ⊤
@@ -160,7 +160,7 @@ turn_more shape l l' d turn.Moves m up k = move_more l l' d m.step m.raising m.a
 pub knows_more : (shape : Shape) (l l' : Levels) (A A' : Type 0) (d : EpochMachine) (u : Option ℕ) (work : Work) → Rises l l' → (A → A') → Knows shape l A d u work → Knows shape l' A' d u work
 knows_more shape l l' A A' d u Rests up on k = tt
 knows_more shape l l' A A' d u (Reserves reserve.AtRest) up on k = tt
-knows_more shape l l' A A' d u (Reserves reserve.LoadsLimit) up on k = (on k.0, k.1)
+knows_more shape l l' A A' d u (Reserves (reserve.LoadsLimit bound)) up on k = (on k.0, k.1)
 knows_more shape l l' A A' d u (Reserves (reserve.LoadsTail limit)) up on k = (on k.0, k.1, let r = up.limit in omega (arith, k.2, r))
 knows_more shape l l' A A' d u (Reserves (reserve.TakesTail tail)) up on k = (on k.0, k.1, let r = up.limit in omega (arith, k.2, r))
 knows_more shape l l' A A' d u (Fills fill.AtRest) up on k = tt

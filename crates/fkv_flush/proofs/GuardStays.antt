@@ -136,7 +136,7 @@ is_quiet event = true
 
 begins_none : (n : GuardNow) (x : Actor) (a : ℕ) (task : GuardTask) → is_quiet (Begins a task) ≡ true → is_flush (started n x task).work ≡ false
 begins_none n x a (ToDo task) quiet = refl
-begins_none n x a ToReserve quiet = refl
+begins_none n x a (ToReserve bound) quiet = refl
 begins_none n x a (ToFill its_words) quiet = refl
 begins_none n x a (ToInvalidate header) quiet = refl
 begins_none n x a ToShift quiet = refl

@@ -13,7 +13,8 @@ use Rattle.fkv_log.specs.declared.invalidating.Invalidating.{Invalidating}
 use Rattle.fkv_log.specs.declared.reserving.Reserving.TheVariants as reserve
 use Rattle.fkv_log.specs.declared.filling.Filling.TheVariants as fill
 use Rattle.fkv_log.specs.declared.invalidating.Invalidating.TheVariants as invalidate
-use Rattle.fkv_log.specs.Reserving.{reserve_ask, reserve_next, reserve_next_ask}
+use Rattle.fkv_log.proofs.Shown.{within_low}
+use Rattle.fkv_log.specs.Reserving.{reserve_ask, reserve_next, reserve_next_ask, limit_within}
 use Rattle.fkv_log.specs.Filling.{fill_ask, fill_next}
 use Rattle.fkv_log.specs.Invalidating.{invalidate_ask, invalidate_next}
 use Rattle.fkv_flush.specs.declared.flushing.Flushing.{Flushing}
@@ -44,9 +45,9 @@ Known w a x work = Knows w.now.shape (levels_of w.now.words) (Awake w.now a x.ma
 pub reserve_moves : (w : GuardWorld) (a : ℕ) (x : Actor) (step : Reserving) → IsSound w → slice_get w.now.actors a ≡ Some x → is_idle (Reserves step) ≡ false → Known w a x (Reserves step) → SoundAfter w a x (Reserves step)
 unfolding reserve_ask reserve_next reserve_next_ask
 reserve_moves w a x reserve.AtRest sound got busy k = cc
-reserve_moves w a x reserve.LoadsLimit sound got busy k =
+reserve_moves w a x (reserve.LoadsLimit bound) sound got busy k =
     rw (set-get_or w.now.words 4 0)
-    (looks w a x (record x { work = Reserves (reserve.LoadsTail (word_at w.now.words 4)) }) sound got refl refl (λ addr u. u) (k.0, k.1, omega arith))
+    (looks w a x (record x { work = Reserves (reserve.LoadsTail (limit_within bound (word_at w.now.words 4))) }) sound got refl refl (λ addr u. u) (k.0, k.1, within_low bound (word_at w.now.words 4)))
 reserve_moves w a x (reserve.LoadsTail limit) sound got busy k =
     let t : ℕ = word_at w.now.words 3 in
     rw (set-get_or w.now.words 3 0)

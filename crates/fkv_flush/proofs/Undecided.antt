@@ -43,7 +43,7 @@ module _ (n : GuardNow) (x : Actor) where
   reserved : (room : ℕ) (step : Reserving) → Next (reserved_by x.undecided (reserve_next_ask room step (reply_to n.words (reserve_ask step))))
   unfolding reserve_ask reserve_next reserve_next_ask
   reserved room reserve.AtRest = was
-  reserved room reserve.LoadsLimit = was
+  reserved room (reserve.LoadsLimit bound) = was
   reserved room (reserve.LoadsTail limit) = elim (truth (nat_lt (levels_of n.words).tail limit)) [
     | inl e ↦ rw e was
     | inr e ↦ rw e (elim (truth ((levels_of n.words).tail == room)) [ inl f ↦ rw f was | inr f ↦ rw f was ])
@@ -55,7 +55,7 @@ module _ (n : GuardNow) (x : Actor) where
 
   begun : (task : GuardTask) → Next (started n x task).undecided
   begun (ToDo task) = was
-  begun ToReserve = was
+  begun (ToReserve bound) = was
   begun (ToFill its_words) = was
   begun (ToInvalidate header) = was
   begun ToShift = was

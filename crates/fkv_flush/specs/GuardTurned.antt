@@ -1,5 +1,5 @@
 -- A ring of two frames goes round, event by event: a page is opened in a frame that another page has had.
-use Rattle.std.specs.Prelude.{◌≡◌, ℕ, List, [], ◌∷◌, ◌++◌, replicate, true}
+use Rattle.std.specs.Prelude.{◌≡◌, ℕ, List, [], ◌∷◌, ◌++◌, replicate, true, None}
 use Rattle.fkv_base.specs.declared.shapes.Shape.{Shape}
 use Rattle.fkv_plane.specs.declared.places.Places.{Places}
 use Rattle.fkv_plane.specs.declared.places.RecordWord.TheVariants as rec
@@ -33,7 +33,7 @@ turns_round its_words =
     ∷ refreshed_and_claimed ++ replicate 12 (Moves 1) ++ Begins 1 (ToTurnPage Whole 8)
     ∷ Moves 1 ∷ Calls 1 true ∷ Calls 1 true ∷ replicate 5 (Moves 1) ++ Begins 1 ToFlush
     ∷ refreshed_and_claimed ++ replicate 10 (Moves 1) ++ Begins 1 ToShift
-    ∷ Publishes 0 ∷ replicate 3 (Moves 0) ++ Begins 0 (ToFill its_words) ∷ replicate 3 (Moves 0) ++ Begins 0 ToReserve ∷ []
+    ∷ Publishes 0 ∷ replicate 3 (Moves 0) ++ Begins 0 (ToFill its_words) ∷ replicate 3 (Moves 0) ++ Begins 0 (ToReserve None) ∷ []
 
 -- what was written is flushed and closed, and the limit is a page further
 pub record HasTurned (w : GuardWorld) : Type 0 where

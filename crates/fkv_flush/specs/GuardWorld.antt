@@ -77,7 +77,8 @@ pub record Actor : Type 0 where
 pub data GuardTask : Type 0 where
   -- one of the epochs
   ToDo : epochs.EpochTask → GuardTask
-  ToReserve : GuardTask
+  -- an address below a bound, where there is one
+  ToReserve : Option ℕ → GuardTask
   -- the record goes to the address that the actor has reserved
   ToFill : RecordWords → GuardTask
   -- the record that the actor has reserved is invalidated
@@ -172,7 +173,7 @@ may_work n actor x (ToDo epochs.ToProtect) = is_none x.undecided && may_begin (e
 may_work n actor x (ToDo epochs.ToRefresh) = is_none x.undecided && may_begin (epoch_now n) actor epochs.ToRefresh
 may_work n actor x (ToDo epochs.ToLeave) = is_none x.undecided && may_begin (epoch_now n) actor epochs.ToLeave
 may_work n actor x (ToDo task) = may_begin (epoch_now n) actor task
-may_work n actor x ToReserve = is_none x.undecided && is_awake n actor x
+may_work n actor x (ToReserve bound) = is_none x.undecided && is_awake n actor x
 may_work n actor x (ToFill its_words) = not (is_none x.undecided)
 may_work n actor x (ToInvalidate header) = not (is_none x.undecided)
 may_work n actor x task = true
@@ -183,7 +184,7 @@ address_of (Some addr) = record { 0 = addr }
 
 abbrev pub started : GuardNow → Actor → GuardTask → Actor
 started n x (ToDo task) = record x { machine = first_machine task; work = Rests }
-started n x ToReserve = record x { work = Reserves reserve.LoadsLimit }
+started n x (ToReserve bound) = record x { work = Reserves (reserve.LoadsLimit bound) }
 started n x (ToFill its_words) = record x { work = Fills (fill.StoresValue (address_of x.undecided) its_words) }
 started n x (ToInvalidate header) = record x { work = Invalidates (invalidate.StoresHeader (address_of x.undecided) header) }
 started n x ToShift = record x { work = Shifts shift_begun }

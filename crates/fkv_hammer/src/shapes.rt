@@ -8,7 +8,8 @@ pub(crate) const COUNT: u64 = 32;
 const SPECIFIED: u64 = 20;
 
 /// The shape of this number: few buckets or more, small pages, and two frames or more. The last dozen are of living stores, and half of
-/// these have overflow buckets and pages past the small limits.
+/// these have overflow buckets and pages past the small limits. Calls of a living store leave 260 overflow buckets to polls. They link three in the
+/// first one, so most of its keys are refused, or have to go by the polls' buckets.
 pub(crate) fn shape_of(number: u64) -> Result<Shape, Fault> {
     let (bits, page, frames) = (
         number % 5,
@@ -19,7 +20,8 @@ pub(crate) fn shape_of(number: u64) -> Result<Shape, Fault> {
     if number < SPECIFIED {
         Shape::new(bits, page, frames, mutable, 4, 256, 65536)
     } else if number % 2 == 0 {
-        Shape::large(bits, page, frames, mutable, 4, 256, 65536)
+        let overflow = if number == SPECIFIED { 263 } else { 516 };
+        Shape::large(bits, page, frames, mutable, 4, overflow, 65536)
     } else {
         Shape::large(
             bits,

@@ -8,8 +8,8 @@ use Rattle.fkv_plane.specs.Places.{overflow_place}
 use Rattle.fkv_index.specs.declared.slot_words.SlotWord.{SlotWord}
 use Rattle.fkv_index.specs.declared.slot_words.SlotWord.TheVariants.{Empty, Tagged, Spoiled}
 use Rattle.fkv_index.specs.declared.finding.Linking.{Linking}
-use Rattle.fkv_index.specs.declared.finding.Linking.TheVariants.{Never, Once, Made}
-use Rattle.fkv_index.specs.declared.finding.Found.TheVariants.{Slot, Full, Contended}
+use Rattle.fkv_index.specs.declared.finding.Linking.TheVariants.{Never, Once, Within, Made}
+use Rattle.fkv_index.specs.declared.finding.Found.TheVariants.{Slot, Full, Kept, Contended}
 use Rattle.fkv_index.specs.declared.finding.FindStep.{FindStep}
 use Rattle.fkv_index.specs.declared.finding.FindStep.TheVariants.{AtRest, LoadsSlot, LoadsLink, LoadsTaken, TakesBucket, LinksBucket}
 use Rattle.fkv_index.specs.declared.finding.Finding.{Finding}
@@ -18,7 +18,7 @@ use Rattle.fkv_index.specs.declared.finding.Led.TheVariants.{On, Ends}
 use Rattle.fkv_index.specs.declared.publishing.Publishing.{Publishing}
 use Rattle.fkv_index.specs.declared.publishing.Publishing.TheVariants as publish
 use Rattle.fkv_index.specs.Slots.{slot_word, link_of}
-use Rattle.fkv_index.specs.Finding.{find_step_ask, find_led, slot_led, slot_after, entered, ended_list, link_led, step_asks_left, led_asks_left, linking_asks, asks_left, led_to, led_ask, find_next, find_next_ask}
+use Rattle.fkv_index.specs.Finding.{find_step_ask, find_led, slot_led, slot_after, entered, ended_list, link_led, is_kept, step_asks_left, led_asks_left, linking_asks, asks_left, led_to, led_ask, find_next, find_next_ask}
 use Rattle.fkv_index.specs.Publishing.{publish_ask, publish_next, publish_next_ask, publish_asks_left}
 use Rattle.fkv_index.specs.Counted.{IsCounted}
 
@@ -67,6 +67,7 @@ link_fewer p f word = tested (link_of word == 0)
     ended : (linking : Linking) → led_asks_left (ended_list f word linking) < 1 + 8 * f.links + linking_asks linking
     ended Never = omega arith
     ended Once = takes (f.spare == 0)
+    ended (Within bound) = takes true
     ended Made = omega arith
 
     tested : (b : Bool) → led_asks_left (if b then ended_list f word f.linking else entered p f (link_of word)) < 1 + 8 * f.links + linking_asks f.linking
@@ -78,11 +79,14 @@ unfolding step_asks_left find_led
 find_fewer p f AtRest reply some = some
 find_fewer p f (LoadsSlot slot) reply some = slot_fewer f slot reply (slot_word reply)
 find_fewer p f LoadsLink reply some = link_fewer p f reply
-find_fewer p f (LoadsTaken word) reply some = tested (nat_lt reply p.overflow)
+find_fewer p f (LoadsTaken word) reply some = tested (is_kept f.linking reply) (f.spare == 0) (nat_lt reply p.overflow)
   where
-    tested : (b : Bool) → led_asks_left (if b then On (record f { step = TakesBucket word reply }) else Ends f Full) < 3 + 8 * f.links
-    tested true = omega arith
-    tested false = omega arith
+    tested : (kept none few : Bool)
+        → led_asks_left (if kept then Ends f Kept else if none then (if few then On (record f { step = TakesBucket word reply }) else Ends f Full) else On (record f { step = LinksBucket word })) < 3 + 8 * f.links
+    tested true none few = omega arith
+    tested false true true = omega arith
+    tested false true false = omega arith
+    tested false false few = omega arith
 find_fewer p f (TakesBucket word taken) reply some = tested (reply == taken)
   where
     tested : (b : Bool) → led_asks_left (if b then On (record f { spare = taken + 1; step = LinksBucket word }) else Ends f Contended) < 2 + 8 * f.links
@@ -106,6 +110,7 @@ next_fewer p f reply some = led_fewer (find_led p f f.step reply) (asks_left f) 
 pub linking_few : (linking : Linking) → linking_asks linking ≤ 3
 linking_few Never = omega arith
 linking_few Once = omega arith
+linking_few (Within bound) = omega arith
 linking_few Made = omega arith
 
 -- while a machine asks, asks are left

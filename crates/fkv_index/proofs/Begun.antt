@@ -11,7 +11,7 @@ use Rattle.fkv_index.specs.declared.slot_words.SlotWord.{SlotWord}
 use Rattle.fkv_index.specs.declared.slot_words.SlotWord.TheVariants.{Empty, Tagged, Spoiled}
 use Rattle.fkv_index.specs.declared.finding.Purpose.TheVariants.{Read}
 use Rattle.fkv_index.specs.declared.finding.Linking.{Linking}
-use Rattle.fkv_index.specs.declared.finding.Linking.TheVariants.{Never, Once, Made}
+use Rattle.fkv_index.specs.declared.finding.Linking.TheVariants.{Never, Once, Within, Made}
 use Rattle.fkv_index.specs.declared.finding.Found.TheVariants.{Slot, Contended}
 use Rattle.fkv_index.specs.declared.finding.FindStep.{FindStep}
 use Rattle.fkv_index.specs.declared.finding.FindStep.TheVariants.{AtRest, LoadsSlot, LoadsLink, LoadsTaken, TakesBucket, LinksBucket}
@@ -77,6 +77,7 @@ link_reading p f word never true = ended f.linking never
     ended : (linking : Linking) → linking ≡ Never → IsReading (led_to (ended_list f word linking))
     ended Never e = record { never = never; loads = tt }
     ended Once e = cc
+    ended (Within bound) e = cc
     ended Made e = cc
 link_reading p f word never false = tested (nat_lt 0 f.links && nat_le (link_of word) p.overflow)
   where

@@ -9,17 +9,17 @@ use Rattle.fkv_index.specs.declared.homes.Home.{Home}
 use Rattle.fkv_index.specs.declared.slot_words.SlotWord.{SlotWord}
 use Rattle.fkv_index.specs.declared.slot_words.SlotWord.TheVariants.{Empty, Tagged, Spoiled}
 use Rattle.fkv_index.specs.declared.finding.Purpose.{Purpose}
-use Rattle.fkv_index.specs.declared.finding.Purpose.TheVariants.{Read, Update}
+use Rattle.fkv_index.specs.declared.finding.Purpose.TheVariants.{Read, Update, UpdateWithin}
 use Rattle.fkv_index.specs.declared.finding.Linking.{Linking}
-use Rattle.fkv_index.specs.declared.finding.Linking.TheVariants.{Never, Once, Made}
-use Rattle.fkv_index.specs.declared.finding.Found.TheVariants.{Slot, Full, Contended}
+use Rattle.fkv_index.specs.declared.finding.Linking.TheVariants.{Never, Once, Within, Made}
+use Rattle.fkv_index.specs.declared.finding.Found.TheVariants.{Slot, Full, Kept, Contended}
 use Rattle.fkv_index.specs.declared.finding.FindStep.{FindStep}
 use Rattle.fkv_index.specs.declared.finding.FindStep.TheVariants.{AtRest, LoadsSlot, LoadsLink, LoadsTaken, TakesBucket, LinksBucket}
 use Rattle.fkv_index.specs.declared.finding.Finding.{Finding}
 use Rattle.fkv_index.specs.declared.finding.Led.{Led}
 use Rattle.fkv_index.specs.declared.finding.Led.TheVariants.{On, Ends}
 use Rattle.fkv_index.specs.Slots.{slot_word, link_of}
-use Rattle.fkv_index.specs.Finding.{find_step_ask, find_led, slot_led, entered, ended_list, link_led, led_to, linking_for, first_finding}
+use Rattle.fkv_index.specs.Finding.{find_step_ask, find_led, slot_led, entered, ended_list, link_led, is_kept, led_to, linking_for, first_finding}
 use Rattle.fkv_index.specs.Buckets.{bucket_words}
 use Rattle.fkv_index.specs.IndexWorld.{SlotWork, Seeks, Holds, Enters, IndexActor, IndexEvent, BeginsFind, BeginsPublish, Moves, Changes, IndexWorld, taken_of, is_barred, may_find, find_begun, work_begun, publish_begun, actor_after, moved, index_happens, index_run, index_opening, rested_actor}
 use Rattle.fkv_index.specs.OneEntry.{HasLost, IsIndex, spare_in, spare_at}
@@ -77,6 +77,7 @@ link_met p f word met here link = tested (link_of word == 0)
     ended : (linking : Linking) → LedMet p (ended_list f word linking) met
     ended Never = record { its_words = tt; its_link = link }
     ended Once = links (f.spare == 0)
+    ended (Within bound) = links true
     ended Made = record { its_words = tt; its_link = link }
 
     tested : (b : Bool) → LedMet p (if b then ended_list f word f.linking else entered p f (link_of word)) met
@@ -90,14 +91,18 @@ unfolding find_step_ask find_led
 seek_met p actor words lists spares f AtRest met index its knows has link = record { its_words = tt; its_link = link }
 seek_met p actor words lists spares f (LoadsSlot slot) met index its knows has link = slot_met p f slot (word_at words (f.base + slot)) (slot_word (word_at words (f.base + slot))) _ (λ e. inr (link e))
 seek_met p actor words lists spares f LoadsLink met index its knows has link = link_met p f (word_at words (f.base + 7)) _ (met_here (f.base + 7) (word_at words (f.base + 7)) (word_at words (f.base + 7)) met) (λ e. inr (link e))
-seek_met p actor words lists spares f (LoadsTaken word) met index its knows has link = tested (nat_lt (taken_of words) p.overflow)
+seek_met p actor words lists spares f (LoadsTaken word) met index its knows has link = tested (is_kept f.linking (taken_of words)) (f.spare == 0) (nat_lt (taken_of words) p.overflow)
   where
     apart : 10 ≡ f.base + 7 → ⊥
     apart e = let base = knows.0.its_base in omega (arith, e, base)
 
-    tested : (b : Bool) → LedMet p (if b then On (record f { step = TakesBucket word (taken_of words) }) else Ends f Full) (record { place = 10; word = taken_of words; left = taken_of words } ∷ met)
-    tested true = record { its_words = (met_else (f.base + 7) 10 (taken_of words) (taken_of words) met apart ∙ has, refl); its_link = λ e. inr (link e) }
-    tested false = record { its_words = tt; its_link = λ e. inr (link e) }
+    tested : (kept none few : Bool)
+        → LedMet p (if kept then Ends f Kept else if none then (if few then On (record f { step = TakesBucket word (taken_of words) }) else Ends f Full) else On (record f { step = LinksBucket word }))
+        (record { place = 10; word = taken_of words; left = taken_of words } ∷ met)
+    tested true none few = record { its_words = tt; its_link = λ e. inr (link e) }
+    tested false true true = record { its_words = (met_else (f.base + 7) 10 (taken_of words) (taken_of words) met apart ∙ has, refl); its_link = λ e. inr (link e) }
+    tested false true false = record { its_words = tt; its_link = λ e. inr (link e) }
+    tested false false few = record { its_words = met_else (f.base + 7) 10 (taken_of words) (taken_of words) met apart ∙ has; its_link = λ e. inr (link e) }
 seek_met p actor words lists spares f (TakesBucket word taken) met index its knows has link = tested (taken_of words == taken) (if taken_of words == taken then taken + 1 else taken_of words)
   where
     apart : 10 ≡ f.base + 7 → ⊥
@@ -177,6 +182,7 @@ begins_met w mets i home purpose (Some x) got all actor z at = begun (may_find w
     unmade : (purpose : Purpose) → linking_for purpose ≡ Made → ⊥
     unmade Read e = cc
     unmade Update e = cc
+    unmade (UpdateWithin bound) e = cc
 
     begun : (b : Bool) → may_find w.now.places home x ≡ b
         → slice_get (if b then record w.now { actors = slice_set w.now.actors i (record x { finding = first_finding w.now.places home purpose x.spare; work = Seeks; purpose = purpose }) } else w.now).actors actor ≡ Some z

@@ -11,7 +11,7 @@ use Rattle.fkv_plane.specs.Asked.{word_at, words_after, reply_to}
 use Rattle.fkv_index.specs.declared.homes.Home.{Home}
 use Rattle.fkv_index.specs.declared.finding.Purpose.{Purpose}
 use Rattle.fkv_index.specs.declared.finding.Found.{Found}
-use Rattle.fkv_index.specs.declared.finding.Found.TheVariants.{Slot, NoSlot, Full, Contended}
+use Rattle.fkv_index.specs.declared.finding.Found.TheVariants.{Slot, NoSlot, Full, Kept, Contended}
 use Rattle.fkv_index.specs.declared.finding.FindAnswer.{FindAnswer}
 use Rattle.fkv_index.specs.declared.finding.FindStep.{FindStep}
 use Rattle.fkv_index.specs.declared.finding.FindStep.TheVariants.{AtRest, LoadsSlot, LoadsLink, LoadsTaken, TakesBucket, LinksBucket}
@@ -45,6 +45,7 @@ found_entry p words lists spares home (Slot place word) index its = elim its.1.h
 ]
 found_entry p words lists spares home NoSlot index its = entry_none p.buckets (bucket_words p words) home.tag home.bucket (lists home.bucket) its
 found_entry p words lists spares home Full index its = tt
+found_entry p words lists spares home Kept index its = tt
 found_entry p words lists spares home Contended index its = tt
 
 answered_entry : (p : Places) (words : List ℕ) (lists : ℕ → List ℕ) (spares : ℕ → ℕ) (home : Home) (ask : Ask FindAnswer) → IsIndex p words lists spares → IsTrueAnswer p words lists home ask → IsEntryAnswered (entry_at p words lists home) ask

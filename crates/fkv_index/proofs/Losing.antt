@@ -8,8 +8,8 @@ use Rattle.fkv_plane.specs.declared.places.Places.{Places}
 use Rattle.fkv_plane.specs.Places.{bucket_place}
 use Rattle.fkv_plane.specs.Asked.{word_at, reply_to}
 use Rattle.fkv_index.specs.declared.finding.Linking.{Linking}
-use Rattle.fkv_index.specs.declared.finding.Linking.TheVariants.{Never, Once, Made}
-use Rattle.fkv_index.specs.declared.finding.Found.TheVariants.{Slot, NoSlot, Full, Contended}
+use Rattle.fkv_index.specs.declared.finding.Linking.TheVariants.{Never, Once, Within, Made}
+use Rattle.fkv_index.specs.declared.finding.Found.TheVariants.{Slot, NoSlot, Full, Kept, Contended}
 use Rattle.fkv_index.specs.declared.finding.FindAnswer.{FindAnswer}
 use Rattle.fkv_index.specs.declared.finding.FindStep.{FindStep}
 use Rattle.fkv_index.specs.declared.finding.FindStep.TheVariants.{AtRest, LoadsSlot, LoadsLink, LoadsTaken, TakesBucket, LinksBucket}
@@ -17,7 +17,7 @@ use Rattle.fkv_index.specs.declared.finding.Finding.{Finding}
 use Rattle.fkv_index.specs.declared.finding.Led.{Led}
 use Rattle.fkv_index.specs.declared.finding.Led.TheVariants.{On, Ends}
 use Rattle.fkv_index.specs.Slots.{slot_word, entry_tag, link_of}
-use Rattle.fkv_index.specs.Finding.{find_step_ask, find_ask, find_led, slot_led, entered, ended_list, link_led, led_ask}
+use Rattle.fkv_index.specs.Finding.{find_step_ask, find_ask, find_led, slot_led, entered, ended_list, link_led, led_ask, is_kept}
 use Rattle.fkv_index.specs.Buckets.{bucket_words, overflow_bucket, IsMember}
 use Rattle.fkv_index.specs.IndexWorld.{IndexWorld, taken_of}
 use Rattle.fkv_index.specs.OneEntry.{SpareOf, ListedAt, spare_at, spare_in, IsSlotWord, IsIndex, HasLost, ContendedHaveLost}
@@ -50,6 +50,7 @@ loses lost (Ends f Contended) answer knows e its = knows
 loses lost (Ends f (Slot place word)) answer knows e its = cc
 loses lost (Ends f NoSlot) answer knows e its = cc
 loses lost (Ends f Full) answer knows e its = cc
+loses lost (Ends f Kept) answer knows e its = cc
 
 -- a slot that was loaded is spelled
 slot_loses : (p : Places) (words : List ℕ) (lists : ℕ → List ℕ) (spares : ℕ → ℕ) (f : Finding) (slot : ℕ) → IsIndex p words lists spares → slot < 7 → Stands p (bucket_words p words) lists f slot
@@ -116,6 +117,7 @@ link_loses p words lists spares f index stands = tested (link_of (word_at words 
     ended : (linking : Linking) → f.linking ≡ linking → link_of (word_at words (f.base + 7)) ≡ 0 → Loses (HasLost words f LoadsLink) (ended_list f (word_at words (f.base + 7)) linking)
     ended Never same none = tt
     ended Once same none = links (f.spare == 0)
+    ended (Within bound) same none = links true
     ended Made same none = (same, none)
 
     tested : (b : Bool) → (link_of (word_at words (f.base + 7)) == 0) ≡ b
@@ -142,11 +144,13 @@ unfolding find_step_ask find_led
 seek_loses p actor words lists spares f AtRest index its knows = tt
 seek_loses p actor words lists spares f (LoadsSlot slot) index its knows = slot_loses p words lists spares f slot index knows.0 knows.1
 seek_loses p actor words lists spares f LoadsLink index its knows = link_loses p words lists spares f index knows
-seek_loses p actor words lists spares f (LoadsTaken word) index its knows = tested (nat_lt (taken_of words) p.overflow)
+seek_loses p actor words lists spares f (LoadsTaken word) index its knows = tested (is_kept f.linking (taken_of words)) (f.spare == 0) (nat_lt (taken_of words) p.overflow)
   where
-    tested : (b : Bool) → Loses ⊥ (if b then On (record f { step = TakesBucket word (taken_of words) }) else Ends f Full)
-    tested true = λ e. cc
-    tested false = tt
+    tested : (kept none few : Bool) → Loses ⊥ (if kept then Ends f Kept else if none then (if few then On (record f { step = TakesBucket word (taken_of words) }) else Ends f Full) else On (record f { step = LinksBucket word }))
+    tested true none few = tt
+    tested false true true = λ e. cc
+    tested false true false = tt
+    tested false false few = λ e. cc
 seek_loses p actor words lists spares f (TakesBucket word taken) index its knows = tested (taken_of words == taken) refl
   where
     tested : (b : Bool) → (taken_of words == taken) ≡ b → Loses (taken_of words ≡ taken → ⊥) (if b then On (record f { spare = taken + 1; step = LinksBucket word }) else Ends f Contended)

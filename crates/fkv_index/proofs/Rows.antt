@@ -31,7 +31,7 @@ abbrev pub SeekKnows : Places → (ℕ → ℕ → ℕ) → (ℕ → List ℕ) �
 SeekKnows p g lists f AtRest = ⊤
 SeekKnows p g lists f (LoadsSlot slot) = (slot < 7) × Stands p g lists f slot
 SeekKnows p g lists f LoadsLink = Stands p g lists f 7
-SeekKnows p g lists f (LoadsTaken word) = Stands p g lists f 7 × (link_of word ≡ 0) × (f.spare ≡ 0)
+SeekKnows p g lists f (LoadsTaken word) = Stands p g lists f 7 × (link_of word ≡ 0)
 SeekKnows p g lists f (TakesBucket word taken) = Stands p g lists f 7 × (link_of word ≡ 0) × (f.spare ≡ 0) × (taken < p.overflow)
 SeekKnows p g lists f (LinksBucket word) = Stands p g lists f 7 × (link_of word ≡ 0) × (1 ≤ f.spare)
 
@@ -104,7 +104,7 @@ seek_more : (p : Places) (words after : List ℕ) (lists lists' : ℕ → List �
 seek_more p words after lists lists' spares f AtRest index grows knows = tt
 seek_more p words after lists lists' spares f (LoadsSlot slot) index grows knows = let low = knows.0 in (low, stands_more p words after lists lists' spares f slot index grows (omega (arith, low)) knows.1)
 seek_more p words after lists lists' spares f LoadsLink index grows knows = stands_more p words after lists lists' spares f 7 index grows (omega arith) knows
-seek_more p words after lists lists' spares f (LoadsTaken word) index grows knows = (stands_more p words after lists lists' spares f 7 index grows (omega arith) knows.0, knows.1, knows.2)
+seek_more p words after lists lists' spares f (LoadsTaken word) index grows knows = (stands_more p words after lists lists' spares f 7 index grows (omega arith) knows.0, knows.1)
 seek_more p words after lists lists' spares f (TakesBucket word taken) index grows knows = (stands_more p words after lists lists' spares f 7 index grows (omega arith) knows.0, knows.1, knows.2, knows.3)
 seek_more p words after lists lists' spares f (LinksBucket word) index grows knows = (stands_more p words after lists lists' spares f 7 index grows (omega arith) knows.0, knows.1, knows.2)
 

@@ -9,8 +9,8 @@ use Rattle.fkv_plane.specs.Asked.{word_at, words_after, reply_to}
 use Rattle.fkv_index.specs.declared.homes.Home.{Home}
 use Rattle.fkv_index.specs.declared.slot_words.SlotWord.TheVariants.{Empty, Tagged, Spoiled}
 use Rattle.fkv_index.specs.declared.finding.Linking.{Linking}
-use Rattle.fkv_index.specs.declared.finding.Linking.TheVariants.{Never, Once, Made}
-use Rattle.fkv_index.specs.declared.finding.Found.TheVariants.{Slot, NoSlot, Full, Contended}
+use Rattle.fkv_index.specs.declared.finding.Linking.TheVariants.{Never, Once, Within, Made}
+use Rattle.fkv_index.specs.declared.finding.Found.TheVariants.{Slot, NoSlot, Full, Kept, Contended}
 use Rattle.fkv_index.specs.declared.finding.FindStep.{FindStep}
 use Rattle.fkv_index.specs.declared.finding.FindStep.TheVariants.{AtRest, LoadsSlot, LoadsLink, LoadsTaken, TakesBucket, LinksBucket}
 use Rattle.fkv_index.specs.declared.finding.Finding.{Finding}
@@ -19,7 +19,7 @@ use Rattle.fkv_index.specs.declared.finding.Led.TheVariants.{On, Ends}
 use Rattle.fkv_index.specs.declared.publishing.Publishing.{Publishing}
 use Rattle.fkv_index.specs.declared.publishing.Publishing.TheVariants as publish
 use Rattle.fkv_index.specs.Slots.{slot_word, entry_addr, entry_tag, link_of}
-use Rattle.fkv_index.specs.Finding.{find_step_ask, find_led, slot_led, slot_after, entered, ended_list, link_led, taken_led, led_to, led_ask}
+use Rattle.fkv_index.specs.Finding.{find_step_ask, find_led, slot_led, slot_after, entered, ended_list, link_led, taken_led, led_to, led_ask, takes_led, is_kept}
 use Rattle.fkv_index.specs.Publishing.{publish_ask, publish_next}
 use Rattle.fkv_index.specs.Buckets.{bucket_words, overflow_bucket, HasPassed}
 use Rattle.fkv_index.specs.IndexWorld.{SlotWork, Seeks, Holds, Enters, IndexNear, near, answer_work, taken_of, with_link, lists_sought, lists_by, actor_step}
@@ -77,6 +77,7 @@ led_row p words lists home spare (On f) knows = subst (WorkKnows p (bucket_words
 led_row p words lists home spare (Ends f (Slot place word)) knows = subst (λ x. HasSlot p (bucket_words p words) lists x place word) (sym knows.same_home) knows.its_row.1
 led_row p words lists home spare (Ends f NoSlot) knows = tt
 led_row p words lists home spare (Ends f Full) knows = tt
+led_row p words lists home spare (Ends f Kept) knows = tt
 led_row p words lists home spare (Ends f Contended) knows = tt
 
 pub led_true : (p : Places) (words : List ℕ) (lists : ℕ → List ℕ) (home : Home) (spare : ℕ) (led : Led) → LedKnows p words lists home spare led → IsTrueAnswer p words lists home (led_ask led)
@@ -156,7 +157,7 @@ slot_knows p words lists spares f slot index low stands = elim (slot_words (word
     on_knows AtRest knows = tt
     on_knows (LoadsSlot i) knows = (knows.0, record { its_home = knows.1.its_home; bucket = knows.1.bucket; its_base = knows.1.its_base; passed = knows.1.passed; depth = knows.1.depth; deep = knows.1.deep; budget = knows.1.budget })
     on_knows LoadsLink knows = record { its_home = knows.its_home; bucket = knows.bucket; its_base = knows.its_base; passed = knows.passed; depth = knows.depth; deep = knows.deep; budget = knows.budget }
-    on_knows (LoadsTaken word) knows = (record { its_home = knows.0.its_home; bucket = knows.0.bucket; its_base = knows.0.its_base; passed = knows.0.passed; depth = knows.0.depth; deep = knows.0.deep; budget = knows.0.budget }, knows.1, knows.2)
+    on_knows (LoadsTaken word) knows = (record { its_home = knows.0.its_home; bucket = knows.0.bucket; its_base = knows.0.its_base; passed = knows.0.passed; depth = knows.0.depth; deep = knows.0.deep; budget = knows.0.budget }, knows.1)
     on_knows (TakesBucket word taken) knows = (record { its_home = knows.0.its_home; bucket = knows.0.bucket; its_base = knows.0.its_base; passed = knows.0.passed; depth = knows.0.depth; deep = knows.0.deep; budget = knows.0.budget }, knows.1, knows.2, knows.3)
     on_knows (LinksBucket word) knows = (record { its_home = knows.0.its_home; bucket = knows.0.bucket; its_base = knows.0.its_base; passed = knows.0.passed; depth = knows.0.depth; deep = knows.0.deep; budget = knows.0.budget }, knows.1, knows.2)
 
@@ -238,12 +239,13 @@ link_knows p words lists spares f index stands = tested (link_of (word_at words 
 
     links : (b : Bool) → (f.spare == 0) ≡ b → link_of (word_at words (f.base + 7)) ≡ 0
         → LedKnows p words lists f.home f.spare (On (record f { step = if b then LoadsTaken (word_at words (f.base + 7)) else LinksBucket (word_at words (f.base + 7)) }))
-    links true e none = record { same_home = refl; same_spare = refl; its_row = (here (LoadsTaken (word_at words (f.base + 7))), none, eqb-true f.spare 0 e) }
+    links true e none = record { same_home = refl; same_spare = refl; its_row = (here (LoadsTaken (word_at words (f.base + 7))), none) }
     links false e none = record { same_home = refl; same_spare = refl; its_row = (here (LinksBucket (word_at words (f.base + 7))), none, grind (arith, nat_tests, e)) }
 
     ended : (linking : Linking) → link_of (word_at words (f.base + 7)) ≡ 0 → LedKnows p words lists f.home f.spare (ended_list f (word_at words (f.base + 7)) linking)
     ended Never none = record { same_home = refl; same_spare = refl; its_row = lacks none }
     ended Once none = links (f.spare == 0) refl none
+    ended (Within bound) none = record { same_home = refl; same_spare = refl; its_row = (here (LoadsTaken (word_at words (f.base + 7))), none) }
     ended Made none = record { same_home = refl; same_spare = refl; its_row = tt }
 
     tested : (b : Bool) → (link_of (word_at words (f.base + 7)) == 0) ≡ b
@@ -258,17 +260,24 @@ link_knows p words lists spares f index stands = tested (link_of (word_at words 
         stands.budget
 
 -- the count that was loaded
-taken_knows : (p : Places) (words : List ℕ) (lists : ℕ → List ℕ) (f : Finding) (word : ℕ) → Stands p (bucket_words p words) lists f 7 → link_of word ≡ 0 → f.spare ≡ 0
+taken_knows : (p : Places) (words : List ℕ) (lists : ℕ → List ℕ) (f : Finding) (word : ℕ) → Stands p (bucket_words p words) lists f 7 → link_of word ≡ 0
     → LedKnows p words lists f.home f.spare (taken_led p f word (taken_of words))
-taken_knows p words lists f word stands none no_spare = tested (nat_lt (taken_of words) p.overflow) refl
+taken_knows p words lists f word stands none = kept (is_kept f.linking (taken_of words))
   where
-    tested : (b : Bool) → nat_lt (taken_of words) p.overflow ≡ b → LedKnows p words lists f.home f.spare (if b then On (record f { step = TakesBucket word (taken_of words) }) else Ends f Full)
-    tested true e = record {
-      same_home = refl;
-      same_spare = refl;
-      its_row = (record { its_home = stands.its_home; bucket = stands.bucket; its_base = stands.its_base; passed = stands.passed; depth = stands.depth; deep = stands.deep; budget = stands.budget }, none, no_spare, grind (arith, nat_tests, e));
-    }
-    tested false e = record { same_home = refl; same_spare = refl; its_row = grind (arith, nat_tests, e) }
+    here : (step : FindStep) → Stands p (bucket_words p words) lists (record f { step = step }) 7
+    here step = record { its_home = stands.its_home; bucket = stands.bucket; its_base = stands.its_base; passed = stands.passed; depth = stands.depth; deep = stands.deep; budget = stands.budget }
+
+    takes : (b : Bool) → nat_lt (taken_of words) p.overflow ≡ b → f.spare ≡ 0 → LedKnows p words lists f.home f.spare (if b then On (record f { step = TakesBucket word (taken_of words) }) else Ends f Full)
+    takes true e no_spare = record { same_home = refl; same_spare = refl; its_row = (here (TakesBucket word (taken_of words)), none, no_spare, grind (arith, nat_tests, e)) }
+    takes false e no_spare = record { same_home = refl; same_spare = refl; its_row = grind (arith, nat_tests, e) }
+
+    spares : (b : Bool) → (f.spare == 0) ≡ b → LedKnows p words lists f.home f.spare (if b then takes_led p f word (taken_of words) else On (record f { step = LinksBucket word }))
+    spares true e = takes (nat_lt (taken_of words) p.overflow) refl (eqb-true f.spare 0 e)
+    spares false e = record { same_home = refl; same_spare = refl; its_row = (here (LinksBucket word), none, grind (arith, nat_tests, e)) }
+
+    kept : (b : Bool) → LedKnows p words lists f.home f.spare (if b then Ends f Kept else if f.spare == 0 then takes_led p f word (taken_of words) else On (record f { step = LinksBucket word }))
+    kept true = record { same_home = refl; same_spare = refl; its_row = tt }
+    kept false = spares (f.spare == 0) refl
 
 abbrev seek_near : Places → List ℕ → Finding → FindStep → IndexNear
 seek_near p words f step = near (words_after words (find_step_ask f step)) (led_to (find_led p f step (reply_to words (find_step_ask f step)))) (answer_work (led_ask (find_led p f step (reply_to words (find_step_ask f step)))))
@@ -363,7 +372,7 @@ seek_stepped p actor words lists spares f (LoadsSlot slot) index its knows =
 seek_stepped p actor words lists spares f LoadsLink index its knows =
     rw (set-get_or words (f.base + 7) 0) (led_stepped p actor words lists spares f.home f.spare (link_led p f (word_at words (f.base + 7))) index its (link_knows p words lists spares f index knows))
 seek_stepped p actor words lists spares f (LoadsTaken word) index its knows =
-    rw (set-get_or words 10 0) (led_stepped p actor words lists spares f.home f.spare (taken_led p f word (taken_of words)) index its (taken_knows p words lists f word knows.0 knows.1 knows.2))
+    rw (set-get_or words 10 0) (led_stepped p actor words lists spares f.home f.spare (taken_led p f word (taken_of words)) index its (taken_knows p words lists f word knows.0 knows.1))
 seek_stepped p actor words lists spares f (TakesBucket word taken) index its knows = takes_stepped p actor words lists spares f word taken index its knows
 seek_stepped p actor words lists spares f (LinksBucket word) index its knows = links_stepped p actor words lists spares f word index its knows
 
@@ -374,7 +383,7 @@ unfolding find_step_ask find_led
 seek_true p words lists spares f AtRest index knows = tt
 seek_true p words lists spares f (LoadsSlot slot) index knows = led_true p words lists f.home f.spare (slot_led f slot (word_at words (f.base + slot)) (slot_word (word_at words (f.base + slot)))) (slot_knows p words lists spares f slot index knows.0 knows.1)
 seek_true p words lists spares f LoadsLink index knows = led_true p words lists f.home f.spare (link_led p f (word_at words (f.base + 7))) (link_knows p words lists spares f index knows)
-seek_true p words lists spares f (LoadsTaken word) index knows = led_true p words lists f.home f.spare (taken_led p f word (taken_of words)) (taken_knows p words lists f word knows.0 knows.1 knows.2)
+seek_true p words lists spares f (LoadsTaken word) index knows = led_true p words lists f.home f.spare (taken_led p f word (taken_of words)) (taken_knows p words lists f word knows.0 knows.1)
 seek_true p words lists spares f (TakesBucket word taken) index knows = tested (taken_of words == taken)
   where
     tested : (b : Bool) → IsTrueAnswer p words lists f.home (led_ask (if b then On (record f { spare = taken + 1; step = LinksBucket word }) else Ends f Contended))

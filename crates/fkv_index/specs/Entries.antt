@@ -6,7 +6,7 @@ use Rattle.fkv_plane.specs.declared.places.Places.{Places}
 use Rattle.fkv_plane.specs.Asked.{word_at, reply_to}
 use Rattle.fkv_index.specs.declared.homes.Home.{Home}
 use Rattle.fkv_index.specs.declared.finding.Found.{Found}
-use Rattle.fkv_index.specs.declared.finding.Found.TheVariants.{Slot, NoSlot, Full, Contended}
+use Rattle.fkv_index.specs.declared.finding.Found.TheVariants.{Slot, NoSlot, Full, Kept, Contended}
 use Rattle.fkv_index.specs.declared.finding.FindAnswer.{FindAnswer}
 use Rattle.fkv_index.specs.declared.publishing.PublishAnswer.{PublishAnswer}
 use Rattle.fkv_index.specs.declared.publishing.PublishAnswer.TheVariants.{Won, Lost}
@@ -45,6 +45,7 @@ abbrev pub IsEntryFound : ℕ → Found → Type 0
 IsEntryFound entry (Slot place word) = entry ≡ word
 IsEntryFound entry NoSlot = entry ≡ 0
 IsEntryFound entry Full = ⊤
+IsEntryFound entry Kept = ⊤
 IsEntryFound entry Contended = ⊤
 
 abbrev pub IsEntryAnswered : ℕ → Ask FindAnswer → Type 0

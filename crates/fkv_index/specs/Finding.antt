@@ -1,6 +1,6 @@
 -- How the slot of a home is found: the slots of its bucket from the left, then those of each overflow bucket that follows, up to an entry
 -- of the home's tag or an empty slot. An update that comes to the end without either links one more overflow bucket, and goes on there.
-use Rattle.std.specs.Prelude.{◌≡◌, ℕ, ◌+◌, ◌-◌, ◌*◌, ◌^◌, ◌<◌, ◌≤◌, ◌==◌, ◌&&◌, nat_lt, nat_le, if◌then◌else◌, ⊤}
+use Rattle.std.specs.Prelude.{◌≡◌, ℕ, ◌+◌, ◌-◌, ◌*◌, ◌^◌, ◌<◌, ◌≤◌, ◌==◌, ◌&&◌, nat_lt, nat_le, if◌then◌else◌, not, Bool, true, false, ⊤}
 use Rattle.fkv_base.specs.Limits.{max_overflow}
 use Rattle.fkv_plane.specs.declared.asks.Ask.{Ask}
 use Rattle.fkv_plane.specs.declared.asks.Ask.TheVariants.{Load, Cas, Done}
@@ -11,10 +11,10 @@ use Rattle.fkv_index.specs.declared.homes.Home.{Home}
 use Rattle.fkv_index.specs.declared.slot_words.SlotWord.{SlotWord}
 use Rattle.fkv_index.specs.declared.slot_words.SlotWord.TheVariants.{Empty, Tagged, Spoiled}
 use Rattle.fkv_index.specs.declared.finding.Purpose.{Purpose}
-use Rattle.fkv_index.specs.declared.finding.Purpose.TheVariants.{Read, Update}
+use Rattle.fkv_index.specs.declared.finding.Purpose.TheVariants.{Read, Update, UpdateWithin}
 use Rattle.fkv_index.specs.declared.finding.Linking.{Linking}
-use Rattle.fkv_index.specs.declared.finding.Linking.TheVariants.{Never, Once, Made}
-use Rattle.fkv_index.specs.declared.finding.Found.TheVariants.{Slot, NoSlot, Full, Contended}
+use Rattle.fkv_index.specs.declared.finding.Linking.TheVariants.{Never, Once, Within, Made}
+use Rattle.fkv_index.specs.declared.finding.Found.TheVariants.{Slot, NoSlot, Full, Kept, Contended}
 use Rattle.fkv_index.specs.declared.finding.FindAnswer.{FindAnswer}
 use Rattle.fkv_index.specs.declared.finding.FindStep.{FindStep}
 use Rattle.fkv_index.specs.declared.finding.FindStep.TheVariants.{AtRest, LoadsSlot, LoadsLink, LoadsTaken, TakesBucket, LinksBucket}
@@ -37,6 +37,7 @@ rested spare = record { home = record { bucket = 0; tag = 0 }; base = 0; links =
 abbrev pub linking_for : Purpose → Linking
 linking_for Read = Never
 linking_for Update = Once
+linking_for (UpdateWithin bound) = Within bound
 
 -- a spare is one of the overflow buckets, and else none
 abbrev pub spare_of : Places → ℕ → ℕ
@@ -72,18 +73,29 @@ slot_led f slot word Spoiled = Ends f Contended
 abbrev pub entered : Places → Finding → ℕ → Led
 entered p f number = if nat_lt 0 f.links && nat_le number p.overflow then On (record f { base = overflow_place p number 0; links = f.links - 1; step = LoadsSlot 0 }) else Ends f Contended
 
--- no bucket follows: a read has found nothing, and an update links its spare, or takes a bucket before that. It links one and no more
+-- no bucket follows: a read has found nothing, and an update links its spare, or takes a bucket before that. It links one and no more. Within a bound
+-- it loads the count before either
 abbrev pub ended_list : Finding → ℕ → Linking → Led
 ended_list f word Never = Ends f NoSlot
 ended_list f word Once = On (record f { step = if f.spare == 0 then LoadsTaken word else LinksBucket word })
+ended_list f word (Within bound) = On (record f { step = LoadsTaken word })
 ended_list f word Made = Ends f Contended
 
 abbrev pub link_led : Places → Finding → ℕ → Led
 link_led p f word = if link_of word == 0 then ended_list f word f.linking else entered p f (link_of word)
 
 -- where all overflow buckets are taken there is none left
+abbrev pub takes_led : Places → Finding → ℕ → ℕ → Led
+takes_led p f word taken = if nat_lt taken p.overflow then On (record f { step = TakesBucket word taken }) else Ends f Full
+
+-- within a bound no bucket is linked where as many are taken
+abbrev pub is_kept : Linking → ℕ → Bool
+is_kept (Within bound) taken = nat_le bound taken
+is_kept linking taken = false
+
+-- the spare is linked, and else a bucket is taken before that
 abbrev pub taken_led : Places → Finding → ℕ → ℕ → Led
-taken_led p f word taken = if nat_lt taken p.overflow then On (record f { step = TakesBucket word taken }) else Ends f Full
+taken_led p f word taken = if is_kept f.linking taken then Ends f Kept else if f.spare == 0 then takes_led p f word taken else On (record f { step = LinksBucket word })
 
 -- the bucket after the last that was taken is the session's spare
 abbrev pub took_led : Finding → ℕ → ℕ → ℕ → Led
@@ -117,11 +129,21 @@ find_next p f reply = led_to (find_led p f f.step reply)
 abbrev pub find_next_ask : Places → Finding → ℕ → Ask FindAnswer
 find_next_ask p f reply = led_ask (find_led p f f.step reply)
 
--- the asks of a link that may still be made: two for the bucket, and one for the link
+-- the asks of a link that may still be made: two for the count and the bucket, and one for the link
 abbrev pub linking_asks : Linking → ℕ
 linking_asks Never = 0
 linking_asks Once = 3
+linking_asks (Within bound) = 3
 linking_asks Made = 0
+
+-- the search has linked a bucket
+abbrev pub is_made : Linking → Bool
+is_made Made = true
+is_made linking = false
+
+-- it has followed a link, and made none: so it is in an overflow bucket that others have linked
+abbrev pub is_beyond : Places → Finding → Bool
+is_beyond p f = nat_lt f.links p.overflow && not (is_made f.linking)
 
 -- how many asks a search makes at most: eight for each bucket that it may still pass, and those of a link
 unfoldable pub step_asks_left : Finding → FindStep → ℕ

@@ -9,7 +9,7 @@ use Rattle.fkv_plane.specs.Asked.{word_at, reply_to}
 use Rattle.fkv_index.specs.declared.homes.Home.{Home}
 use Rattle.fkv_index.specs.declared.finding.Purpose.TheVariants.{Read}
 use Rattle.fkv_index.specs.declared.finding.Found.{Found}
-use Rattle.fkv_index.specs.declared.finding.Found.TheVariants.{Slot, NoSlot, Full, Contended}
+use Rattle.fkv_index.specs.declared.finding.Found.TheVariants.{Slot, NoSlot, Full, Kept, Contended}
 use Rattle.fkv_index.specs.declared.finding.FindAnswer.{FindAnswer}
 use Rattle.fkv_index.specs.declared.finding.Linking.TheVariants.{Made}
 use Rattle.fkv_index.specs.declared.finding.FindStep.{FindStep}
@@ -106,6 +106,7 @@ abbrev pub IsTrue : Places → List ℕ → (ℕ → List ℕ) → Home → Foun
 IsTrue p words lists home (Slot place word) = (word_at words place ≡ word) × HasSlot p (bucket_words p words) lists home place word × (word ≡ 0 → LacksEntry p words lists home)
 IsTrue p words lists home NoSlot = LacksEntry p words lists home
 IsTrue p words lists home Full = p.overflow ≤ taken_of words
+IsTrue p words lists home Kept = ⊤
 IsTrue p words lists home Contended = ⊤
 
 abbrev pub IsTrueAnswer : Places → List ℕ → (ℕ → List ℕ) → Home → Ask FindAnswer → Type 0

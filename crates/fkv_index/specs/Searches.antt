@@ -6,9 +6,9 @@ use Rattle.fkv_plane.specs.declared.places.SharedWord.TheVariants as one
 use Rattle.fkv_plane.specs.Places.{shared_place, bucket_place}
 use Rattle.fkv_plane.specs.Asked.{word_at, reply_to}
 use Rattle.fkv_index.specs.declared.finding.Purpose.{Purpose}
-use Rattle.fkv_index.specs.declared.finding.Purpose.TheVariants.{Read, Update}
+use Rattle.fkv_index.specs.declared.finding.Purpose.TheVariants.{Read, Update, UpdateWithin}
 use Rattle.fkv_index.specs.declared.finding.Found.{Found}
-use Rattle.fkv_index.specs.declared.finding.Found.TheVariants.{NoSlot, Full, Contended}
+use Rattle.fkv_index.specs.declared.finding.Found.TheVariants.{NoSlot, Full, Kept, Contended}
 use Rattle.fkv_index.specs.declared.finding.FindAnswer.{FindAnswer}
 use Rattle.fkv_index.specs.declared.finding.FindStep.TheVariants.{LoadsSlot, LoadsLink}
 use Rattle.fkv_index.specs.declared.finding.Finding.{Finding}
@@ -49,10 +49,13 @@ abbrev pub SearchesWrite : IndexWorld → Type 0
 SearchesWrite w = (actor : ℕ) (x : IndexActor) → slice_get w.now.actors actor ≡ Some x → x.work ≡ Seeks
     → IsSearchStep w.now.places w.now.words (index_happens w (Moves actor)).now.words w.lists (index_happens w (Moves actor)).lists x.finding.home.bucket (spare_at w.now.actors actor)
 
--- only a search for a read comes to no slot, and only one for an update finds all overflow buckets taken
+-- only a search for a read comes to no slot, only one for an update finds all overflow buckets taken, and only one within a bound as many as that
 abbrev pub IsFoundFor : Purpose → Found → Type 0
 IsFoundFor Read Full = ⊥
+IsFoundFor Read Kept = ⊥
 IsFoundFor Update NoSlot = ⊥
+IsFoundFor Update Kept = ⊥
+IsFoundFor (UpdateWithin bound) NoSlot = ⊥
 IsFoundFor purpose found = ⊤
 
 -- each search comes to what one of its purpose may come to

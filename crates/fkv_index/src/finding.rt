@@ -1,7 +1,7 @@
 //! How the slot of a home is found.
 ghost use Rattle.std.specs.Prelude.{◌≡◌, ◌+◌, ◌*◌, ◌^◌, ◌<◌, ◌≤◌};
 ghost use Rattle.fkv_index.specs.Slots.{bucket_slots, slot_word, link_of, home_of};
-ghost use Rattle.fkv_index.specs.Finding.{rested, first_finding, linking_for, find_ask, find_next, find_next_ask, find_led, slot_led, slot_after, entered, ended_list, link_led, taken_led, took_led, linked_led, asks_left, IsInRange, IsLedInRange};
+ghost use Rattle.fkv_index.specs.Finding.{rested, first_finding, linking_for, is_made, is_beyond, is_kept, find_ask, find_next, find_next_ask, find_led, slot_led, slot_after, entered, ended_list, link_led, takes_led, taken_led, took_led, linked_led, asks_left, IsInRange, IsLedInRange};
 ghost use Rattle.fkv_index.specs.Counted.{IsCounted};
 
 use crate::homes::{Home, home_of};
@@ -15,6 +15,8 @@ use std::marker::Model;
 pub enum Purpose {
     Read,
     Update,
+    /// An update that links no bucket where so many overflow buckets are taken.
+    UpdateWithin(u64),
 }
 
 /// What a search has come to.
@@ -27,6 +29,9 @@ pub enum Found {
     /// Of an update: all overflow buckets are taken, the session has none to spare, and the last bucket that was searched is
     /// full of other entries. Another may have linked a bucket behind that one since.
     Full,
+    /// Of an update within a bound: as many overflow buckets are taken as the bound says, and the last bucket that was searched is
+    /// full of other entries. Another may have linked a bucket behind that one since.
+    Kept,
     /// Another actor was first, or the machine is at rest.
     Contended,
 }
@@ -43,6 +48,8 @@ pub struct FindAnswer {
 pub(crate) enum Linking {
     Never,
     Once,
+    /// Once, where fewer overflow buckets are taken than this.
+    Within(u64),
     Made,
 }
 
@@ -52,7 +59,7 @@ pub(crate) enum FindStep {
     AtRest,
     LoadsSlot(usize),
     LoadsLink,
-    /// The eighth word, which leads nowhere, is kept from here on.
+    /// The eighth word, which leads nowhere, is kept from here on. Within a bound a spare may be there too.
     LoadsTaken(u64),
     TakesBucket(u64, u64),
     LinksBucket(u64),
@@ -166,6 +173,13 @@ impl Find {
         }
     }
 
+    /// Whether its last search has followed a link, and made none.
+    pub fn is_beyond(&self) -> bool
+        ensures { result ≡ is_beyond self.now.places self.now.finding }
+    {
+        self.finding.links < self.places.overflow && !is_made(self.finding.linking)
+    }
+
     /// What it asks now.
     #[tactic(auto, unfolding(crate::specs::Finding::find_step_ask, crate::specs::Finding::step_asks_left))]
     pub fn ask(&self) -> Ask<FindAnswer>
@@ -187,6 +201,13 @@ impl Find {
             FindStep::LinksBucket(word) => Ask::Cas(f.base + BUCKET_SLOTS, word, word + f.spare),
         }
     }
+}
+
+/// Whether the search has linked a bucket.
+fn is_made(linking: Linking) -> bool
+    ensures { result ≡ is_made linking }
+{
+    matches!(linking, Linking::Made)
 }
 
 /// What a machine at rest has in place of a search.
@@ -213,6 +234,7 @@ fn linking_for(purpose: Purpose) -> Linking
     match purpose {
         Purpose::Read => Linking::Never,
         Purpose::Update => Linking::Once,
+        Purpose::UpdateWithin(bound) => Linking::Within(bound),
     }
 }
 
@@ -290,6 +312,10 @@ fn ended_list(f: Finding, word: u64) -> Led
             };
             Led::On(Finding { step, ..f })
         }
+        Linking::Within(_) => Led::On(Finding {
+            step: FindStep::LoadsTaken(word),
+            ..f
+        }),
         Linking::Made => Led::Ends(f, Found::Contended),
     }
 }
@@ -311,9 +337,35 @@ fn entered(places: &Places, f: Finding, number: u64) -> Led
     }
 }
 
-/// A bucket is taken, where one is left.
+/// Whether so many are taken that the search links none.
+fn is_kept(linking: Linking, taken: u64) -> bool
+    ensures { result ≡ is_kept linking taken }
+{
+    match linking {
+        Linking::Within(bound) => bound <= taken,
+        _ => false,
+    }
+}
+
+/// The spare is linked, or a bucket is taken before that; or none is linked.
 fn taken_led(places: &Places, f: Finding, word: u64, taken: u64) -> Led
     ensures { result ≡ taken_led places.now f word taken }
+{
+    if is_kept(f.linking, taken) {
+        Led::Ends(f, Found::Kept)
+    } else if f.spare == 0 {
+        takes_led(places, f, word, taken)
+    } else {
+        Led::On(Finding {
+            step: FindStep::LinksBucket(word),
+            ..f
+        })
+    }
+}
+
+/// A bucket is taken, where one is left.
+fn takes_led(places: &Places, f: Finding, word: u64, taken: u64) -> Led
+    ensures { result ≡ takes_led places.now f word taken }
 {
     if taken < places.overflow as u64 {
         Led::On(Finding {

@@ -68,7 +68,7 @@ fn new_words(alloc: Global, shape: &Shape) -> Result<PlainWords, Fault> {
 /// Takes the next address, and writes a record there whose key is the address, and its value ten times that.
 fn append(plane: &mut PlainWords, shape: &Shape) {
     let mut reserve = Reserve::new(shape);
-    let mut ask = reserve.start();
+    let mut ask = reserve.start(None);
     let mut taken = None;
     for _ in 0..4 {
         ask = match ask {

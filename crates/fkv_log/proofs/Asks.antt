@@ -1,7 +1,8 @@
 -- A machine is at rest, or it asks for something; and what it asks next, short of its end, is what the state asks that it comes to. A load that
 -- has header and key pauses besides.
-use Rattle.std.proofs.Common.{◌≡◌, ℕ, ◌⊎◌, ◌/◌, refl, sym, inl, inr, ◌∙◌, ap, Bool, true, false}
-use Rattle.std.specs.Prelude.{nat_lt, nat_le}
+use Rattle.std.proofs.Common.{◌≡◌, ℕ, ◌<◌, ◌≤◌, ◌⊎◌, ◌/◌, refl, arith, sym, inl, inr, ◌∙◌, ap, Bool, true, false}
+use Rattle.std.specs.Prelude.{nat_lt, nat_le, if◌then◌else◌, Option, Some, None}
+use Rattle.std.proofs.lemmas.Bool.Decides.{nat_tests}
 use Rattle.fkv_base.specs.Limits.{last_epoch}
 use Rattle.fkv_base.specs.declared.numbers.Addr.{Addr}
 use Rattle.fkv_base.specs.declared.shapes.Shape.{Shape}
@@ -38,7 +39,7 @@ use Rattle.fkv_log.specs.declared.turning.TurnForm.{TurnForm}
 use Rattle.fkv_log.specs.declared.turning.TurnForm.TheVariants as form
 use Rattle.fkv_log.specs.declared.turning.Turning.{Turning}
 use Rattle.fkv_log.specs.declared.turning.Turning.TheVariants as turn
-use Rattle.fkv_log.specs.Reserving.{reserve_ask}
+use Rattle.fkv_log.specs.Reserving.{reserve_ask, limit_within}
 use Rattle.fkv_log.specs.Filling.{fill_ask}
 use Rattle.fkv_log.specs.Invalidating.{invalidate_ask}
 use Rattle.fkv_log.specs.Loading.{load_ask}
@@ -58,6 +59,15 @@ pub reserve_asks : (step : Reserving) → (step ≡ reserve.AtRest) ⊎ (is_done
 unfolding reserve_ask
 reserve_asks reserve.AtRest = inl refl
 reserve_asks step = inr refl
+
+-- a bound never raises the limit
+pub within_low : (bound : Option ℕ) (limit : ℕ) → limit_within bound limit ≤ limit
+within_low None limit = omega arith
+within_low (Some bound) limit = tested (nat_lt bound limit) refl
+  where
+    tested : (b : Bool) → nat_lt bound limit ≡ b → (if b then bound else limit) ≤ limit
+    tested true e = let low : bound < limit = grind (arith, nat_tests, e) in omega (arith, low)
+    tested false e = omega arith
 
 pub fill_asks : (places : Places) (step : Filling) → (step ≡ fill.AtRest) ⊎ (is_done (fill_ask places step) ≡ false)
 unfolding fill_ask

@@ -39,7 +39,7 @@ reserve_fewer step reply = omega arith
 pub reserve_falls : (room : ℕ) (step : Reserving) (reply : ℕ) → is_done (reserve_next_ask room step reply) ≡ false → reserve_asks_left (reserve_next step reply) < reserve_asks_left step
 unfolding reserve_ask reserve_next reserve_next_ask reserve_asks_left
 reserve_falls room reserve.AtRest reply asks = never asks
-reserve_falls room reserve.LoadsLimit reply asks = omega arith
+reserve_falls room (reserve.LoadsLimit bound) reply asks = omega arith
 reserve_falls room (reserve.LoadsTail limit) reply asks = tested (nat_lt reply limit)
   where
     tested : (b : Bool) → reserve_asks_left (if b then reserve.TakesTail reply else reserve.AtRest) < 2

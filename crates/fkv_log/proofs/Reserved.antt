@@ -9,6 +9,7 @@ use Rattle.fkv_log.specs.declared.reserving.Reserving.TheVariants.{AtRest, Loads
 use Rattle.fkv_log.specs.declared.reserving.ReserveAnswer.TheVariants.{Reserved, Full, NoRoom, Contended}
 use Rattle.fkv_plane.specs.declared.asks.Ask.TheVariants.{Done}
 use Rattle.fkv_log.specs.Reserving.{reserve_ask, reserve_next, reserve_next_ask}
+use Rattle.fkv_log.proofs.Asks.{within_low}
 use Rattle.fkv_log.specs.Reserved.{TailEvent, Begins, Moves, Changes, Reservation, TailWorld, tail_of, limit_of, bars_tail, is_barred, IsOpened, moved, reserved_of, reserved_by, tail_happens, tail_run, opening, RiseTo, AreReservedOnce, ReservesTail, Stays}
 
 -- a step of the machine takes the address of the tail, or leaves all as it is
@@ -17,7 +18,7 @@ pub taken_or_left : (room actor : ℕ) (words : List ℕ) (step : Reserving)
     ⊎ Stays words (words_after words (reserve_ask step)) (reserved_by actor (reserve_next_ask room step (reply_to words (reserve_ask step))))
 unfolding reserve_ask reserve_next reserve_next_ask
 taken_or_left room actor words AtRest = inr (record { words_stay = refl; no_address = refl })
-taken_or_left room actor words LoadsLimit = inr (record { words_stay = set-get_or words 4 0; no_address = refl })
+taken_or_left room actor words (LoadsLimit bound) = inr (record { words_stay = set-get_or words 4 0; no_address = refl })
 taken_or_left room actor words (LoadsTail limit) = inr (record { words_stay = set-get_or words 3 0; no_address = refused (nat_lt (tail_of words) limit) (tail_of words == room) })
   where
     refused : (below at_end : Bool) → reserved_by actor (if below then reserve_ask (TakesTail (tail_of words)) else Done (if at_end then Full else NoRoom)) ≡ []
@@ -47,14 +48,14 @@ Knows limit step = ⊤
 
 knows_more : (limit higher : ℕ) (step : Reserving) → limit ≤ higher → Knows limit step → Knows higher step
 knows_more limit higher AtRest h k = tt
-knows_more limit higher LoadsLimit h k = tt
+knows_more limit higher (LoadsLimit bound) h k = tt
 knows_more limit higher (LoadsTail loaded) h k = omega (arith, h, k)
 knows_more limit higher (TakesTail tail) h k = omega (arith, h, k)
 
 next_knows : (words : List ℕ) (step : Reserving) → Knows (limit_of words) step → Knows (limit_of words) (reserve_next step (reply_to words (reserve_ask step)))
 unfolding reserve_ask reserve_next
 next_knows words AtRest k = tt
-next_knows words LoadsLimit k = omega arith
+next_knows words (LoadsLimit bound) k = within_low bound (limit_of words)
 next_knows words (LoadsTail loaded) k = tested (nat_lt (tail_of words) loaded) refl
   where
     tested : (b : Bool) → nat_lt (tail_of words) loaded ≡ b → Knows (limit_of words) (if b then TakesTail (tail_of words) else AtRest)
@@ -70,7 +71,7 @@ pub record StaysBelow (words after : List ℕ) : Type 0 where
 stays_below : (words : List ℕ) (step : Reserving) → 4 < length words → tail_of words ≤ limit_of words → Knows (limit_of words) step → StaysBelow words (words_after words (reserve_ask step))
 unfolding reserve_ask
 stays_below words AtRest enough h k = record { same_limit = refl; below = h }
-stays_below words LoadsLimit enough h k = rw (set-get_or words 4 0) (record { same_limit = refl; below = h })
+stays_below words (LoadsLimit bound) enough h k = rw (set-get_or words 4 0) (record { same_limit = refl; below = h })
 stays_below words (LoadsTail loaded) enough h k = rw (set-get_or words 3 0) (record { same_limit = refl; below = h })
 stays_below words (TakesTail tail) enough h k = won (tail_of words == tail)
   where
@@ -183,11 +184,11 @@ changes_sound first w place word e sound =
 
 pub happens_sound : (first : ℕ) (w : TailWorld) (event : TailEvent) → IsSound first w → IsSound first (tail_happens w event)
 unfolding tail_happens
-happens_sound first w (Begins actor) sound = record {
+happens_sound first w (Begins actor bound) sound = record {
   enough_words = sound.enough_words;
   rises = sound.rises;
   below = sound.below;
-  knows = each_set (Knows (limit_of w.now.words)) w.now.actors actor LoadsLimit tt sound.knows;
+  knows = each_set (Knows (limit_of w.now.words)) w.now.actors actor (LoadsLimit bound) tt sound.knows;
 }
 happens_sound first w (Moves actor) sound = moved_sound first w actor (slice_get w.now.actors actor) refl sound
 happens_sound first w (Changes place word) sound = cases (is_barred w.now.words place word) refl

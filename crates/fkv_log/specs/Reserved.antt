@@ -13,8 +13,8 @@ use Rattle.fkv_log.specs.Reserving.{reserve_ask, reserve_next, reserve_next_ask}
 
 -- What may happen next.
 pub data TailEvent : Type 0 where
-  -- the actor begins to reserve an address
-  Begins : ℕ → TailEvent
+  -- the actor begins to reserve an address, below a bound where there is one
+  Begins : ℕ → Option ℕ → TailEvent
   -- the actor makes its one ask
   Moves : ℕ → TailEvent
   -- somebody else changes a word, but for what is barred
@@ -50,8 +50,8 @@ bars_tail words word = nat_lt word (tail_of words) || nat_lt (limit_of words) wo
 abbrev pub is_barred : List ℕ → ℕ → ℕ → Bool
 is_barred words place word = (place == shared_place one.Tail && bars_tail words word) || (place == shared_place one.Limit && nat_lt word (limit_of words))
 
-abbrev pub begun : TailNow → ℕ → TailNow
-begun n actor = record n { actors = slice_set n.actors actor LoadsLimit }
+abbrev pub begun : TailNow → ℕ → Option ℕ → TailNow
+begun n actor bound = record n { actors = slice_set n.actors actor (LoadsLimit bound) }
 
 -- one ask of the machine, by the machine's own tables
 abbrev pub moved : TailNow → ℕ → Option Reserving → TailNow
@@ -59,7 +59,7 @@ moved n actor None = n
 moved n actor (Some step) = record n { words = words_after n.words (reserve_ask step); actors = slice_set n.actors actor (reserve_next step (reply_to n.words (reserve_ask step))) }
 
 abbrev pub tail_happens_now : TailNow → TailEvent → TailNow
-tail_happens_now n (Begins actor) = begun n actor
+tail_happens_now n (Begins actor bound) = begun n actor bound
 tail_happens_now n (Moves actor) = moved n actor (slice_get n.actors actor)
 tail_happens_now n (Changes place word) = if is_barred n.words place word then n else record n { words = slice_set n.words place word }
 

@@ -25,6 +25,6 @@ pub use locating::{region, seen_region};
 pub use moving::{MoveAnswer, MoveOffset, Offset};
 pub use record_words::RecordWords;
 pub use regions::{Region, SeenOffsets};
-pub use reserving::{Reserve, ReserveAnswer};
+pub use reserving::{Reserve, ReserveAnswer, limit_within};
 pub use shifting::{ShiftAnswer, ShiftReadOnly};
 pub use turning::{TurnForm, TurnPage};

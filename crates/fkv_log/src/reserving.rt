@@ -1,6 +1,6 @@
 //! How an address is reserved at the tail of the log.
 ghost use Rattle.std.specs.Prelude.{◌≡◌, ◌≤◌, ◌-◌, ◌*◌};
-ghost use Rattle.fkv_log.specs.Reserving.{reserved_where};
+ghost use Rattle.fkv_log.specs.Reserving.{limit_within, reserved_where};
 
 use fkv_base::{Addr, Shape};
 use fkv_plane::{Ask, SharedWord};
@@ -10,7 +10,8 @@ use std::marker::Model;
 #[derive(Clone, Copy)]
 pub(crate) enum Reserving {
     AtRest,
-    LoadsLimit,
+    /// No address from this bound on is to be had, where there is one.
+    LoadsLimit(Option<u64>),
     LoadsTail(u64),
     TakesTail(u64),
 }
@@ -22,7 +23,7 @@ pub enum ReserveAnswer {
     Reserved(Addr),
     /// The tail stood at the end of the log: the device has no page for another record.
     Full,
-    /// The tail stood at the limit: the page after it isn't open yet.
+    /// The tail stood at the limit: the page after it isn't open yet. Or it stood at the bound.
     NoRoom,
     /// Another actor moved the tail first, or the machine is at rest.
     Contended,
@@ -67,14 +68,14 @@ impl Reserve {
         self.step = Reserving::AtRest;
     }
 
-    /// The first ask.
+    /// The first ask, for an address below this bound, where there is one.
     #[tactic(auto, unfolding(crate::specs::Reserving::reserve_ask, crate::specs::Reserving::reserve_asks_left))]
-    pub fn start(&mut self) -> Ask<ReserveAnswer>
-        ensures next { self.new ≡ record self.old { step = LoadsLimit } }
-        ensures ask { result ≡ reserve_ask LoadsLimit }
+    pub fn start(&mut self, bound: Option<u64>) -> Ask<ReserveAnswer>
+        ensures next { self.new ≡ record self.old { step = LoadsLimit bound } }
+        ensures ask { result ≡ reserve_ask (LoadsLimit bound) }
         ensures bounded { reserve_asks_left self.new.step ≤ 3 }
     {
-        self.step = Reserving::LoadsLimit;
+        self.step = Reserving::LoadsLimit(bound);
         Ask::Load(SharedWord::Limit.place())
     }
 
@@ -86,7 +87,9 @@ impl Reserve {
         ensures fewer { reserve_asks_left self.new.step ≤ reserve_asks_left self.old.step - 1 }
     {
         match self.step {
-            Reserving::LoadsLimit => self.step = Reserving::LoadsTail(reply),
+            Reserving::LoadsLimit(bound) => {
+                self.step = Reserving::LoadsTail(limit_within(bound, reply));
+            }
             Reserving::LoadsTail(limit) => {
                 if reply >= limit {
                     self.step = Reserving::AtRest;
@@ -121,10 +124,21 @@ impl Reserve {
     {
         match self.step {
             Reserving::AtRest => Ask::Done(ReserveAnswer::Contended),
-            Reserving::LoadsLimit => Ask::Load(SharedWord::Limit.place()),
+            Reserving::LoadsLimit(_) => Ask::Load(SharedWord::Limit.place()),
             Reserving::LoadsTail(_) => Ask::Load(SharedWord::Tail.place()),
             Reserving::TakesTail(tail) => Ask::Cas(SharedWord::Tail.place(), tail, tail + 1),
         }
+    }
+}
+
+/// The limit counts up to the bound, where there is one.
+#[inline]
+pub fn limit_within(bound: Option<u64>, limit: u64) -> u64
+    ensures { result ≡ limit_within bound limit }
+{
+    match bound {
+        Some(bound) if bound < limit => bound,
+        _ => limit,
     }
 }
 

@@ -1,5 +1,5 @@
 -- An append asks just where it has asks left, and each reply leaves fewer.
-use Rattle.std.proofs.Common.{◌≡◌, ℕ, ◌+◌, ◌<◌, ◌≤◌, ◌^◌, refl, arith, Bool, true, false}
+use Rattle.std.proofs.Common.{◌≡◌, ℕ, ◌+◌, ◌<◌, ◌≤◌, ◌^◌, refl, arith, Bool, true, false, Option}
 use Rattle.std.specs.Prelude.{◌&&◌, nat_lt, if◌then◌else◌}
 use Rattle.fkv_base.specs.declared.numbers.Addr.{Addr}
 use Rattle.fkv_plane.specs.declared.asks.Ask.{Ask}
@@ -39,9 +39,9 @@ appending_left p a Invalidates = passed_alone (invalidate_asks_left a.invalidati
 pub append_left : (p : Places) (a : AppendState) → AsksWhereLeft (append_asks_left a) (append_ask p a)
 append_left p a = appending_left p a a.step
 
-pub append_begun_left : (slot : FoundSlot) (its_words : RecordWords) → append_asks_left (append_begun slot its_words) ≡ 8
+pub append_begun_left : (slot : FoundSlot) (its_words : RecordWords) (bound : Option ℕ) → append_asks_left (append_begun slot its_words bound) ≡ 8
 unfolding appending_asks_left sum_left reserve_asks_left
-append_begun_left slot its_words = refl
+append_begun_left slot its_words bound = refl
 
 addr_reserved_left : (a : AppendState) (addr : Addr) → append_asks_left (addr_reserved a addr) ≤ 3 + 1 + 1
 unfolding appending_asks_left sum_left fill_asks_left

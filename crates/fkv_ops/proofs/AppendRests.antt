@@ -1,5 +1,5 @@
 -- An append that has begun is at its end, or it asks.
-use Rattle.std.proofs.Common.{◌≡◌, ℕ, ◌+◌, ◌<◌, ◌^◌, refl, sym, ◌∙◌, arith, Bool, true, false}
+use Rattle.std.proofs.Common.{◌≡◌, ℕ, ◌+◌, ◌<◌, ◌^◌, refl, sym, ◌∙◌, arith, Bool, true, false, Option}
 use Rattle.std.specs.Prelude.{◌&&◌, nat_lt, if◌then◌else◌, ⊤}
 use Rattle.fkv_base.specs.declared.numbers.Addr.{Addr}
 use Rattle.fkv_plane.specs.declared.asks.Ask.{Ask}
@@ -62,12 +62,12 @@ pub append_done : (p : Places) (a : AppendState) → AppendRestsOrAsks a → is_
 append_done p a at = appending_done p a a.step at
 
 -- as it begins it asks
-pub append_begun_under_way : (slot : FoundSlot) (its_words : RecordWords) → IsAppendUnderWay (append_begun slot its_words)
+pub append_begun_under_way : (slot : FoundSlot) (its_words : RecordWords) (bound : Option ℕ) → IsAppendUnderWay (append_begun slot its_words bound)
 unfolding reserve_asks_left
-append_begun_under_way slot its_words = record { asks = omega arith; goes_on = refl }
+append_begun_under_way slot its_words bound = record { asks = omega arith; goes_on = refl }
 
-pub append_begun_asks : (p : Places) (slot : FoundSlot) (its_words : RecordWords) → is_done (append_ask p (append_begun slot its_words)) ≡ false
-append_begun_asks p slot its_words = append_done p (append_begun slot its_words) (append_begun_under_way slot its_words).asks
+pub append_begun_asks : (p : Places) (slot : FoundSlot) (its_words : RecordWords) (bound : Option ℕ) → is_done (append_ask p (append_begun slot its_words bound)) ≡ false
+append_begun_asks p slot its_words bound = append_done p (append_begun slot its_words bound) (append_begun_under_way slot its_words bound).asks
 
 addr_reserved_rests : (a : AppendState) (addr : Addr) → AppendRestsOrAsks (addr_reserved a addr)
 unfolding fill_asks_left
@@ -80,7 +80,7 @@ addr_reserved_rests a addr = tested (nat_lt a.its_words.header.previous.0 addr.0
 reserve_next_some : (room : ℕ) (step : Reserving) (reply : ℕ) → is_done (reserve_next_ask room step reply) ≡ false → 0 < reserve_asks_left (reserve_next step reply)
 unfolding reserve_ask reserve_next reserve_next_ask reserve_asks_left
 reserve_next_some room reserving.AtRest reply asks = never asks
-reserve_next_some room reserving.LoadsLimit reply asks = omega arith
+reserve_next_some room (reserving.LoadsLimit bound) reply asks = omega arith
 reserve_next_some room (reserving.LoadsTail limit) reply asks = tested (nat_lt reply limit) asks
   where
     tested : (b : Bool) → is_done (if b then reserve_ask (reserving.TakesTail reply) else Done (no_room_at room reply)) ≡ false → 0 < reserve_asks_left (if b then reserving.TakesTail reply else reserving.AtRest)

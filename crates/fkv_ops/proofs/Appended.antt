@@ -1,6 +1,6 @@
 -- What an append knows at each of its steps, and what it has come to at its end.
 use Rattle.std.proofs.Common.{◌≡◌, ℕ, ◌+◌, ◌*◌, ◌<◌, ◌≤◌, ◌^◌, ◌⊎◌, refl, inl, inr, arith, sym, ap, ◌∙◌, subst, Bool, true, false}
-use Rattle.std.specs.Prelude.{◌≢◌, ◌==◌, ◌&&◌, nat_lt, if◌then◌else◌, ⊤}
+use Rattle.std.specs.Prelude.{◌≢◌, ◌==◌, ◌&&◌, nat_lt, if◌then◌else◌, Option, Some, None, ⊤}
 use Rattle.fkv_base.specs.declared.numbers.Addr.{Addr}
 use Rattle.fkv_marks.specs.Marks.{mark}
 use Rattle.fkv_words.specs.declared.headers.Header.{Header}
@@ -20,7 +20,7 @@ use Rattle.fkv_log.specs.declared.reserving.Reserving.TheVariants.{AtRest as Res
 use Rattle.fkv_log.specs.declared.filling.Filling.{Filling}
 use Rattle.fkv_log.specs.declared.filling.Filling.TheVariants.{AtRest as RestsFilling, StoresValue, StoresKey, StoresHeader}
 use Rattle.fkv_log.specs.declared.invalidating.Invalidating.TheVariants as invalidate
-use Rattle.fkv_log.specs.Reserving.{reserve_ask, reserve_next, reserve_next_ask, no_room_at}
+use Rattle.fkv_log.specs.Reserving.{reserve_ask, limit_within, reserve_next, reserve_next_ask, no_room_at}
 use Rattle.fkv_log.specs.Filling.{fill_begun, fill_ask, fill_next}
 use Rattle.fkv_log.specs.Invalidating.{invalidated, invalidate_ask, invalidate_next}
 use Rattle.fkv_index.specs.declared.publishing.PublishAnswer.TheVariants as publish
@@ -35,8 +35,11 @@ use Rattle.fkv_ops.specs.declared.appending.AppendAnswer.TheVariants as append
 use Rattle.fkv_ops.specs.declared.appending.Appending.{Appending}
 use Rattle.fkv_ops.specs.declared.appending.Appending.TheVariants.{Ended, Reserves, Fills, Publishes, Invalidates}
 use Rattle.fkv_ops.specs.Appending.{AppendState, append_begun, appending_ask, append_ask, addr_reserved, reserve_ledto, fill_ledto, publish_ledto, invalidate_ledto, appending_next, append_next}
+use Rattle.fkv_ops.specs.declared.bounds.Bounds.{Bounds}
+use Rattle.fkv_ops.specs.Bounds.{bounds_at, tail_bound}
+use Rattle.fkv_ops.specs.Requests.{is_read}
 use Rattle.fkv_ops.specs.TryRun.{Trial, home_at, Told}
-use Rattle.fkv_ops.specs.Reasons.{Loaded, IsStored, Won, IsLost, HasEntry, HasNoRoom, IsContended, TailLost, EntryLost, NoStore, NoAddress}
+use Rattle.fkv_ops.specs.Reasons.{Loaded, IsStored, Won, IsLost, HasEntry, HasNoRoom, IsPastTail, IsContended, TailLost, EntryLost, NoStore, NoAddress}
 use Rattle.fkv_ops.proofs.BoolTests.{lt_true, lt_false, eq_true, eq_false}
 
 -- the address was reserved, and an entry can have it
@@ -45,10 +48,17 @@ pub record IsReserved (c : Trial) (told : Told) (slot : FoundSlot) (addr : Addr)
   pub above : entry_addr slot.entry < addr.0
   pub fits : addr.0 < 2 ^ 48
 
+-- the limit as it counts for the request: up to its bound, where it has one
+pub record HasLimit (c : Trial) (told : Told) (limit : ℕ) : Type 0 where
+  pub update : is_read c.request.op ≡ false
+  pub word : ℕ
+  pub its_word : Loaded told (shared_place one.Limit) word
+  pub its : limit ≡ limit_within (tail_bound (bounds_at c.occasion)) word
+
 abbrev pub ReserveRow : Trial → Told → Reserving → Type 0
 ReserveRow c told RestsReserving = ⊥
-ReserveRow c told LoadsLimit = ⊤
-ReserveRow c told (LoadsTail limit) = Loaded told (shared_place one.Limit) limit
+ReserveRow c told (LoadsLimit bound) = (is_read c.request.op ≡ false) × (bound ≡ tail_bound (bounds_at c.occasion))
+ReserveRow c told (LoadsTail limit) = HasLimit c told limit
 ReserveRow c told (TakesTail tail) = Loaded told (shared_place one.Tail) tail
 
 -- the words that are stored so far
@@ -70,8 +80,8 @@ is_publishing step = false
 
 abbrev pub AppendEnd : Trial → Told → Appending → AppendAnswer → Type 0
 AppendEnd c told last append.Published = is_publishing last ≡ true
-AppendEnd c told last append.Full = HasNoRoom told c.room
-AppendEnd c told last append.NoRoom = (tail : ℕ) × HasNoRoom told tail × (tail ≢ c.room)
+AppendEnd c told last append.Full = HasNoRoom told c.room ⊎ IsPastTail c told
+AppendEnd c told last append.NoRoom = ((tail : ℕ) × HasNoRoom told tail × (tail ≢ c.room)) ⊎ IsPastTail c told
 AppendEnd c told last append.Contended = IsContended c told
 
 -- the slot and the record are the request's
@@ -138,20 +148,37 @@ reserved_true c told slot words last a addr works won = by_range (nat_lt a.its_w
         let high = lt_false a.its_words.header.previous.0 addr.0 e in
         record { its_slot = works.its_slot; its_words = works.its_words; has_slot = works.has_slot; previous = works.previous; made_for = works.made_for; its_row = lost (λ low. absurd (omega (arith, before, low, high))) }
 
+-- a tail that isn't below that limit: no limit was above it, or it isn't below the bound
+no_room : (c : Trial) (told : Told) (limit tail : ℕ) → HasLimit c told limit → Loaded told (shared_place one.Tail) tail → limit ≤ tail → HasNoRoom told tail ⊎ IsPastTail c told
+no_room c told limit tail has was high = by_bounds (bounds_at c.occasion) refl (subst (λ l. l ≤ tail) has.its high)
+  where
+    by_test : (bounds : Bounds) → bounds_at c.occasion ≡ Some bounds → (b : Bool) → (if b then bounds.tail else has.word) ≤ tail → HasNoRoom told tail ⊎ IsPastTail c told
+    by_test bounds e true low = inr (record { update = has.update; bounds = bounds; has = e; tail = tail; its_tail = was; past = low })
+    by_test bounds e false low = inl (record { limit = has.word; its_limit = has.its_word; its_tail = was; high = low })
+
+    by_bounds : (its : Option Bounds) → bounds_at c.occasion ≡ its → limit_within (tail_bound its) has.word ≤ tail → HasNoRoom told tail ⊎ IsPastTail c told
+    by_bounds None e low = inl (record { limit = has.word; its_limit = has.its_word; its_tail = was; high = low })
+    by_bounds (Some bounds) e low = by_test bounds e (nat_lt bounds.tail has.word) low
+
 reserve_true : (c : Trial) (told : Told) (slot : FoundSlot) (words : RecordWords) (last : Appending) (a : AppendState) (reserving : Reserving) (reply : ℕ) → Works c told slot words a → a.step ≡ Reserves → a.reserving ≡ reserve_next reserving reply
     → ReserveRow c told reserving → told (passed (passed (reserve_ask reserving) append.Contended) answer.Shift) reply → AppendKnows c told slot words last (reserve_ledto a (reserve_next_ask c.room reserving reply))
 unfolding reserve_ledto reserve_ask reserve_next reserve_next_ask passed
 reserve_true c told slot words last a RestsReserving reply works at next row was = absurd row
-reserve_true c told slot words last a LoadsLimit reply works at next row was =
-    with_row c told slot words last a works (subst (AppendRow c told slot words last a) (sym at) (subst (ReserveRow c told) (sym next) was))
+reserve_true c told slot words last a (LoadsLimit bound) reply works at next row was =
+    with_row c told slot words last a works (subst (AppendRow c told slot words last a) (sym at) (subst (ReserveRow c told) (sym next) (record { update = row.0; word = reply; its_word = was; its = ap (λ b. limit_within b reply) row.1 })))
 reserve_true c told slot words last a (LoadsTail limit) reply works at next row was = by_limit (nat_lt reply limit) refl
   where
-    room : limit ≤ reply → HasNoRoom told reply
-    room high = record { limit = limit; its_limit = row; its_tail = was; high = high }
+    at_end : reply ≡ c.room → HasNoRoom told reply ⊎ IsPastTail c told → HasNoRoom told c.room ⊎ IsPastTail c told
+    at_end same (inl none) = inl (subst (HasNoRoom told) same none)
+    at_end same (inr past) = inr past
+
+    open_yet : reply ≢ c.room → HasNoRoom told reply ⊎ IsPastTail c told → ((tail : ℕ) × HasNoRoom told tail × (tail ≢ c.room)) ⊎ IsPastTail c told
+    open_yet other (inl none) = inl (reply, none, other)
+    open_yet other (inr past) = inr past
 
     by_room : (b : Bool) → (reply == c.room) ≡ b → limit ≤ reply → AppendKnows c told slot words last (reserve_ledto a (Done (if b then reserve.Full else reserve.NoRoom)))
-    by_room true e high = record { its_slot = works.its_slot; its_words = works.its_words; has_slot = works.has_slot; previous = works.previous; made_for = works.made_for; its_row = subst (HasNoRoom told) (eq_true reply c.room e) (room high) }
-    by_room false e high = record { its_slot = works.its_slot; its_words = works.its_words; has_slot = works.has_slot; previous = works.previous; made_for = works.made_for; its_row = (reply, room high, eq_false reply c.room e) }
+    by_room true e high = record { its_slot = works.its_slot; its_words = works.its_words; has_slot = works.has_slot; previous = works.previous; made_for = works.made_for; its_row = at_end (eq_true reply c.room e) (no_room c told limit reply row was high) }
+    by_room false e high = record { its_slot = works.its_slot; its_words = works.its_words; has_slot = works.has_slot; previous = works.previous; made_for = works.made_for; its_row = open_yet (eq_false reply c.room e) (no_room c told limit reply row was high) }
 
     on : a.reserving ≡ TakesTail reply → AppendKnows c told slot words last a
     on its = with_row c told slot words last a works (subst (AppendRow c told slot words last a) (sym at) (subst (ReserveRow c told) (sym its) was))
@@ -284,13 +311,13 @@ append_true c told slot words last a reply knows asks was =
     append_row_true c told slot words last a a.step reply refl (record { its_slot = knows.its_slot; its_words = knows.its_words; has_slot = knows.has_slot; previous = knows.previous; made_for = knows.made_for }) knows.its_row asks was
 
 -- as it begins, it asks
-pub append_begun_true : (c : Trial) (told : Told) (last : Appending) (slot : FoundSlot) (words : RecordWords) → HasEntry c told slot.place slot.entry → words.header.previous.0 ≡ entry_addr slot.entry → IsMadeFor c slot words
-    → AppendKnows c told slot words last (append_begun slot words)
-append_begun_true c told last slot words has_slot previous made_for = record { its_slot = refl; its_words = refl; has_slot = has_slot; previous = previous; made_for = made_for; its_row = tt }
+pub append_begun_true : (c : Trial) (told : Told) (last : Appending) (slot : FoundSlot) (words : RecordWords) → HasEntry c told slot.place slot.entry → words.header.previous.0 ≡ entry_addr slot.entry → IsMadeFor c slot words → is_read c.request.op ≡ false
+    → AppendKnows c told slot words last (append_begun slot words (tail_bound (bounds_at c.occasion)))
+append_begun_true c told last slot words has_slot previous made_for update = record { its_slot = refl; its_words = refl; has_slot = has_slot; previous = previous; made_for = made_for; its_row = (update, refl) }
 
-pub append_begun_asks : (p : Places) (slot : FoundSlot) (words : RecordWords) → is_done (append_ask p (append_begun slot words)) ≡ false
+pub append_begun_asks : (p : Places) (slot : FoundSlot) (words : RecordWords) (bound : Option ℕ) → is_done (append_ask p (append_begun slot words bound)) ≡ false
 unfolding appending_ask reserve_ask passed
-append_begun_asks p slot words = refl
+append_begun_asks p slot words bound = refl
 
 not_passed : {A B : Type 0} (ask : Ask A) (a b : B) → is_done ask ≡ false → passed ask a ≡ Done b → ⊥
 unfolding passed

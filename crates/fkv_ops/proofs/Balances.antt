@@ -40,7 +40,7 @@ use Rattle.fkv_ops.specs.declared.appending.AppendAnswer.TheVariants as append
 use Rattle.fkv_ops.specs.declared.appending.Appending.{Appending}
 use Rattle.fkv_ops.specs.declared.appending.Appending.TheVariants as appending
 use Rattle.fkv_ops.specs.declared.trying.Trying.{Trying}
-use Rattle.fkv_ops.specs.declared.trying.Trying.TheVariants.{Ended, TakesShared, LoadsPhase, Walks, LoadsSafe, SwapsValue, LoadsCurrent, ChangesValue, LoadsAnswer, TakesExclusive, LoadsOld, Appends, DropsExclusive, DropsShared}
+use Rattle.fkv_ops.specs.declared.trying.Trying.TheVariants.{Ended, TakesShared, LoadsPhase, Walks, CountsTaken, LoadsSafe, SwapsValue, LoadsCurrent, ChangesValue, LoadsAnswer, TakesExclusive, LoadsOld, Appends, LoadsTail, LoadsTaken, DropsExclusive, DropsShared}
 use Rattle.fkv_ops.specs.declared.walking.WalkAnswer.TheVariants as walk
 use Rattle.fkv_ops.specs.declared.walking.Walking.{Walking}
 use Rattle.fkv_ops.specs.declared.walking.Walking.TheVariants as walking
@@ -136,7 +136,7 @@ walk_apart c told w walking.LoadsValue reply row = absurd row
 reserve_apart : (c : Trial) (reserving : Reserving) (reply : ℕ) → IsApart c (passed (passed (reserve_ask reserving) append.Contended) answer.Shift) reply
 unfolding reserve_ask passed
 reserve_apart c reserve.AtRest reply = done_apart c answer.Shift reply
-reserve_apart c reserve.LoadsLimit reply = load_word_apart c _ reply
+reserve_apart c (reserve.LoadsLimit bound) reply = load_word_apart c _ reply
 reserve_apart c (reserve.LoadsTail limit) reply = load_word_apart c _ reply
 reserve_apart c (reserve.TakesTail tail) reply = other_cas c _ tail (tail + 1) reply (omega arith)
 
@@ -222,6 +222,7 @@ row_balances c told t (Ended its) reply row = apart_balances c (latch_held t) (D
 row_balances c told t TakesShared reply row = share_balances c told t t.latching reply refl row.not_shared row.its_latching
 row_balances c told t LoadsPhase reply row = apart_balances c (latch_held t) (Load _) reply (load_word_apart c _ reply)
 row_balances c told t Walks reply row = apart_balances c (latch_held t) (passed (walk_ask c.places t.walk) answer.Shift) reply (walk_apart c told t.walk t.walk.step reply row.walks.its_row)
+row_balances c told t CountsTaken reply row = apart_balances c (latch_held t) (Load _) reply (load_word_apart c _ reply)
 row_balances c told t (LoadsSafe addr version) reply row = apart_balances c (latch_held t) (Load _) reply (load_word_apart c _ reply)
 row_balances c told t (SwapsValue addr) reply row = record { shares = refl; bits = refl }
 row_balances c told t (LoadsCurrent addr) reply row = apart_balances c (latch_held t) (passed (walk_ask c.places t.walk) answer.Shift) reply (loads_apart c t addr reply row.2)
@@ -232,5 +233,7 @@ row_balances c told t (TakesExclusive old) reply row = alone_balances c told t o
 row_balances c told t LoadsOld reply row = apart_balances c (latch_held t) (passed (walk_ask c.places t.walk) answer.Shift) reply (loads_apart c t row.addr reply row.loads)
 row_balances c told t (Appends its) reply row =
     apart_balances c (latch_held t) (passed (append_ask c.places t.append) answer.Shift) reply (append_apart c told row.place row.entry (words_of c.request row.entry row.old) row.last t.append t.append.step reply row.appends.its_row)
+row_balances c told t (LoadsTail waiting) reply row = apart_balances c (latch_held t) (Load _) reply (load_word_apart c _ reply)
+row_balances c told t (LoadsTaken waiting) reply row = apart_balances c (latch_held t) (Load _) reply (load_word_apart c _ reply)
 row_balances c told t (DropsExclusive its) reply row = drop_balances c t its reply row.its_latching
 row_balances c told t (DropsShared its) reply row = unshare_balances c t its reply row.its_latching

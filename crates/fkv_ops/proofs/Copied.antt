@@ -14,7 +14,8 @@ use Rattle.fkv_ops.specs.Trying.{TryState, with_latch, appends, copies_from, cop
 use Rattle.fkv_ops.specs.TryRun.{Trial, Told}
 use Rattle.fkv_ops.specs.Reasons.{HasEntry, needs_exclusive}
 use Rattle.fkv_ops.specs.Effects.{IsMadeOf, OfRecord, CountsNot}
-use Rattle.fkv_ops.proofs.Walked.{walk_on_loads, walk_on_found}
+use Rattle.fkv_ops.specs.Bounds.{bounds_at, tail_bound}
+use Rattle.fkv_ops.proofs.Walked.{walk_on_loads, walk_on_found, walk_on_same}
 use Rattle.fkv_ops.proofs.Appended.{append_begun_true, append_begun_asks}
 use Rattle.fkv_ops.proofs.TryRows.{norm, latch_held, Updates, OldRow, CopyRow, Alone, Comes}
 
@@ -27,7 +28,7 @@ appends_true c told t old is_current quiet updates slot made_of alone = record {
   its_effect = quiet;
   its_told = refl;
   row = record {
-    updates = record { under = updates.under; update = updates.update; stays = updates.stays };
+    updates = record { under = updates.under; update = updates.update; stays = updates.stays; lacks = updates.lacks };
     place = t.walk.place;
     entry = t.walk.entry;
     old = value_of old;
@@ -36,8 +37,8 @@ appends_true c told t old is_current quiet updates slot made_of alone = record {
     made_of = made_of;
     alone = alone;
     last = Reserves;
-    appends = append_begun_true c told Reserves (slot_of (norm c t)) (words_of c.request t.walk.entry (value_of old)) slot refl (refl, refl);
-    asks = append_begun_asks c.places (slot_of (norm c t)) (words_of c.request t.walk.entry (value_of old));
+    appends = append_begun_true c told Reserves (slot_of (norm c t)) (words_of c.request t.walk.entry (value_of old)) slot refl (refl, refl) updates.update;
+    asks = append_begun_asks c.places (slot_of (norm c t)) (words_of c.request t.walk.entry (value_of old)) (tail_bound (bounds_at c.occasion));
   };
 }
 
@@ -55,7 +56,7 @@ copies_memory_true c told t is_current quiet updates slot copy alone = by_blind 
       its_effect = quiet;
       its_told = refl;
       row = record {
-        updates = record { under = updates.under; update = updates.update; stays = updates.stays };
+        updates = record { under = updates.under; update = updates.update; stays = updates.stays; lacks = λ none. updates.lacks (sym (walk_on_same t.walk).1 ∙ none) };
         addr = copy.addr;
         version = copy.version.0;
         found = walk_on_found c told t.walk copy.addr copy.version copy.found.at copy.found.its;
@@ -86,6 +87,6 @@ copies_true c told t old is_current quiet not_alone updates slot its_old = by_ne
       owes = refl;
       its_effect = quiet;
       its_told = refl;
-      row = record { not_alone = not_alone; updates = record { under = updates.under; update = updates.update; stays = updates.stays }; slot = slot; is_current = is_current; its_old = its_old; need = e; its_latching = refl };
+      row = record { not_alone = not_alone; updates = record { under = updates.under; update = updates.update; stays = updates.stays; lacks = updates.lacks }; slot = slot; is_current = is_current; its_old = its_old; need = e; its_latching = refl };
     }
     by_need false e = copies_from_true c told t old is_current quiet updates slot its_old (λ need. no (sym e ∙ need))

@@ -41,7 +41,7 @@ use Rattle.fkv_ops.specs.declared.appending.AppendAnswer.TheVariants as append
 use Rattle.fkv_ops.specs.declared.appending.Appending.{Appending}
 use Rattle.fkv_ops.specs.declared.appending.Appending.TheVariants as appending
 use Rattle.fkv_ops.specs.declared.trying.Trying.{Trying}
-use Rattle.fkv_ops.specs.declared.trying.Trying.TheVariants.{Ended, TakesShared, LoadsPhase, Walks, LoadsSafe, SwapsValue, LoadsCurrent, ChangesValue, LoadsAnswer, TakesExclusive, LoadsOld, Appends, DropsExclusive, DropsShared}
+use Rattle.fkv_ops.specs.declared.trying.Trying.TheVariants.{Ended, TakesShared, LoadsPhase, Walks, CountsTaken, LoadsSafe, SwapsValue, LoadsCurrent, ChangesValue, LoadsAnswer, TakesExclusive, LoadsOld, Appends, LoadsTail, LoadsTaken, DropsExclusive, DropsShared}
 use Rattle.fkv_ops.specs.declared.walking.Walking.{Walking}
 use Rattle.fkv_ops.specs.declared.walking.Walking.TheVariants as walking
 use Rattle.fkv_ops.specs.declared.walking.WalkAnswer.TheVariants as walk
@@ -70,7 +70,7 @@ search_so c told f find.LoadsLink reply effect stands knows = tt
 search_so c told f (find.LoadsTaken word) reply effect stands knows = tt
 search_so c told f (find.TakesBucket word taken) reply effect stands knows = record { its_old = knows.2; may = Takes refl refl }
 search_so c told f (find.LinksBucket word) reply effect stands knows =
-    record { its_old = knows.0.its_word; may = Links f.spare (subst (λ b. ComesTo c told stands.links b f.base) (unmade f.linking knows.0.once) stands.its_bucket) refl knows.0.no_link knows.1 stands.few refl }
+    record { its_old = knows.0.its_word; may = Links f.spare (subst (λ b. ComesTo c told stands.links b f.base) (unmade f.linking knows.0.links) stands.its_bucket) refl knows.0.no_link knows.1 stands.few refl }
 
 load_so : (c : Trial) (told : Told) (addr : Addr) (loading : Loading) (reply : ℕ) (effect : Option Reply) → LoadRow c told addr loading → AskIsSo c told (passed (passed (load_ask c.places loading) walk.Contended) answer.Shift) reply effect
 unfolding load_ask passed
@@ -92,7 +92,7 @@ loads_so c told w addr reply effect loads = subst (λ a. AskIsSo c told a reply 
 reserve_so : (c : Trial) (told : Told) (reserving : Reserving) (reply : ℕ) (effect : Option Reply) → ReserveRow c told reserving → AskIsSo c told (passed (passed (reserve_ask reserving) append.Contended) answer.Shift) reply effect
 unfolding reserve_ask passed
 reserve_so c told reserve.AtRest reply effect row = absurd row
-reserve_so c told reserve.LoadsLimit reply effect row = tt
+reserve_so c told (reserve.LoadsLimit bound) reply effect row = tt
 reserve_so c told (reserve.LoadsTail limit) reply effect row = tt
 reserve_so c told (reserve.TakesTail tail) reply effect row = record { its_old = row; may = Reserves refl refl }
 
@@ -191,6 +191,7 @@ row_so c told t (Ended its) reply row = tt
 row_so c told t TakesShared reply row = share_so c told t.latching reply (trying_next c.places c.room (quieted c t) TakesShared reply).effect row.its_latching
 row_so c told t LoadsPhase reply row = tt
 row_so c told t Walks reply row = walk_so c told t.walk t.walk.step reply (trying_next c.places c.room (quieted c t) Walks reply).effect row.walks.its_row
+row_so c told t CountsTaken reply row = tt
 row_so c told t (LoadsSafe addr version) reply row = tt
 row_so c told t (SwapsValue addr) reply row =
     (reply_from None c.request.op, ends_effect c.places (record (quieted c t) { effect = Some (reply_from None c.request.op) }) (answer.Done (reply_from None c.request.op)))
@@ -201,6 +202,8 @@ row_so c told t (TakesExclusive old) reply row = alone_so c told t.latching repl
 row_so c told t LoadsOld reply row = loads_so c told t.walk row.addr reply (trying_next c.places c.room (quieted c t) LoadsOld reply).effect row.loads
 row_so c told t (Appends its) reply row =
     append_so c told (record (quieted c t) { append = append_next c.places c.room t.append reply }) its row.place row.entry row.old row.is_current row.last t.append t.append.step reply row.appends.has_slot row.made_of row.appends.its_row
+row_so c told t (LoadsTail waiting) reply row = tt
+row_so c told t (LoadsTaken waiting) reply row = tt
 row_so c told t (DropsExclusive its) reply row =
     subst (λ x. AskIsSo c told (passed (latch_ask x) its) reply (trying_next c.places c.room (quieted c t) (DropsExclusive its) reply).effect) (sym row.its_latching) (drop_so c told its reply (trying_next c.places c.room (quieted c t) (DropsExclusive its) reply).effect)
 row_so c told t (DropsShared its) reply row =

@@ -32,11 +32,13 @@ use Rattle.fkv_ops.specs.declared.appending.AppendAnswer.TheVariants as append
 use Rattle.fkv_ops.specs.declared.appending.Appending.{Appending}
 use Rattle.fkv_ops.specs.declared.appending.Appending.TheVariants as appending
 use Rattle.fkv_ops.specs.declared.trying.Trying.{Trying}
-use Rattle.fkv_ops.specs.declared.trying.Trying.TheVariants.{Ended, TakesShared, LoadsPhase, Walks, LoadsSafe, SwapsValue, LoadsCurrent, ChangesValue, LoadsAnswer, TakesExclusive, LoadsOld, Appends, DropsExclusive, DropsShared}
+use Rattle.fkv_ops.specs.declared.trying.Trying.TheVariants.{Ended, TakesShared, LoadsPhase, Walks, CountsTaken, LoadsSafe, SwapsValue, LoadsCurrent, ChangesValue, LoadsAnswer, TakesExclusive, LoadsOld, Appends, LoadsTail, LoadsTaken, DropsExclusive, DropsShared}
+use Rattle.fkv_ops.specs.declared.answers.Waiting.{Waiting}
+use Rattle.fkv_ops.specs.declared.answers.Waiting.TheVariants.{For, ForRecord}
 use Rattle.fkv_ops.specs.Values.{value_of, word_of}
 use Rattle.fkv_ops.specs.Requests.{is_read, is_blind}
 use Rattle.fkv_ops.specs.Appending.{AppendState, appending_ask, append_ask, publish_ledto, appending_next, append_next}
-use Rattle.fkv_ops.specs.Trying.{TryState, new_try, trying_ask, try_ask, trying_next, is_wait, with_latch, walks, ends, ended_without, takes_effect, full_at, value_changed, append_ledto, words_of}
+use Rattle.fkv_ops.specs.Trying.{TryState, new_try, trying_ask, try_ask, trying_next, is_wait, with_latch, walks, is_bounded, ends, ends_by, ends_so, ended_without, takes_effect, full_at, value_changed, append_ledto, words_of}
 use Rattle.fkv_ops.specs.TryRun.{Trial, home_at, trial_begun, try_run, Told, told_by, effects_of}
 use Rattle.fkv_ops.specs.Reasons.{latch_place, Loaded, IsStored, HasEntry, needs_exclusive}
 use Rattle.fkv_ops.specs.Effects.{MayChange, IsMadeOf, IsPublished, IsEffect, BySwap, ByChange, ByRecord, EffectsAreTrue, AreKindsSo, shares_latch, SharesFirst, EachMayStay, HasSetBit}
@@ -60,13 +62,26 @@ without_effect p t its = by_test (t.has_shared && not (is_wait its))
     by_test true = refl
     by_test false = refl
 
-pub ends_effect : (p : Places) (t : TryState) (its : TryAnswer) → (ends p t its).effect ≡ t.effect
-unfolding ends
-ends_effect p t its = by_test t.has_exclusive
+ends_so_effect : (p : Places) (t : TryState) (its : TryAnswer) → (ends_so p t its).effect ≡ t.effect
+unfolding ends_so
+ends_so_effect p t its = by_test t.has_exclusive
   where
     by_test : (b : Bool) → (if b then with_latch p (record t { has_exclusive = false }) DropExclusive (DropsExclusive its) else ended_without p t its).effect ≡ t.effect
     by_test true = refl
     by_test false = without_effect p t its
+
+waits_effect : (p : Places) (t : TryState) (its : TryAnswer) (waiting : Waiting) → (ends_by p t its (Some waiting)).effect ≡ t.effect
+waits_effect p t its waiting = by_test (is_bounded t)
+  where
+    by_test : (b : Bool) → (if b then record t { step = LoadsTail waiting } else ends_so p t its).effect ≡ t.effect
+    by_test true = refl
+    by_test false = ends_so_effect p t its
+
+pub ends_effect : (p : Places) (t : TryState) (its : TryAnswer) → (ends p t its).effect ≡ t.effect
+unfolding ends
+ends_effect p t (answer.Wait it) = waits_effect p t (answer.Wait it) (For it)
+ends_effect p t (answer.AwaitsDisk it) = waits_effect p t (answer.AwaitsDisk it) (ForRecord it)
+ends_effect p t its = ends_so_effect p t its
 
 -- a value that doesn't depend on the old one
 blind_same : (op : Op) (old : Option ℕ) → is_blind op ≡ true → (value_applied None op ≡ value_applied old op) × (reply_from None op ≡ reply_from old op)
@@ -195,11 +210,14 @@ effect_row c told t (Ended it) reply its row any makes e = cc
 effect_row c told t TakesShared reply its row any makes e = cc
 effect_row c told t LoadsPhase reply its row any makes e = cc
 effect_row c told t Walks reply its row any makes e = cc
+effect_row c told t CountsTaken reply its row any makes e = cc
 effect_row c told t (LoadsSafe addr version) reply its row any makes e = cc
 effect_row c told t (LoadsCurrent addr) reply its row any makes e = cc
 effect_row c told t LoadsAnswer reply its row any makes e = cc
 effect_row c told t (TakesExclusive old) reply its row any makes e = cc
 effect_row c told t LoadsOld reply its row any makes e = cc
+effect_row c told t (LoadsTail waiting) reply its row any makes e = cc
+effect_row c told t (LoadsTaken waiting) reply its row any makes e = cc
 effect_row c told t (DropsExclusive it) reply its row any makes e = cc
 effect_row c told t (DropsShared it) reply its row any makes e = cc
 
@@ -234,11 +252,14 @@ added c told t (Ended it) row e = cc
 added c told t TakesShared row e = cc
 added c told t LoadsPhase row e = cc
 added c told t Walks row e = cc
+added c told t CountsTaken row e = cc
 added c told t (LoadsSafe addr version) row e = cc
 added c told t (LoadsCurrent addr) row e = cc
 added c told t LoadsAnswer row e = cc
 added c told t (TakesExclusive old) row e = cc
 added c told t LoadsOld row e = cc
+added c told t (LoadsTail waiting) row e = cc
+added c told t (LoadsTaken waiting) row e = cc
 added c told t (DropsExclusive it) row e = cc
 added c told t (DropsShared it) row e = cc
 
@@ -251,11 +272,14 @@ stayed c told t (Ended it) row e = cc
 stayed c told t TakesShared row e = cc
 stayed c told t LoadsPhase row e = cc
 stayed c told t Walks row e = cc
+stayed c told t CountsTaken row e = cc
 stayed c told t (LoadsSafe addr version) row e = cc
 stayed c told t (LoadsCurrent addr) row e = cc
 stayed c told t LoadsAnswer row e = cc
 stayed c told t (TakesExclusive old) row e = cc
 stayed c told t LoadsOld row e = cc
+stayed c told t (LoadsTail waiting) row e = cc
+stayed c told t (LoadsTaken waiting) row e = cc
 stayed c told t (DropsExclusive it) row e = cc
 stayed c told t (DropsShared it) row e = cc
 

@@ -12,7 +12,7 @@ use Rattle.fkv_latch.specs.Latching.{one_share, is_exclusive, latch_ask, latch_n
 use Rattle.fkv_ops.specs.declared.answers.TryAnswer.{TryAnswer}
 use Rattle.fkv_ops.specs.declared.answers.TryAnswer.TheVariants as answer
 use Rattle.fkv_ops.specs.declared.trying.Trying.{Trying}
-use Rattle.fkv_ops.specs.declared.trying.Trying.TheVariants.{Ended, TakesShared, LoadsPhase, Walks, LoadsSafe, SwapsValue, LoadsCurrent, ChangesValue, LoadsAnswer, TakesExclusive, LoadsOld, Appends, DropsExclusive, DropsShared}
+use Rattle.fkv_ops.specs.declared.trying.Trying.TheVariants.{Ended, TakesShared, LoadsPhase, Walks, CountsTaken, LoadsSafe, SwapsValue, LoadsCurrent, ChangesValue, LoadsAnswer, TakesExclusive, LoadsOld, Appends, LoadsTail, LoadsTaken, DropsExclusive, DropsShared}
 use Rattle.fkv_ops.specs.Trying.{TryState, trying_ask, try_ask, try_next, trying_next, shared_ledto, words_of}
 use Rattle.fkv_ops.specs.TryRun.{Trial, Told}
 use Rattle.fkv_ops.specs.Reasons.{latch_place}
@@ -87,6 +87,7 @@ row_back c t (Ended its) reply place s row there asks busy = cc
 row_back c t TakesShared reply place s row there asks busy = back_shared c anything (record t { effect = None; latching = latch_next t.latching reply }) t.latching reply place refl s row.its_latching asks busy
 row_back c t LoadsPhase reply place s row there asks busy = cc
 row_back c t Walks reply place s row there asks busy = absurd (not_latch c (passed (walk_ask c.places t.walk) answer.Shift) reply place one_share (walk_apart c anything t.walk t.walk.step reply row.walks.its_row) there asks)
+row_back c t CountsTaken reply place s row there asks busy = cc
 row_back c t (LoadsSafe addr version) reply place s row there asks busy = cc
 row_back c t (SwapsValue addr) reply place s row there asks busy = cc
 row_back c t (LoadsCurrent addr) reply place s row there asks busy = absurd (not_latch c (passed (walk_ask c.places t.walk) answer.Shift) reply place one_share (loads_apart c t addr reply row.2) there asks)
@@ -96,6 +97,8 @@ row_back c t (TakesExclusive old) reply place s row there asks busy = absurd (al
 row_back c t LoadsOld reply place s row there asks busy = absurd (not_latch c (passed (walk_ask c.places t.walk) answer.Shift) reply place one_share (loads_apart c t row.addr reply row.loads) there asks)
 row_back c t (Appends its) reply place s row there asks busy =
     absurd (not_latch c (passed (append_ask c.places t.append) answer.Shift) reply place one_share (append_apart c anything row.place row.entry (words_of c.request row.entry row.old) row.last t.append t.append.step reply row.appends.its_row) there asks)
+row_back c t (LoadsTail waiting) reply place s row there asks busy = cc
+row_back c t (LoadsTaken waiting) reply place s row there asks busy = cc
 row_back c t (DropsExclusive its) reply place s row there asks busy = absurd (drop_not t.latching (latch_place c) place its row.its_latching asks)
 row_back c t (DropsShared its) reply place s row there asks busy = absurd (unshare_not t.latching (latch_place c) place its row.its_latching asks)
 

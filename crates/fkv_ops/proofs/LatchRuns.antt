@@ -12,8 +12,8 @@ use Rattle.fkv_latch.specs.Latching.{one_share, exclusive_bit, latch_ask, latch_
 use Rattle.fkv_ops.specs.declared.answers.TryAnswer.{TryAnswer}
 use Rattle.fkv_ops.specs.declared.answers.TryAnswer.TheVariants as answer
 use Rattle.fkv_ops.specs.declared.trying.Trying.{Trying}
-use Rattle.fkv_ops.specs.declared.trying.Trying.TheVariants.{Ended, TakesShared, LoadsPhase, Walks, LoadsSafe, SwapsValue, LoadsCurrent, ChangesValue, LoadsAnswer, TakesExclusive, LoadsOld, Appends, DropsExclusive, DropsShared}
-use Rattle.fkv_ops.specs.Trying.{TryState, trying_ask, try_ask, trying_next, try_next, is_wait, with_latch, ends, ended_without, shared_ledto, exclusive_dropped, shared_dropped, words_of}
+use Rattle.fkv_ops.specs.declared.trying.Trying.TheVariants.{Ended, TakesShared, LoadsPhase, Walks, CountsTaken, LoadsSafe, SwapsValue, LoadsCurrent, ChangesValue, LoadsAnswer, TakesExclusive, LoadsOld, Appends, LoadsTail, LoadsTaken, DropsExclusive, DropsShared}
+use Rattle.fkv_ops.specs.Trying.{TryState, trying_ask, try_ask, trying_next, try_next, is_wait, with_latch, ends, ends_so, ended_without, shared_ledto, exclusive_dropped, shared_dropped, words_of}
 use Rattle.fkv_ops.specs.Walking.{walk_ask}
 use Rattle.fkv_ops.specs.Appending.{append_ask}
 use Rattle.fkv_ops.specs.TryRun.{Trial, trial_begun, try_run, Told, Exchange, exchanges, effects_of}
@@ -39,13 +39,13 @@ without_late p t its = by_test (t.has_shared && not (is_wait its))
     by_test true = refl
     by_test false = refl
 
-ends_late : (p : Places) (t : TryState) (its : TryAnswer) → is_early (ends p t its).step ≡ false
-unfolding ends
-ends_late p t its = by_test t.has_exclusive
+shift_late : (p : Places) (t : TryState) → is_early (ends p t answer.Shift).step ≡ false
+unfolding ends ends_so
+shift_late p t = by_test t.has_exclusive
   where
-    by_test : (b : Bool) → is_early (if b then with_latch p (record t { has_exclusive = false }) DropExclusive (DropsExclusive its) else ended_without p t its).step ≡ false
+    by_test : (b : Bool) → is_early (if b then with_latch p (record t { has_exclusive = false }) DropExclusive (DropsExclusive answer.Shift) else ended_without p t answer.Shift).step ≡ false
     by_test true = refl
-    by_test false = without_late p t its
+    by_test false = without_late p t answer.Shift
 
 -- an ask that gives nothing back
 record GivesNone (c : Trial) (ask : Ask TryAnswer) : Type 0 where
@@ -62,7 +62,7 @@ share_early : (c : Trial) (told : Told) (t s : TryState) (step : Latching) (repl
     → (is_early TakesShared ≡ true) × GivesNone c (passed (latch_ask t.latching) answer.Shift)
 unfolding latch_ask latch_next_ask shared_ledto passed
 share_early c told t s (latching.AddsShare place) reply at row early = (refl, rw (at, latch_ask) (record { dropped = refl; cleared = refl }))
-share_early c told t s (latching.GivesBack place) reply at row early = no (sym (ends_late c.places s answer.Shift) ∙ early)
+share_early c told t s (latching.GivesBack place) reply at row early = no (sym (shift_late c.places s) ∙ early)
 share_early c told t s step reply at row early = absurd row
 
 alone_gives_none : (c : Trial) (told : Told) (t : TryState) (step : Latching) → t.latching ≡ step → AloneRow c told step → GivesNone c (passed (latch_ask t.latching) answer.Shift)
@@ -87,6 +87,7 @@ early_row c told t (Ended its) reply at row early = no (sym (ap is_early at) ∙
 early_row c told t TakesShared reply at row early = share_early c told t (record (quieted c t) { latching = latch_next t.latching reply }) t.latching reply refl row.its_latching early
 early_row c told t LoadsPhase reply at row early = (refl, record { dropped = refl; cleared = refl })
 early_row c told t Walks reply at row early = (refl, gives_none c (passed (walk_ask c.places t.walk) answer.Shift) reply (walk_apart c told t.walk t.walk.step reply row.walks.its_row))
+early_row c told t CountsTaken reply at row early = (refl, record { dropped = refl; cleared = refl })
 early_row c told t (LoadsSafe addr version) reply at row early = (refl, record { dropped = refl; cleared = refl })
 early_row c told t (SwapsValue addr) reply at row early = (refl, record { dropped = refl; cleared = refl })
 early_row c told t (LoadsCurrent addr) reply at row early = (refl, gives_none c (passed (walk_ask c.places t.walk) answer.Shift) reply (loads_apart c t addr reply row.2))
@@ -96,6 +97,8 @@ early_row c told t (TakesExclusive old) reply at row early = (refl, alone_gives_
 early_row c told t LoadsOld reply at row early = (refl, gives_none c (passed (walk_ask c.places t.walk) answer.Shift) reply (loads_apart c t row.addr reply row.loads))
 early_row c told t (Appends its) reply at row early =
     (refl, gives_none c (passed (append_ask c.places t.append) answer.Shift) reply (append_apart c told row.place row.entry (words_of c.request row.entry row.old) row.last t.append t.append.step reply row.appends.its_row))
+early_row c told t (LoadsTail waiting) reply at row early = (refl, record { dropped = refl; cleared = refl })
+early_row c told t (LoadsTaken waiting) reply at row early = (refl, record { dropped = refl; cleared = refl })
 early_row c told t (DropsExclusive its) reply at row early = no (sym (drop_late c (record (quieted c t) { latching = latch_next t.latching reply }) its t.latching reply row.its_latching) ∙ early)
 early_row c told t (DropsShared its) reply at row early = no (sym (unshare_late c (record (quieted c t) { latching = latch_next t.latching reply }) its t.latching reply row.its_latching) ∙ early)
 
@@ -159,11 +162,14 @@ early_makes (Ended its) e = cc
 early_makes TakesShared e = refl
 early_makes LoadsPhase e = refl
 early_makes Walks e = refl
+early_makes CountsTaken e = refl
 early_makes (LoadsSafe addr version) e = refl
 early_makes (LoadsCurrent addr) e = refl
 early_makes LoadsAnswer e = refl
 early_makes (TakesExclusive old) e = refl
 early_makes LoadsOld e = refl
+early_makes (LoadsTail waiting) e = refl
+early_makes (LoadsTaken waiting) e = refl
 early_makes (DropsExclusive its) e = cc
 early_makes (DropsShared its) e = cc
 

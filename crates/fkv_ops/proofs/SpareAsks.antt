@@ -192,7 +192,7 @@ loads_aside c w addr loads = subst (IsAside c) (sym (loads_place c.places w addr
 reserve_aside : (c : Trial) (reserving : Reserving) → IsAside c (passed (passed (reserve_ask reserving) append.Contended) answer.Shift)
 unfolding reserve_ask passed
 reserve_aside c reserve.AtRest = tt
-reserve_aside c reserve.LoadsLimit = tt
+reserve_aside c (reserve.LoadsLimit bound) = tt
 reserve_aside c (reserve.LoadsTail limit) = tt
 reserve_aside c (reserve.TakesTail tail) = tail_aside c tail
 

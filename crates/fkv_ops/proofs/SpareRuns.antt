@@ -32,9 +32,9 @@ use Rattle.fkv_index.specs.declared.finding.FindStep.{FindStep}
 use Rattle.fkv_index.specs.declared.finding.FindStep.TheVariants as find
 use Rattle.fkv_index.specs.declared.finding.Finding.{Finding}
 use Rattle.fkv_index.specs.declared.finding.Linking.{Linking}
-use Rattle.fkv_index.specs.declared.finding.Linking.TheVariants.{Never, Once, Made}
+use Rattle.fkv_index.specs.declared.finding.Linking.TheVariants.{Never, Once, Within, Made}
 use Rattle.fkv_index.specs.Slots.{bucket_slots, entry_addr, entry_tag, is_entry, link_of, slot_word}
-use Rattle.fkv_index.specs.Finding.{spare_of, find_step_ask, find_led, find_next, find_next_ask, slot_led, slot_after, entered, ended_list, link_led, taken_led, took_led, linked_led, led_to, led_ask}
+use Rattle.fkv_index.specs.Finding.{spare_of, find_step_ask, find_led, find_next, find_next_ask, slot_led, slot_after, entered, ended_list, link_led, is_kept, takes_led, taken_led, took_led, linked_led, led_to, led_ask}
 use Rattle.fkv_ops.specs.declared.answers.Reason.TheVariants as reason
 use Rattle.fkv_ops.specs.declared.answers.TryAnswer.{TryAnswer}
 use Rattle.fkv_ops.specs.declared.answers.TryAnswer.TheVariants as answer
@@ -42,11 +42,15 @@ use Rattle.fkv_ops.specs.declared.appending.AppendAnswer.{AppendAnswer}
 use Rattle.fkv_ops.specs.declared.appending.AppendAnswer.TheVariants as append
 use Rattle.fkv_ops.specs.declared.header_words.HeaderSaid.{HeaderSaid}
 use Rattle.fkv_ops.specs.declared.header_words.HeaderSaid.TheVariants as said
+use Rattle.fkv_ops.specs.declared.answers.Waiting.{Waiting}
+use Rattle.fkv_ops.specs.declared.answers.Waiting.TheVariants.{For, ForRecord}
+use Rattle.fkv_ops.specs.Bounds.{bounds_at, is_past_taken, is_past_tail}
+use Rattle.fkv_ops.specs.Waiting.{told_of}
 use Rattle.fkv_ops.specs.declared.requests.HeldRecord.{HeldRecord}
 use Rattle.fkv_ops.specs.declared.trying.OldValue.{OldValue}
 use Rattle.fkv_ops.specs.declared.trying.OldValue.TheVariants.{InMemory, Known}
 use Rattle.fkv_ops.specs.declared.trying.Trying.{Trying}
-use Rattle.fkv_ops.specs.declared.trying.Trying.TheVariants.{Ended, TakesShared, LoadsPhase, Walks, LoadsSafe, SwapsValue, LoadsCurrent, ChangesValue, LoadsAnswer, TakesExclusive, LoadsOld, Appends, DropsExclusive, DropsShared}
+use Rattle.fkv_ops.specs.declared.trying.Trying.TheVariants.{Ended, TakesShared, LoadsPhase, Walks, CountsTaken, LoadsSafe, SwapsValue, LoadsCurrent, ChangesValue, LoadsAnswer, TakesExclusive, LoadsOld, Appends, LoadsTail, LoadsTaken, DropsExclusive, DropsShared}
 use Rattle.fkv_ops.specs.declared.walking.WalkAnswer.{WalkAnswer}
 use Rattle.fkv_ops.specs.declared.walking.WalkAnswer.TheVariants as walk
 use Rattle.fkv_ops.specs.declared.walking.Walking.{Walking}
@@ -56,7 +60,7 @@ use Rattle.fkv_ops.specs.Values.{value_of, word_of}
 use Rattle.fkv_ops.specs.Requests.{is_read, is_blind}
 use Rattle.fkv_ops.specs.Walking.{WalkState, walking_ask, walk_ask, walk_ended, reached, slot_found, find_ledto, first_met, record_met, load_ledto, walking_next, walk_next, walk_on}
 use Rattle.fkv_ops.specs.Appending.{append_ask, append_next}
-use Rattle.fkv_ops.specs.Trying.{TryState, new_try, trying_ask, try_ask, trying_next, try_next, with_latch, is_wait, ended_without, ends, takes_effect, full_at, walks, wants_shared, is_next_marked, latch_shared, shared_ledto, is_still_in, phase_loaded, must_shift, wants_exclusive, appends, copies_from, copies, awaits, held_used, met_nowhere, met_disk, changes, is_own_version, region_met, walked, has_walked, walk_ledto, is_surely_own, safe_loaded, current_ledto, value_changed, told_value, answer_ledto, exclusive_ledto, old_ledto, append_ledto, exclusive_dropped, shared_dropped, words_of}
+use Rattle.fkv_ops.specs.Trying.{TryState, new_try, trying_ask, try_ask, trying_next, try_next, with_latch, is_wait, ended_without, is_bounded, ends, ends_by, ends_so, tail_loaded, taken_loaded, takes_effect, full_at, walks, wants_shared, is_next_marked, latch_shared, shared_ledto, is_still_in, phase_loaded, must_shift, wants_exclusive, appends, copies_from, copies, awaits, held_used, must_count, met_nowhere, count_loaded, met_disk, changes, is_own_version, region_met, walked, has_walked, walk_ledto, is_surely_own, safe_loaded, current_ledto, value_changed, told_value, answer_ledto, exclusive_ledto, old_ledto, append_ledto, exclusive_dropped, shared_dropped, words_of}
 use Rattle.fkv_ops.specs.TryRun.{Trial, trial_begun, try_run, Told, exchanges, effects_of}
 use Rattle.fkv_ops.specs.Spares.{is_count, is_linking, spare_after, spare_told, UsesSpare, EachUsesSpare, EachTellsSpare}
 use Rattle.fkv_ops.proofs.Searched.{StandsAt, SearchStep, search_asks, spare_few}
@@ -95,13 +99,43 @@ without_keeps p t its = by_test (t.has_shared && not (is_wait its))
     by_test true = record { its_spare = refl; walk = tt }
     by_test false = record { its_spare = refl; walk = tt }
 
-ends_keeps : (p : Places) (t : TryState) (its : TryAnswer) → Keeps t.spare (ends p t its)
-unfolding ends
-ends_keeps p t its = by_test t.has_exclusive
+ends_so_keeps : (p : Places) (t : TryState) (its : TryAnswer) → Keeps t.spare (ends_so p t its)
+unfolding ends_so
+ends_so_keeps p t its = by_test t.has_exclusive
   where
     by_test : (b : Bool) → Keeps t.spare (if b then with_latch p (record t { has_exclusive = false }) DropExclusive (DropsExclusive its) else ended_without p t its)
     by_test true = record { its_spare = refl; walk = tt }
     by_test false = without_keeps p t its
+
+waits_keeps : (p : Places) (t : TryState) (its : TryAnswer) (waiting : Waiting) → Keeps t.spare (ends_by p t its (Some waiting))
+waits_keeps p t its waiting = by_test (is_bounded t)
+  where
+    by_test : (b : Bool) → Keeps t.spare (if b then record t { step = LoadsTail waiting } else ends_so p t its)
+    by_test true = record { its_spare = refl; walk = tt }
+    by_test false = ends_so_keeps p t its
+
+ends_keeps : (p : Places) (t : TryState) (its : TryAnswer) → Keeps t.spare (ends p t its)
+unfolding ends
+ends_keeps p t (answer.Wait it) = waits_keeps p t (answer.Wait it) (For it)
+ends_keeps p t (answer.AwaitsDisk it) = waits_keeps p t (answer.AwaitsDisk it) (ForRecord it)
+ends_keeps p t its = ends_so_keeps p t its
+
+tail_keeps : (p : Places) (t : TryState) (waiting : Waiting) (tail : ℕ) → Keeps t.spare (tail_loaded p t waiting tail)
+unfolding tail_loaded
+tail_keeps p t waiting tail = by_tests (is_past_tail (bounds_at t.occasion) tail) (t.walk.entry == 0)
+  where
+    by_tests : (a b : Bool) → Keeps t.spare (if a then ends_so p t answer.LogFull else if b then record t { step = LoadsTaken waiting } else ends_so p t (told_of waiting))
+    by_tests true b = ends_so_keeps p t answer.LogFull
+    by_tests false true = record { its_spare = refl; walk = tt }
+    by_tests false false = ends_so_keeps p t (told_of waiting)
+
+taken_keeps : (p : Places) (t : TryState) (waiting : Waiting) (taken : ℕ) → Keeps t.spare (taken_loaded p t waiting taken)
+unfolding taken_loaded
+taken_keeps p t waiting taken = by_test (is_past_taken (bounds_at t.occasion) taken)
+  where
+    by_test : (b : Bool) → Keeps t.spare (if b then ends_so p t answer.IndexFull else ends_so p t (told_of waiting))
+    by_test true = ends_so_keeps p t answer.IndexFull
+    by_test false = ends_so_keeps p t (told_of waiting)
 
 effect_keeps : (p : Places) (t : TryState) (its : Reply) → Keeps t.spare (takes_effect p t its)
 effect_keeps p t its = ends_keeps p (record t { effect = Some its }) (answer.Done its)
@@ -142,11 +176,20 @@ held_keeps p t addr (Some held) = by_tests (held.entry == t.walk.entry) (held.ke
     by_tests false b d = awaits_keeps p t addr
 
 nowhere_keeps : (p : Places) (t : TryState) → Keeps t.spare (met_nowhere p t)
-nowhere_keeps p t = by_read (is_read t.request.op)
+nowhere_keeps p t = by_tests (is_read t.request.op) (must_count p t)
   where
-    by_read : (b : Bool) → Keeps t.spare (if b then ends p t answer.Absent else copies p t (Known absent_word) false)
-    by_read true = ends_keeps p t answer.Absent
-    by_read false = copies_keeps p t (Known absent_word) false
+    by_tests : (a b : Bool) → Keeps t.spare (if a then ends p t answer.Absent else if b then record t { step = CountsTaken } else copies p t (Known absent_word) false)
+    by_tests true b = ends_keeps p t answer.Absent
+    by_tests false true = record { its_spare = refl; walk = tt }
+    by_tests false false = copies_keeps p t (Known absent_word) false
+
+count_keeps : (p : Places) (t : TryState) (taken : ℕ) → Keeps t.spare (count_loaded p t taken)
+unfolding count_loaded
+count_keeps p t taken = by_test (is_past_taken (bounds_at t.occasion) taken)
+  where
+    by_test : (b : Bool) → Keeps t.spare (if b then ends p t answer.IndexFull else copies p t (Known absent_word) false)
+    by_test true = ends_keeps p t answer.IndexFull
+    by_test false = copies_keeps p t (Known absent_word) false
 
 disk_keeps : (p : Places) (t : TryState) (addr : Addr) → Keeps t.spare (met_disk p t addr)
 disk_keeps p t addr = by_tests (is_read t.request.op) (is_blind t.request.op)
@@ -184,6 +227,7 @@ walked_keeps p t walk.Nowhere = nowhere_keeps p t
 walked_keeps p t (walk.OnDisk addr) = disk_keeps p t addr
 walked_keeps p t (walk.Value value) = ends_keeps p t (answer.Wait reason.Contended)
 walked_keeps p t walk.Full = ends_keeps p t (full_at t.occasion answer.IndexFull)
+walked_keeps p t walk.Kept = ends_keeps p t (full_at t.occasion answer.IndexFull)
 walked_keeps p t walk.Contended = ends_keeps p t (answer.Wait reason.Contended)
 
 safe_keeps : (p : Places) (t : TryState) (addr : Addr) (version : Version) (safe : ℕ) → Keeps t.spare (safe_loaded p t addr version safe)
@@ -340,6 +384,7 @@ entered_has p f number = by_tests (nat_lt 0 f.links) (nat_le number p.overflow) 
 list_has : (f : Finding) (word : ℕ) (linking : Linking) → Has f.spare (led_ask (ended_list f word linking)) (led_to (ended_list f word linking))
 list_has f word Never = it_ends f found.NoSlot
 list_has f word Once = goes_on (record f { step = if f.spare == 0 then find.LoadsTaken word else find.LinksBucket word })
+list_has f word (Within bound) = goes_on (record f { step = find.LoadsTaken word })
 list_has f word Made = it_ends f found.Contended
 
 link_has : (p : Places) (f : Finding) (word : ℕ) → Has f.spare (led_ask (link_led p f word)) (led_to (link_led p f word))
@@ -350,11 +395,19 @@ link_has p f word = by_link (link_of word == 0) refl
     by_link false e = rw e (entered_has p f (link_of word))
 
 count_has : (p : Places) (f : Finding) (word reply : ℕ) → Has f.spare (led_ask (taken_led p f word reply)) (led_to (taken_led p f word reply))
-count_has p f word reply = by_count (nat_lt reply p.overflow) refl
+count_has p f word reply = by_kept (is_kept f.linking reply) refl
   where
-    by_count : (b : Bool) → nat_lt reply p.overflow ≡ b → Has f.spare (led_ask (taken_led p f word reply)) (led_to (taken_led p f word reply))
+    by_count : (b : Bool) → nat_lt reply p.overflow ≡ b → Has f.spare (led_ask (takes_led p f word reply)) (led_to (takes_led p f word reply))
     by_count true e = rw e (goes_on (record f { step = find.TakesBucket word reply }))
     by_count false e = rw e (it_ends f found.Full)
+
+    by_spare : (b : Bool) → (f.spare == 0) ≡ b → is_kept f.linking reply ≡ false → Has f.spare (led_ask (taken_led p f word reply)) (led_to (taken_led p f word reply))
+    by_spare true e below = rw (below, e) (by_count (nat_lt reply p.overflow) refl)
+    by_spare false e below = rw (below, e) (goes_on (record f { step = find.LinksBucket word }))
+
+    by_kept : (b : Bool) → is_kept f.linking reply ≡ b → Has f.spare (led_ask (taken_led p f word reply)) (led_to (taken_led p f word reply))
+    by_kept true e = rw e (it_ends f found.Kept)
+    by_kept false e = by_spare (f.spare == 0) refl e
 
 took_has : (f : Finding) (word taken reply : ℕ) (b : Bool) → (reply == taken) ≡ b → Has (if b then taken + 1 else f.spare) (led_ask (took_led f word taken reply)) (led_to (took_led f word taken reply))
 took_has f word taken reply true e = rw e (goes_on (record f { spare = taken + 1; step = find.LinksBucket word }))
@@ -431,6 +484,7 @@ slot_same : (p : Places) (w : WalkState) (its : Found) → IsSame w (slot_found 
 slot_same p w (found.Slot place word) = reached_same p (record w { place = place; entry = word }) (entry_addr word)
 slot_same p w found.NoSlot = (refl, refl)
 slot_same p w found.Full = (refl, refl)
+slot_same p w found.Kept = (refl, refl)
 slot_same p w found.Contended = (refl, refl)
 
 record_same : (p : Places) (w : WalkState) (addr : Addr) (key : Key) (its : HeaderSaid) → IsSame w (record_met p w addr key its)
@@ -535,6 +589,7 @@ row_spared c t Walks reply spare n at row now few walk =
     let goes = walk_goes c anything t.walk t.walk.step reply refl row.walks.its_row walk in
     walk_spared c anything spare (spare_after c.places (passed (walk_ask c.places t.walk) answer.Shift) reply n) (record (quieted c t) { walk = walk_next c.places t.walk reply }) (walk_ask c.places (walk_next c.places t.walk reply)) at
     (walk_true c anything t.walk reply row.walks tt) refl goes.found (goes.told n now) (λ low. goes.there (few low))
+row_spared c t CountsTaken reply spare n at row now few walk = kept c spare n t.spare (count_loaded c.places (quieted c t) reply) (count_keeps c.places (quieted c t) reply) now few
 row_spared c t (LoadsSafe addr version) reply spare n at row now few walk = kept c spare n t.spare (safe_loaded c.places (quieted c t) addr version reply) (safe_keeps c.places (quieted c t) addr version reply) now few
 row_spared c t (SwapsValue addr) reply spare n at row now few walk = kept c spare n t.spare (takes_effect c.places (quieted c t) (reply_from None c.request.op)) (effect_keeps c.places (quieted c t) (reply_from None c.request.op)) now few
 row_spared c t (LoadsCurrent addr) reply spare n at row now few walk =
@@ -561,6 +616,8 @@ row_spared c t (Appends its) reply spare n at row now few walk =
     let ask : Ask AppendAnswer = append_ask c.places (append_next c.places c.room t.append reply) in
     aside c spare n t.spare (passed (append_ask c.places t.append) answer.Shift) reply (append_ledto c.places s its ask)
     (append_aside c anything row.place row.entry (words_of c.request row.entry row.old) row.last t.append t.append.step row.appends.has_slot row.appends.its_row) now few (append_keeps c.places s its ask (keeps_at s (Appends its) at refl tt))
+row_spared c t (LoadsTail waiting) reply spare n at row now few walk = kept c spare n t.spare (tail_loaded c.places (quieted c t) waiting reply) (tail_keeps c.places (quieted c t) waiting reply) now few
+row_spared c t (LoadsTaken waiting) reply spare n at row now few walk = kept c spare n t.spare (taken_loaded c.places (quieted c t) waiting reply) (taken_keeps c.places (quieted c t) waiting reply) now few
 row_spared c t (DropsExclusive its) reply spare n at row now few walk =
     let s : TryState = record (quieted c t) { latching = latch_next t.latching reply } in
     aside c spare n t.spare (passed (latch_ask t.latching) its) reply (exclusive_dropped c.places s its (latch_next_ask t.latching reply)) (subst (λ x. IsAside c (passed (latch_ask x) its)) (sym row.its_latching) (drop_aside c its)) now few
@@ -585,6 +642,7 @@ row_uses c t (Ended its) n row now = tt
 row_uses c t TakesShared n row now = aside_uses c n (passed (latch_ask t.latching) answer.Shift) (share_aside c anything t.latching row.its_latching)
 row_uses c t LoadsPhase n row now = tt
 row_uses c t Walks n row now = walk_step_uses c t.walk t.walk.step n row.walks.its_row now
+row_uses c t CountsTaken n row now = tt
 row_uses c t (LoadsSafe addr version) n row now = tt
 row_uses c t (SwapsValue addr) n row now = tt
 row_uses c t (LoadsCurrent addr) n row now = aside_uses c n (passed (walk_ask c.places t.walk) answer.Shift) (loads_aside c t.walk addr row.2)
@@ -595,6 +653,8 @@ row_uses c t (TakesExclusive old) n row now = aside_uses c n (passed (latch_ask 
 row_uses c t LoadsOld n row now = aside_uses c n (passed (walk_ask c.places t.walk) answer.Shift) (loads_aside c t.walk row.addr row.loads)
 row_uses c t (Appends its) n row now =
     aside_uses c n (passed (append_ask c.places t.append) answer.Shift) (append_aside c anything row.place row.entry (words_of c.request row.entry row.old) row.last t.append t.append.step row.appends.has_slot row.appends.its_row)
+row_uses c t (LoadsTail waiting) n row now = tt
+row_uses c t (LoadsTaken waiting) n row now = tt
 row_uses c t (DropsExclusive its) n row now = aside_uses c n (passed (latch_ask t.latching) its) (subst (λ x. IsAside c (passed (latch_ask x) its)) (sym row.its_latching) (drop_aside c its))
 row_uses c t (DropsShared its) n row now = aside_uses c n (passed (latch_ask t.latching) its) (subst (λ x. IsAside c (passed (latch_ask x) its)) (sym row.its_latching) (unshare_aside c its))
 

@@ -20,40 +20,51 @@ use Rattle.fkv_ops.specs.declared.answers.TryAnswer.TheVariants as answer
 use Rattle.fkv_ops.specs.declared.requests.HeldRecord.{HeldRecord}
 use Rattle.fkv_ops.specs.declared.requests.Occasion.{Occasion}
 use Rattle.fkv_ops.specs.declared.requests.Occasion.TheVariants.{Call, Poll}
+use Rattle.fkv_ops.specs.declared.bounds.Bounds.{Bounds}
+use Rattle.fkv_ops.specs.Bounds.{bounds_at, has_bounds, IsCall}
+use Rattle.fkv_index.specs.Finding.{is_beyond}
 use Rattle.fkv_ops.specs.declared.trying.OldValue.TheVariants.{InMemory, Known}
-use Rattle.fkv_ops.specs.declared.trying.Trying.TheVariants.{Walks, SwapsValue, LoadsCurrent, LoadsAnswer}
+use Rattle.fkv_ops.specs.declared.trying.Trying.TheVariants.{Walks, CountsTaken, SwapsValue, LoadsCurrent, LoadsAnswer}
 use Rattle.fkv_ops.specs.declared.walking.WalkAnswer.{WalkAnswer}
 use Rattle.fkv_ops.specs.declared.walking.WalkAnswer.TheVariants as walk
 use Rattle.fkv_ops.specs.Requests.{is_read, is_blind}
 use Rattle.fkv_ops.specs.Walking.{WalkState, walk_ask, walk_on}
-use Rattle.fkv_ops.specs.Trying.{TryState, ends, full_at, is_prepare, is_marked, is_next_marked, is_above, must_shift, copies, awaits, held_used, met_nowhere, met_disk, changes, region_met, met_record, walked, has_walked, walk_ledto, safe_loaded}
+use Rattle.fkv_ops.specs.Trying.{TryState, is_wait, ends, full_at, is_prepare, is_marked, is_next_marked, is_above, must_shift, copies, awaits, held_used, must_count, met_nowhere, met_disk, changes, region_met, met_record, walked, has_walked, walk_ledto, safe_loaded}
 use Rattle.fkv_ops.specs.TryRun.{Trial, Told, reply_told}
 use Rattle.fkv_ops.specs.Reasons.{Loaded, HasEntry, WalksTo, HasFound, LeavesMemory, HasNone, AtItsEnd, WithoutSlot, HoldsFrom, IsOnDisk, AsRead, WithoutHeld, FromAnother, BelowHead, BehindHeld, IsIndexFull, HasNoRoom, tells_own, OthersWentOn, ByRecord, IsTrue}
 use Rattle.fkv_ops.specs.Effects.{MayChange, shares_latch, SeesNoneAbove, MayStay, BySight, FirstInMemory, FirstBelowHead, FirstNowhere, OfAnother, BelowSafe, OfNone, OfAny, OfHeld, OfNoneBehind}
 use Rattle.fkv_ops.proofs.BoolTests.{lt_true, lt_false, le_true, le_false, eq_true, eq_false, some_where, both}
-use Rattle.fkv_ops.proofs.Walked.{HasFirst, FirstTrue, FirstSome, FirstAt, first_true, NowhereTrue, WalkTrue, WalkKnows, walk_answers, walk_on_loads, walk_on_found}
-use Rattle.fkv_ops.proofs.TryRows.{norm, latch_held, owed_at, Under, Stays, Updates, FoundRow, TryRow, told_at, Comes, ends_true}
+use Rattle.fkv_ops.proofs.Walked.{HasFirst, FirstTrue, FirstSome, FirstAt, first_true, NowhereTrue, WalkTrue, WalkKnows, walk_answers, walk_on_loads, walk_on_found, walk_on_same, at_slot}
+use Rattle.fkv_ops.proofs.TryRows.{norm, latch_held, owed_at, Under, Stays, Updates, FoundRow, TryRow, told_at, Comes, bounded, Lacks, ends_true}
 use Rattle.fkv_ops.proofs.Copied.{copies_true}
 
 -- the try comes to its end, without an effect
-pub quiet_end : (c : Trial) (told : Told) (t : TryState) (its : TryAnswer) → t.effect ≡ None → Under c told t.has_shared → reply_told its ≡ [] → IsTrue c told its → Comes c told None [] (latch_held t) (ends c.places (norm c t) its)
-quiet_end c told t its quiet under none truth = subst (λ e. Comes c told e [] (latch_held t) (ends c.places (norm c t) its)) quiet (subst (λ l. Comes c told t.effect l (latch_held t) (ends c.places (norm c t) its)) none (ends_true c told t its truth (λ waits. under.shared)))
+pub quiet_end : (c : Trial) (told : Told) (t : TryState) (its : TryAnswer) → t.effect ≡ None → Under c told t.has_shared → reply_told its ≡ [] → IsTrue c told its → Lacks c told t its → Comes c told None [] (latch_held t) (ends c.places (norm c t) its)
+quiet_end c told t its quiet under none truth lacks = subst (λ e. Comes c told e [] (latch_held t) (ends c.places (norm c t) its)) quiet (subst (λ l. Comes c told t.effect l (latch_held t) (ends c.places (norm c t) its)) none (ends_true c told t its truth (λ waits. under.shared) lacks))
 
-pub full_true : (c : Trial) (told : Told) (t : TryState) (refused : TryAnswer) (full : IsIndexFull c told ⊎ HasNoRoom told c.room) → t.effect ≡ None → Under c told t.has_shared → reply_told refused ≡ [] → (c.occasion ≡ Call → IsTrue c told refused)
-    → Comes c told None [] (latch_held t) (ends c.places (norm c t) (full_at c.occasion refused))
-full_true c told t refused full quiet under none truth = by_occasion c.occasion refl
+-- no poll has bounds
+free_poll : (o : Occasion) (b : Bool) → o ≡ Poll → (has_bounds (bounds_at o) && b) ≡ true → ⊥
+free_poll (Call bounds) b e f = cc
+free_poll Poll b e f = cc
+
+pub full_true : (c : Trial) (told : Told) (t : TryState) (refused : TryAnswer) → (c.occasion ≡ Poll → IsIndexFull c told ⊎ HasNoRoom told c.room) → t.effect ≡ None → Under c told t.has_shared → reply_told refused ≡ [] → is_wait refused ≡ false
+    → (IsCall c.occasion → IsTrue c told refused) → Comes c told None [] (latch_held t) (ends c.places (norm c t) (full_at c.occasion refused))
+full_true c told t refused full quiet under none refuses truth = by_occasion c.occasion refl
   where
     by_occasion : (o : Occasion) → c.occasion ≡ o → Comes c told None [] (latch_held t) (ends c.places (norm c t) (full_at o refused))
-    by_occasion Call e = quiet_end c told t refused quiet under none (truth e)
-    by_occasion Poll e = quiet_end c told t (answer.Wait reason.Full) quiet under refl (e, full)
+    by_occasion (Call bounds) e = quiet_end c told t refused quiet under none (truth (subst IsCall (sym e) tt)) (λ b waits. not_both (sym refuses ∙ waits))
+      where
+        not_both : {X : Type 0} → false ≡ true → X
+        not_both f = cc
+    by_occasion Poll e = quiet_end c told t (answer.Wait reason.Full) quiet under refl (e, full e) (λ b waits. absurd (free_poll c.occasion (not (is_read c.request.op)) e b))
 
-awaits_true : (c : Trial) (told : Told) (t : TryState) (addr : Addr) → t.effect ≡ None → Under c told t.has_shared → IsOnDisk c told (record { entry = t.walk.entry; addr = addr }) → Comes c told None [] (latch_held t) (awaits c.places (norm c t) addr)
-awaits_true c told t addr quiet under disk = quiet_end c told t (answer.AwaitsDisk (record { entry = t.walk.entry; addr = addr })) quiet under refl disk
+awaits_true : (c : Trial) (told : Told) (t : TryState) (addr : Addr) → t.effect ≡ None → Under c told t.has_shared → HasEntry c told t.walk.place t.walk.entry → IsOnDisk c told (record { entry = t.walk.entry; addr = addr }) → Comes c told None [] (latch_held t) (awaits c.places (norm c t) addr)
+awaits_true c told t addr quiet under slot disk = quiet_end c told t (answer.AwaitsDisk (record { entry = t.walk.entry; addr = addr })) quiet under refl disk (λ b waits. at_slot c told t.walk.place t.walk.entry slot)
 
 held_true : (c : Trial) (told : Told) (t : TryState) (addr : Addr) (its : Option HeldRecord) → t.effect ≡ None → t.has_exclusive ≡ false → Updates c told t → LeavesMemory c told t.walk.place t.walk.entry addr.0 → is_blind c.request.op ≡ false → c.request.held ≡ its
     → Comes c told None [] (latch_held t) (held_used c.places (norm c t) addr its)
 unfolding held_used
-held_true c told t addr None quiet not_alone updates leaves counts holds = awaits_true c told t addr quiet updates.under (BelowHead leaves counts (WithoutHeld holds))
+held_true c told t addr None quiet not_alone updates leaves counts holds = awaits_true c told t addr quiet updates.under leaves.walk.slot (BelowHead leaves counts (WithoutHeld holds))
 held_true c told t addr (Some held) quiet not_alone updates leaves counts holds = by_entry (held.entry == t.walk.entry) refl
   where
     from : held.entry ≡ t.walk.entry → HoldsFrom c told t.walk.place held
@@ -62,7 +73,7 @@ held_true c told t addr (Some held) quiet not_alone updates leaves counts holds 
     by_end : (b : Bool) → (held.previous.0 == 0) ≡ b → held.entry ≡ t.walk.entry → held.key.0 ≢ (key_of c.request.op).0
         → Comes c told None [] (latch_held t) (if b then copies c.places (norm c t) (Known absent_word) false else awaits c.places (norm c t) held.previous)
     by_end true e same other = copies_true c told t (Known absent_word) false quiet not_alone updates leaves.walk.slot (OfNoneBehind (from same) same other (eq_true held.previous.0 0 e))
-    by_end false e same other = awaits_true c told t held.previous quiet updates.under
+    by_end false e same other = awaits_true c told t held.previous quiet updates.under leaves.walk.slot
         (BehindHeld (record { update = updates.update; place = t.walk.place; held = held; its_entry = sym same; its_addr = refl; holds = from same; another = other; some = some_where held.previous.0 e }))
 
     by_key : (b : Bool) → (held.key.0 == (key_of c.request.op).0) ≡ b → held.entry ≡ t.walk.entry
@@ -73,7 +84,7 @@ held_true c told t addr (Some held) quiet not_alone updates leaves counts holds 
     by_entry : (b : Bool) → (held.entry == t.walk.entry) ≡ b
         → Comes c told None [] (latch_held t) (if b then (if held.key.0 == (key_of c.request.op).0 then copies c.places (norm c t) (Known held.value) false else if held.previous.0 == 0 then copies c.places (norm c t) (Known absent_word) false else awaits c.places (norm c t) held.previous) else awaits c.places (norm c t) addr)
     by_entry true e = by_key (held.key.0 == (key_of c.request.op).0) refl (eq_true held.entry t.walk.entry e)
-    by_entry false e = awaits_true c told t addr quiet updates.under (BelowHead leaves counts (FromAnother holds (eq_false held.entry t.walk.entry e)))
+    by_entry false e = awaits_true c told t addr quiet updates.under leaves.walk.slot (BelowHead leaves counts (FromAnother holds (eq_false held.entry t.walk.entry e)))
 
 none_read : (c : Trial) (told : Told) (w : WalkState) → NowhereTrue c told w → HasNone c told
 none_read c told w (inl at) = AtItsEnd at.0
@@ -89,9 +100,26 @@ none_update c told w (inr without) update = absurd (no (sym update ∙ without.0
 nowhere_true : (c : Trial) (told : Told) (t : TryState) → t.effect ≡ None → t.has_exclusive ≡ false → Under c told t.has_shared → Stays c told → NowhereTrue c told t.walk → Comes c told None [] (latch_held t) (met_nowhere c.places (norm c t))
 nowhere_true c told t quiet not_alone under stays none = by_read (is_read c.request.op) refl
   where
-    by_read : (b : Bool) → is_read c.request.op ≡ b → Comes c told None [] (latch_held t) (if b then ends c.places (norm c t) answer.Absent else copies c.places (norm c t) (Known absent_word) false)
-    by_read true e = quiet_end c told t answer.Absent quiet under refl (record { reads = e; none = inr (none_read c told t.walk none) })
-    by_read false e = let walks = none_update c told t.walk none e in copies_true c told t (Known absent_word) false quiet not_alone (record { under = under; update = e; stays = stays }) walks.slot (OfNone walks)
+    here : is_read c.request.op ≡ false → WalksTo c told t.walk.place t.walk.entry 0
+    here e = none_update c told t.walk none e
+
+    updates : is_read c.request.op ≡ false → Updates c told t
+    updates e = record { under = under; update = e; stays = stays; lacks = at_slot c told t.walk.place t.walk.entry (here e).slot }
+
+    empty : must_count c.places (norm c t) ≡ true → t.walk.entry ≡ 0
+    empty d = eq_true t.walk.entry 0 (both (bounded c) (t.walk.entry == 0) (both (bounded c && t.walk.entry == 0) (is_beyond c.places t.walk.finding) d).0).1
+
+    by_count : (b : Bool) → must_count c.places (norm c t) ≡ b → is_read c.request.op ≡ false → Comes c told None [] (latch_held t) (if b then record (norm c t) { step = CountsTaken } else copies c.places (norm c t) (Known absent_word) false)
+    by_count true d e = record { same = refl; owes = refl; its_effect = quiet; its_told = refl; row = record { not_alone = not_alone; updates = again (updates e); walks = here e; empty = empty d } }
+      where
+        again : Updates c told t → Updates c told (record (norm c t) { step = CountsTaken })
+        again u = record { under = u.under; update = u.update; stays = u.stays; lacks = u.lacks }
+    by_count false d e = copies_true c told t (Known absent_word) false quiet not_alone (updates e) (here e).slot (OfNone (here e))
+
+    by_read : (b : Bool) → is_read c.request.op ≡ b
+        → Comes c told None [] (latch_held t) (if b then ends c.places (norm c t) answer.Absent else if must_count c.places (norm c t) then record (norm c t) { step = CountsTaken } else copies c.places (norm c t) (Known absent_word) false)
+    by_read true e = quiet_end c told t answer.Absent quiet under refl (record { reads = e; none = inr (none_read c told t.walk none) }) (λ b waits. cc)
+    by_read false e = by_count (must_count c.places (norm c t)) refl e
 
 -- a read's value counts
 read_counts : (op : Op) → is_read op ≡ true → is_blind op ≡ false
@@ -107,12 +135,12 @@ disk_true c told t addr quiet not_alone under stays leaves = by_read (is_read c.
   where
     by_blind : (b : Bool) → is_blind c.request.op ≡ b → is_read c.request.op ≡ false
         → Comes c told None [] (latch_held t) (if b then copies c.places (norm c t) (Known absent_word) false else held_used c.places (norm c t) addr c.request.held)
-    by_blind true e update = copies_true c told t (Known absent_word) false quiet not_alone (record { under = under; update = update; stays = stays }) leaves.walk.slot (OfAny leaves e)
-    by_blind false e update = held_true c told t addr c.request.held quiet not_alone (record { under = under; update = update; stays = stays }) leaves e refl
+    by_blind true e update = copies_true c told t (Known absent_word) false quiet not_alone (record { under = under; update = update; stays = stays; lacks = at_slot c told t.walk.place t.walk.entry leaves.walk.slot }) leaves.walk.slot (OfAny leaves e)
+    by_blind false e update = held_true c told t addr c.request.held quiet not_alone (record { under = under; update = update; stays = stays; lacks = at_slot c told t.walk.place t.walk.entry leaves.walk.slot }) leaves e refl
 
     by_read : (b : Bool) → is_read c.request.op ≡ b
         → Comes c told None [] (latch_held t) (if b then awaits c.places (norm c t) addr else if is_blind c.request.op then copies c.places (norm c t) (Known absent_word) false else held_used c.places (norm c t) addr c.request.held)
-    by_read true e = awaits_true c told t addr quiet under (BelowHead leaves (read_counts c.request.op e) (AsRead e))
+    by_read true e = awaits_true c told t addr quiet under leaves.walk.slot (BelowHead leaves (read_counts c.request.op e) (AsRead e))
     by_read false e = by_blind (is_blind c.request.op) refl e
 
 may_change : (c : Trial) (told : Told) (w : WalkState) (addr : Addr) (version : Version) → FoundRow c told w addr version → version.0 ≡ mark c.request.version.0 → c.seen.offsets.read_only.0 ≤ addr.0 → MayChange c told addr.0
@@ -122,13 +150,13 @@ changes_true : (c : Trial) (told : Told) (t : TryState) (addr : Addr) (version :
 changes_true c told t addr version quiet updates found may = by_blind (is_blind c.request.op) refl
   where
     by_blind : (b : Bool) → is_blind c.request.op ≡ b → Comes c told None [] (latch_held t) (if b then record (norm c t) { step = SwapsValue addr } else record (norm c t) { walk = walk_on t.walk; step = LoadsCurrent addr })
-    by_blind true e = record { same = refl; owes = refl; its_effect = quiet; its_told = refl; row = (record { under = updates.under; update = updates.update; stays = updates.stays }, may, e) }
+    by_blind true e = record { same = refl; owes = refl; its_effect = quiet; its_told = refl; row = (record { under = updates.under; update = updates.update; stays = updates.stays; lacks = updates.lacks }, may, e) }
     by_blind false e = record {
       same = refl;
       owes = refl;
       its_effect = quiet;
       its_told = refl;
-      row = (record { under = updates.under; update = updates.update; stays = updates.stays }, may, walk_on_loads c told t.walk addr version found.at found.its);
+      row = (record { under = updates.under; update = updates.update; stays = updates.stays; lacks = λ none. updates.lacks (sym (walk_on_same t.walk).1 ∙ none) }, may, walk_on_loads c told t.walk addr version found.at found.its);
     }
 
 right_false : (a b : Bool) → b ≡ false → (a && b) ≡ false
@@ -151,7 +179,7 @@ region_true c told t addr version quiet not_alone updates found = by_head (nat_l
       owes = refl;
       its_effect = quiet;
       its_told = refl;
-      row = record { not_alone = not_alone; updates = record { under = updates.under; update = updates.update; stays = updates.stays }; found = found; below = le_false c.seen.offsets.read_only.0 addr.0 e };
+      row = record { not_alone = not_alone; updates = record { under = updates.under; update = updates.update; stays = updates.stays; lacks = updates.lacks }; found = found; below = le_false c.seen.offsets.read_only.0 addr.0 e };
     }
 
     by_head : (b : Bool) → nat_lt addr.0 c.seen.offsets.head.0 ≡ b
@@ -171,15 +199,20 @@ record_true c told t addr version quiet not_alone under stays found = by_read (i
       its_told = refl;
       row = record { under = under; reads = e; addr = addr; version = version.0; found = walk_on_found c told t.walk addr version found.at found.its; loads = walk_on_loads c told t.walk addr version found.at found.its };
     }
-    by_read false e = region_true c told t addr version quiet not_alone (record { under = under; update = e; stays = stays }) found
+    by_read false e = region_true c told t addr version quiet not_alone (record { under = under; update = e; stays = stays; lacks = at_slot c told t.walk.place t.walk.entry found.its.its_record.walk.slot }) found
+
+pub never_kept : (o : Occasion) (bounds : Bounds) → o ≡ Poll → bounds_at o ≡ Some bounds → ⊥
+never_kept (Call its) bounds e f = cc
+never_kept Poll bounds e f = cc
 
 walked_true : (c : Trial) (told : Told) (t : TryState) (its : WalkAnswer) → t.effect ≡ None → t.has_exclusive ≡ false → Under c told t.has_shared → (has_walked its ≡ true → Stays c told) → WalkTrue c told t.walk its → Comes c told None [] (latch_held t) (walked c.places (norm c t) its)
 walked_true c told t (walk.Found addr version) quiet not_alone under stays knows = record_true c told t addr version quiet not_alone under (stays refl) (record { at = knows.0; its = knows.1 })
 walked_true c told t walk.Nowhere quiet not_alone under stays knows = nowhere_true c told t quiet not_alone under (stays refl) knows
 walked_true c told t (walk.OnDisk addr) quiet not_alone under stays knows = disk_true c told t addr quiet not_alone under (stays refl) knows.0
 walked_true c told t (walk.Value value) quiet not_alone under stays knows = absurd knows
-walked_true c told t walk.Full quiet not_alone under stays knows = full_true c told t answer.IndexFull (inl knows) quiet under refl (λ at. (at, knows))
-walked_true c told t walk.Contended quiet not_alone under stays knows = quiet_end c told t (answer.Wait reason.Contended) quiet under refl knows
+walked_true c told t walk.Full quiet not_alone under stays knows = full_true c told t answer.IndexFull (λ at. inl knows) quiet under refl refl (λ call. (call, inl knows))
+walked_true c told t walk.Kept quiet not_alone under stays knows = full_true c told t answer.IndexFull (λ at. absurd (never_kept c.occasion knows.past.bounds at knows.past.has)) quiet under refl refl (λ call. (call, inr knows))
+walked_true c told t walk.Contended quiet not_alone under stays knows = quiet_end c told t (answer.Wait reason.Contended) quiet under refl knows.0 (λ b waits. knows.1)
 
 first_some : (c : Trial) (told : Told) (place entry : ℕ) (first : Option Version) → FirstSome c told place entry first → FirstTrue c told place entry first
 first_some c told place entry None knows = absurd knows
@@ -215,6 +248,7 @@ stays_known c told w walk.Nowhere e update (inr without) low = absurd (no (sym u
 stays_known c told w (walk.OnDisk addr) e update knows low = below_stays c told w.place w.entry addr.0 w.first knows.0.walk.slot knows.0.below knows.1 low
 stays_known c told w (walk.Value value) e update knows low = cc
 stays_known c told w walk.Full e update knows low = cc
+stays_known c told w walk.Kept e update knows low = cc
 stays_known c told w walk.Contended e update knows low = cc
 
 without_shift : (a b : Bool) → (a && b) ≡ false → a ≡ true → b ≡ false
@@ -242,6 +276,7 @@ first_known c told w walk.Nowhere e (inr without) = subst (FirstTrue c told w.pl
 first_known c told w (walk.OnDisk addr) e knows = first_true c told w.place w.entry addr.0 w.first knows.1
 first_known c told w (walk.Value value) e knows = cc
 first_known c told w walk.Full e knows = cc
+first_known c told w walk.Kept e knows = cc
 first_known c told w walk.Contended e knows = cc
 
 others_by_record : (c : Trial) (told : Told) (place entry : ℕ) (first : Option Version) → FirstTrue c told place entry first → is_above first c.request.version ≡ true → OthersWentOn c told
@@ -273,6 +308,7 @@ walk_led_true c told t (Done its) quiet not_alone at under knows asks = by_walke
         let wants = both (is_prepare c.seen.phase) (not (is_read c.request.op)) tells.0 in
         quiet_end c told (record t { spare = t.walk.spare }) answer.Shift quiet under refl
         (record { in_prepare = wants.0; update = negated (is_read c.request.op) wants.1; others = others_by_record c told t.walk.place t.walk.entry t.walk.first (first_known c told t.walk its d here) split.1 })
+        (λ b waits. cc)
       where
         negated : (b : Bool) → not b ≡ true → b ≡ false
         negated true e = cc
@@ -295,5 +331,6 @@ safe_true c told t addr version safe quiet not_alone updates found below was = b
     by_safe : (b : Bool) → nat_le safe addr.0 ≡ b → Comes c told None [] (latch_held t) (if b then ends c.places (norm c t) (answer.Wait reason.Fuzzy) else copies c.places (norm c t) InMemory (tells_own c version.0))
     by_safe true e = quiet_end c told t (answer.Wait reason.Fuzzy) quiet updates.under refl
         (record { place = t.walk.place; entry = t.walk.entry; addr = addr.0; version = version.0; safe = safe; found = found.its.its_record; below_seen = below; its_safe = was; above_safe = le_true safe addr.0 e })
+        (λ b waits. updates.lacks)
     by_safe false e = copies_true c told t InMemory (tells_own c version.0) quiet not_alone updates found.its.its_record.walk.slot
         (record { addr = addr; version = version; found = found; may = BelowSafe safe below was (le_false safe addr.0 e); current = refl })

@@ -31,16 +31,20 @@ use Rattle.fkv_ops.specs.declared.requests.Seen.{Seen}
 use Rattle.fkv_ops.specs.declared.trying.OldValue.{OldValue}
 use Rattle.fkv_ops.specs.declared.trying.OldValue.TheVariants.{InMemory, Known}
 use Rattle.fkv_ops.specs.declared.trying.Trying.{Trying}
-use Rattle.fkv_ops.specs.declared.trying.Trying.TheVariants.{Ended, TakesShared, LoadsPhase, Walks, LoadsSafe, SwapsValue, LoadsCurrent, ChangesValue, LoadsAnswer, TakesExclusive, LoadsOld, Appends, DropsExclusive, DropsShared}
+use Rattle.fkv_ops.specs.declared.trying.Trying.TheVariants.{Ended, TakesShared, LoadsPhase, Walks, CountsTaken, LoadsSafe, SwapsValue, LoadsCurrent, ChangesValue, LoadsAnswer, TakesExclusive, LoadsOld, Appends, LoadsTail, LoadsTaken, DropsExclusive, DropsShared}
 use Rattle.fkv_ops.specs.declared.walking.WalkAnswer.{WalkAnswer}
 use Rattle.fkv_ops.specs.declared.walking.WalkAnswer.TheVariants as walk
+use Rattle.fkv_ops.specs.declared.answers.Waiting.{Waiting}
+use Rattle.fkv_ops.specs.declared.answers.Waiting.TheVariants.{For, ForRecord}
+use Rattle.fkv_ops.specs.Bounds.{bounds_at, tail_bound, is_past_taken, is_past_tail}
+use Rattle.fkv_ops.specs.Waiting.{told_of}
 use Rattle.fkv_ops.specs.Values.{value_of}
-use Rattle.fkv_ops.specs.Requests.{purpose_of, is_read, is_blind}
+use Rattle.fkv_ops.specs.Requests.{purpose_at, is_read, is_blind}
 use Rattle.fkv_ops.specs.Walking.{walk_ask, walk_next, walk_on}
 use Rattle.fkv_ops.specs.Appending.{append_ask, append_next}
-use Rattle.fkv_ops.specs.Trying.{TryState, new_try, trying_ask, try_ask, with_latch, is_wait, ended_without, ends, takes_effect, full_at, walks, wants_shared, try_begun, is_next_marked, latch_shared, shared_ledto, is_still_in, phase_loaded, must_shift, wants_exclusive, words_of, slot_of, appends, copies_from, copies, awaits, held_used, met_nowhere, met_disk, changes, is_own_version, region_met, met_record, walked, has_walked, walk_ledto, is_surely_own, safe_loaded, current_ledto, value_changed, told_value, answer_ledto, exclusive_ledto, old_ledto, append_ledto, exclusive_dropped, shared_dropped, latch_moved, walk_moved, trying_next, try_next}
+use Rattle.fkv_ops.specs.Trying.{TryState, new_try, trying_ask, try_ask, with_latch, is_wait, ended_without, is_bounded, ends, ends_by, ends_so, tail_loaded, taken_loaded, takes_effect, full_at, walks, wants_shared, try_begun, is_next_marked, latch_shared, shared_ledto, is_still_in, phase_loaded, must_shift, wants_exclusive, words_of, slot_of, appends, copies_from, copies, awaits, held_used, must_count, met_nowhere, count_loaded, met_disk, changes, is_own_version, region_met, met_record, walked, has_walked, walk_ledto, is_surely_own, safe_loaded, current_ledto, value_changed, told_value, answer_ledto, exclusive_ledto, old_ledto, append_ledto, exclusive_dropped, shared_dropped, latch_moved, walk_moved, trying_next, try_next}
 use Rattle.fkv_plane.specs.AsksLeft.{AsksWhereLeft, sum_left}
-use Rattle.fkv_ops.specs.AsksLeft.{walk_asks_left, most_walk_asks, append_asks_left, most_drop_asks, most_append_asks, most_copy_asks, most_asks_behind_walk, most_asks_behind_share, trying_asks_left, try_asks_left}
+use Rattle.fkv_ops.specs.AsksLeft.{walk_asks_left, most_walk_asks, append_asks_left, most_drop_asks, most_end_asks, most_append_asks, most_copy_asks, most_asks_behind_walk, most_asks_behind_share, trying_asks_left, try_asks_left}
 use Rattle.fkv_plane.proofs.Shown.{none, done_left, none_left, some_inside, passed_left, passed_alone, sum_most, inside_fewer, behind_fewer}
 use Rattle.fkv_ops.proofs.WalkAsks.{walk_left, walk_begun_left, walk_fewer, walk_on_left}
 use Rattle.fkv_ops.proofs.AppendAsks.{append_left, append_begun_left, append_fewer}
@@ -51,14 +55,17 @@ trying_left p t (Ended its) = done_left its
 trying_left p t TakesShared = passed_left (asks_left t.latching) (most_asks_behind_share p) (latch_ask t.latching) answer.Shift (latch_ask_left t.latching)
 trying_left p t LoadsPhase = (λ e. omega arith, λ some. refl)
 trying_left p t Walks = passed_left (walk_asks_left p t.walk) most_asks_behind_walk (walk_ask p t.walk) answer.Shift (walk_left p t.walk)
+trying_left p t CountsTaken = (λ e. omega arith, λ some. refl)
 trying_left p t (LoadsSafe addr version) = (λ e. omega arith, λ some. refl)
 trying_left p t (SwapsValue addr) = (λ e. omega arith, λ some. refl)
-trying_left p t (LoadsCurrent addr) = passed_left (walk_asks_left p t.walk) (1 + most_drop_asks) (walk_ask p t.walk) answer.Shift (walk_left p t.walk)
+trying_left p t (LoadsCurrent addr) = passed_left (walk_asks_left p t.walk) (1 + most_end_asks) (walk_ask p t.walk) answer.Shift (walk_left p t.walk)
 trying_left p t (ChangesValue addr old) = (λ e. omega arith, λ some. refl)
-trying_left p t LoadsAnswer = passed_left (walk_asks_left p t.walk) most_drop_asks (walk_ask p t.walk) answer.Shift (walk_left p t.walk)
+trying_left p t LoadsAnswer = passed_left (walk_asks_left p t.walk) most_end_asks (walk_ask p t.walk) answer.Shift (walk_left p t.walk)
 trying_left p t (TakesExclusive old) = passed_left (asks_left t.latching) (walk_asks_left p (walk_on t.walk) + most_append_asks) (latch_ask t.latching) answer.Shift (latch_ask_left t.latching)
 trying_left p t LoadsOld = passed_left (walk_asks_left p t.walk) most_append_asks (walk_ask p t.walk) answer.Shift (walk_left p t.walk)
-trying_left p t (Appends its) = passed_left (append_asks_left t.append) most_drop_asks (append_ask p t.append) answer.Shift (append_left p t.append)
+trying_left p t (Appends its) = passed_left (append_asks_left t.append) most_end_asks (append_ask p t.append) answer.Shift (append_left p t.append)
+trying_left p t (LoadsTail waiting) = (λ e. omega arith, λ some. refl)
+trying_left p t (LoadsTaken waiting) = (λ e. omega arith, λ some. refl)
 trying_left p t (DropsExclusive its) = passed_left (asks_left t.latching) 1 (latch_ask t.latching) its (latch_ask_left t.latching)
 trying_left p t (DropsShared its) = passed_alone (asks_left t.latching) (latch_ask t.latching) its (latch_ask_left t.latching)
 
@@ -69,18 +76,18 @@ try_left p t = trying_left p t t.step
 walks_left : (p : Places) (t : TryState) → try_asks_left p (walks p t) ≤ most_walk_asks p + most_asks_behind_walk
 unfolding trying_asks_left
 walks_left p t =
-    let begun = walk_begun_left p t.home (key_of t.request.op) (purpose_of t.request.op) t.seen.offsets.head t.spare in
+    let begun = walk_begun_left p t.home (key_of t.request.op) (purpose_at t.occasion t.request.op) t.seen.offsets.head t.spare in
     let both = sum_most (walk_asks_left p (walks p t).walk) most_asks_behind_walk in
     omega (arith, begun, both)
 
-pub try_begun_left : (p : Places) (bits : ℕ) (request : Request) (seen : Seen) (occasion : Occasion) (spare : ℕ) → try_asks_left p (try_begun p bits request seen occasion spare) ≤ 8 * (p.overflow + 1) + 2 * p.ring + 21
+pub try_begun_left : (p : Places) (bits : ℕ) (request : Request) (seen : Seen) (occasion : Occasion) (spare : ℕ) → try_asks_left p (try_begun p bits request seen occasion spare) ≤ 8 * (p.overflow + 1) + 2 * p.ring + 23
 unfolding trying_asks_left sum_left asks_left
 try_begun_left p bits request seen occasion spare = tested (wants_shared its)
   where
     its : TryState
     its = new_try bits request seen occasion spare
 
-    tested : (b : Bool) → try_asks_left p (if b then with_latch p its TakeShared TakesShared else walks p its) ≤ 8 * (p.overflow + 1) + 2 * p.ring + 21
+    tested : (b : Bool) → try_asks_left p (if b then with_latch p its TakeShared TakesShared else walks p its) ≤ 8 * (p.overflow + 1) + 2 * p.ring + 23
     tested true = omega arith
     tested false = let begun = walks_left p its in omega (arith, begun)
 
@@ -92,19 +99,50 @@ ended_without_left p t its = tested (t.has_shared && not (is_wait its))
     tested true = omega arith
     tested false = omega arith
 
-ends_left : (p : Places) (t : TryState) (its : TryAnswer) → try_asks_left p (ends p t its) ≤ 2
-unfolding ends trying_asks_left sum_left asks_left
-ends_left p t its = tested t.has_exclusive
+ends_so_left : (p : Places) (t : TryState) (its : TryAnswer) → try_asks_left p (ends_so p t its) ≤ 2
+unfolding ends_so trying_asks_left sum_left asks_left
+ends_so_left p t its = tested t.has_exclusive
   where
     tested : (b : Bool) → try_asks_left p (if b then with_latch p (record t { has_exclusive = false }) DropExclusive (DropsExclusive its) else ended_without p t its) ≤ 2
     tested true = omega arith
     tested false = let few = ended_without_left p t its in omega (arith, few)
 
+waits_left : (p : Places) (t : TryState) (its : TryAnswer) (waiting : Waiting) → try_asks_left p (ends_by p t its (Some waiting)) ≤ 4
+unfolding trying_asks_left
+waits_left p t its waiting = tested (is_bounded t)
+  where
+    tested : (b : Bool) → try_asks_left p (if b then record t { step = LoadsTail waiting } else ends_so p t its) ≤ 4
+    tested true = omega arith
+    tested false = let few = ends_so_left p t its in omega (arith, few)
+
+ends_left : (p : Places) (t : TryState) (its : TryAnswer) → try_asks_left p (ends p t its) ≤ 4
+unfolding ends
+ends_left p t (answer.Wait it) = waits_left p t (answer.Wait it) (For it)
+ends_left p t (answer.AwaitsDisk it) = waits_left p t (answer.AwaitsDisk it) (ForRecord it)
+ends_left p t its = let few = ends_so_left p t its in omega (arith, few)
+
+tail_loaded_left : (p : Places) (t : TryState) (waiting : Waiting) (tail : ℕ) → try_asks_left p (tail_loaded p t waiting tail) ≤ 3
+unfolding tail_loaded trying_asks_left
+tail_loaded_left p t waiting tail = tested (is_past_tail (bounds_at t.occasion) tail) (t.walk.entry == 0)
+  where
+    tested : (past none : Bool) → try_asks_left p (if past then ends_so p t answer.LogFull else if none then record t { step = LoadsTaken waiting } else ends_so p t (told_of waiting)) ≤ 3
+    tested true none = let few = ends_so_left p t answer.LogFull in omega (arith, few)
+    tested false true = omega arith
+    tested false false = let few = ends_so_left p t (told_of waiting) in omega (arith, few)
+
+taken_loaded_left : (p : Places) (t : TryState) (waiting : Waiting) (taken : ℕ) → try_asks_left p (taken_loaded p t waiting taken) ≤ 2
+unfolding taken_loaded
+taken_loaded_left p t waiting taken = tested (is_past_taken (bounds_at t.occasion) taken)
+  where
+    tested : (past : Bool) → try_asks_left p (if past then ends_so p t answer.IndexFull else ends_so p t (told_of waiting)) ≤ 2
+    tested true = ends_so_left p t answer.IndexFull
+    tested false = ends_so_left p t (told_of waiting)
+
 appends_left : (p : Places) (t : TryState) (old : ℕ) → try_asks_left p (appends t old) ≤ most_append_asks
 unfolding appends trying_asks_left
 appends_left p t old =
-    let begun = append_begun_left (slot_of t) (words_of t.request t.walk.entry (value_of old)) in
-    let both = sum_most (append_asks_left (appends t old).append) most_drop_asks in
+    let begun = append_begun_left (slot_of t) (words_of t.request t.walk.entry (value_of old)) (tail_bound (bounds_at t.occasion)) in
+    let both = sum_most (append_asks_left (appends t old).append) most_end_asks in
     omega (arith, begun, both)
 
 copies_from_left : (p : Places) (t : TryState) (old : OldValue) → try_asks_left p (copies_from t old) ≤ walk_asks_left p (walk_on t.walk) + most_append_asks
@@ -124,7 +162,7 @@ copies_left p t old is_current = tested (wants_exclusive t is_current)
     tested true = omega arith
     tested false = let few = copies_from_left p t old in omega (arith, few)
 
-takes_effect_left : (p : Places) (t : TryState) (told : Reply) → try_asks_left p (takes_effect p t told) ≤ 2
+takes_effect_left : (p : Places) (t : TryState) (told : Reply) → try_asks_left p (takes_effect p t told) ≤ 4
 takes_effect_left p t told = ends_left p (record t { effect = Some told }) (answer.Done told)
 
 held_used_left : (p : Places) (t : TryState) (addr : Addr) (held : Option HeldRecord) → try_asks_left p (held_used p t addr held) ≤ most_copy_asks p t
@@ -139,11 +177,21 @@ held_used_left p t addr (Some held) = tested (held.entry == t.walk.entry) (held.
     tested true false true = copies_left p t (Known absent_word) false
     tested true false false = let few = ends_left p t (answer.AwaitsDisk (record { entry = t.walk.entry; addr = held.previous })) in omega (arith, few)
 
-met_nowhere_left : (p : Places) (t : TryState) → try_asks_left p (met_nowhere p t) ≤ most_copy_asks p t
-met_nowhere_left p t = tested (is_read t.request.op)
+met_nowhere_left : (p : Places) (t : TryState) → try_asks_left p (met_nowhere p t) ≤ 1 + most_copy_asks p t
+unfolding trying_asks_left
+met_nowhere_left p t = tested (is_read t.request.op) (must_count p t)
   where
-    tested : (b : Bool) → try_asks_left p (if b then ends p t answer.Absent else copies p t (Known absent_word) false) ≤ most_copy_asks p t
-    tested true = let few = ends_left p t answer.Absent in omega (arith, few)
+    tested : (read count : Bool) → try_asks_left p (if read then ends p t answer.Absent else if count then record t { step = CountsTaken } else copies p t (Known absent_word) false) ≤ 1 + most_copy_asks p t
+    tested true count = let few = ends_left p t answer.Absent in omega (arith, few)
+    tested false true = omega arith
+    tested false false = let few = copies_left p t (Known absent_word) false in omega (arith, few)
+
+count_loaded_left : (p : Places) (t : TryState) (taken : ℕ) → try_asks_left p (count_loaded p t taken) ≤ most_copy_asks p t
+unfolding count_loaded
+count_loaded_left p t taken = tested (is_past_taken (bounds_at t.occasion) taken)
+  where
+    tested : (b : Bool) → try_asks_left p (if b then ends p t answer.IndexFull else copies p t (Known absent_word) false) ≤ most_copy_asks p t
+    tested true = let few = ends_left p t answer.IndexFull in omega (arith, few)
     tested false = copies_left p t (Known absent_word) false
 
 met_disk_left : (p : Places) (t : TryState) (addr : Addr) → try_asks_left p (met_disk p t addr) ≤ most_copy_asks p t
@@ -160,7 +208,7 @@ changes_left p t addr = tested (is_blind t.request.op)
   where
     tested : (b : Bool) → try_asks_left p (if b then record t { step = SwapsValue addr } else record t { walk = walk_on t.walk; step = LoadsCurrent addr }) ≤ 1 + most_copy_asks p t
     tested true = omega arith
-    tested false = let both = sum_most (walk_asks_left p (walk_on t.walk)) (1 + most_drop_asks) in omega (arith, both)
+    tested false = let both = sum_most (walk_asks_left p (walk_on t.walk)) (1 + most_end_asks) in omega (arith, both)
 
 region_met_left : (p : Places) (t : TryState) (addr : Addr) (version : Version) (region : Option Region) → try_asks_left p (region_met p t addr version region) ≤ 1 + most_copy_asks p t
 unfolding trying_asks_left
@@ -176,15 +224,16 @@ unfolding trying_asks_left
 met_record_left p t addr version = tested (is_read t.request.op)
   where
     tested : (b : Bool) → try_asks_left p (if b then record t { walk = walk_on t.walk; step = LoadsAnswer } else region_met p t addr version (seen_region_of addr.0 t.seen.offsets)) ≤ 1 + most_copy_asks p t
-    tested true = let both = sum_most (walk_asks_left p (walk_on t.walk)) most_drop_asks in omega (arith, both)
+    tested true = let both = sum_most (walk_asks_left p (walk_on t.walk)) most_end_asks in omega (arith, both)
     tested false = region_met_left p t addr version (seen_region_of addr.0 t.seen.offsets)
 
 walked_left : (p : Places) (t : TryState) (its : WalkAnswer) → try_asks_left p (walked p t its) ≤ 1 + most_copy_asks p t
 walked_left p t (walk.Found addr version) = met_record_left p t addr version
-walked_left p t walk.Nowhere = let few = met_nowhere_left p t in omega (arith, few)
+walked_left p t walk.Nowhere = met_nowhere_left p t
 walked_left p t (walk.OnDisk addr) = let few = met_disk_left p t addr in omega (arith, few)
 walked_left p t (walk.Value value) = let few = ends_left p t (answer.Wait reason.Contended) in omega (arith, few)
 walked_left p t walk.Full = let few = ends_left p t (full_at t.occasion answer.IndexFull) in omega (arith, few)
+walked_left p t walk.Kept = let few = ends_left p t (full_at t.occasion answer.IndexFull) in omega (arith, few)
 walked_left p t walk.Contended = let few = ends_left p t (answer.Wait reason.Contended) in omega (arith, few)
 
 latch_shared_left : (p : Places) (t : TryState) → try_asks_left p (latch_shared p t) ≤ most_asks_behind_share p
@@ -232,24 +281,24 @@ safe_loaded_left p t addr version safe = tested (nat_le safe addr.0)
     tested false = copies_left p t InMemory (is_surely_own t version)
 
 current_led_fewer : (p : Places) (t : TryState) (addr : Addr) (old : ℕ) (ask : Ask WalkAnswer) → t.step ≡ LoadsCurrent addr → walk_asks_left p t.walk < old
-    → try_asks_left p (current_ledto p t addr ask) < sum_left old (1 + most_drop_asks)
+    → try_asks_left p (current_ledto p t addr ask) < sum_left old (1 + most_end_asks)
 unfolding current_ledto trying_asks_left
-current_led_fewer p t addr old (Done (walk.Value value)) at fewer = behind_fewer _ old (1 + most_drop_asks) (omega (arith, fewer)) (omega arith)
-current_led_fewer p t addr old (Done its) at fewer = behind_fewer _ old (1 + most_drop_asks) (omega (arith, fewer)) (let few = ends_left p t (answer.Wait reason.Contended) in omega (arith, few))
-current_led_fewer p t addr old ask at fewer = rw at (inside_fewer (walk_asks_left p t.walk) old (1 + most_drop_asks) fewer)
+current_led_fewer p t addr old (Done (walk.Value value)) at fewer = behind_fewer _ old (1 + most_end_asks) (omega (arith, fewer)) (omega arith)
+current_led_fewer p t addr old (Done its) at fewer = behind_fewer _ old (1 + most_end_asks) (omega (arith, fewer)) (let few = ends_left p t (answer.Wait reason.Contended) in omega (arith, few))
+current_led_fewer p t addr old ask at fewer = rw at (inside_fewer (walk_asks_left p t.walk) old (1 + most_end_asks) fewer)
 
-value_changed_left : (p : Places) (t : TryState) (old found : ℕ) → try_asks_left p (value_changed p t old found) ≤ 2
+value_changed_left : (p : Places) (t : TryState) (old found : ℕ) → try_asks_left p (value_changed p t old found) ≤ 4
 value_changed_left p t old found = tested (found == old)
   where
-    tested : (b : Bool) → try_asks_left p (if b then takes_effect p t (reply_from (value_of old) t.request.op) else ends p t (answer.Wait reason.Contended)) ≤ 2
+    tested : (b : Bool) → try_asks_left p (if b then takes_effect p t (reply_from (value_of old) t.request.op) else ends p t (answer.Wait reason.Contended)) ≤ 4
     tested true = takes_effect_left p t (reply_from (value_of old) t.request.op)
     tested false = ends_left p t (answer.Wait reason.Contended)
 
-answer_led_fewer : (p : Places) (t : TryState) (old : ℕ) (ask : Ask WalkAnswer) → t.step ≡ LoadsAnswer → walk_asks_left p t.walk < old → try_asks_left p (answer_ledto p t ask) < sum_left old most_drop_asks
+answer_led_fewer : (p : Places) (t : TryState) (old : ℕ) (ask : Ask WalkAnswer) → t.step ≡ LoadsAnswer → walk_asks_left p t.walk < old → try_asks_left p (answer_ledto p t ask) < sum_left old most_end_asks
 unfolding answer_ledto trying_asks_left
-answer_led_fewer p t old (Done (walk.Value value)) at fewer = behind_fewer _ old most_drop_asks (omega (arith, fewer)) (ends_left p t (told_value (value_of value)))
-answer_led_fewer p t old (Done its) at fewer = behind_fewer _ old most_drop_asks (omega (arith, fewer)) (ends_left p t (answer.Wait reason.Contended))
-answer_led_fewer p t old ask at fewer = rw at (inside_fewer (walk_asks_left p t.walk) old most_drop_asks fewer)
+answer_led_fewer p t old (Done (walk.Value value)) at fewer = behind_fewer _ old most_end_asks (omega (arith, fewer)) (ends_left p t (told_value (value_of value)))
+answer_led_fewer p t old (Done its) at fewer = behind_fewer _ old most_end_asks (omega (arith, fewer)) (ends_left p t (answer.Wait reason.Contended))
+answer_led_fewer p t old ask at fewer = rw at (inside_fewer (walk_asks_left p t.walk) old most_end_asks fewer)
 
 exclusive_led_fewer : (p : Places) (t : TryState) (from : OldValue) (old : ℕ) (ask : Ask LatchAnswer) → t.step ≡ TakesExclusive from → asks_left t.latching < old
     → try_asks_left p (exclusive_ledto p t from ask) < sum_left old (walk_asks_left p (walk_on t.walk) + most_append_asks)
@@ -265,13 +314,13 @@ old_led_fewer p t old (Done its) at fewer = behind_fewer _ old most_append_asks 
 old_led_fewer p t old ask at fewer = rw at (inside_fewer (walk_asks_left p t.walk) old most_append_asks fewer)
 
 append_led_fewer : (p : Places) (t : TryState) (told : Reply) (old : ℕ) (ask : Ask AppendAnswer) → t.step ≡ Appends told → append_asks_left t.append < old
-    → try_asks_left p (append_ledto p t told ask) < sum_left old most_drop_asks
+    → try_asks_left p (append_ledto p t told ask) < sum_left old most_end_asks
 unfolding append_ledto trying_asks_left
-append_led_fewer p t told old (Done append.Published) at fewer = behind_fewer _ old most_drop_asks (omega (arith, fewer)) (takes_effect_left p t told)
-append_led_fewer p t told old (Done append.Full) at fewer = behind_fewer _ old most_drop_asks (omega (arith, fewer)) (ends_left p t (full_at t.occasion answer.LogFull))
-append_led_fewer p t told old (Done append.NoRoom) at fewer = behind_fewer _ old most_drop_asks (omega (arith, fewer)) (ends_left p t (answer.Wait reason.NoRoom))
-append_led_fewer p t told old (Done append.Contended) at fewer = behind_fewer _ old most_drop_asks (omega (arith, fewer)) (ends_left p t (answer.Wait reason.Contended))
-append_led_fewer p t told old ask at fewer = rw at (inside_fewer (append_asks_left t.append) old most_drop_asks fewer)
+append_led_fewer p t told old (Done append.Published) at fewer = behind_fewer _ old most_end_asks (omega (arith, fewer)) (takes_effect_left p t told)
+append_led_fewer p t told old (Done append.Full) at fewer = behind_fewer _ old most_end_asks (omega (arith, fewer)) (ends_left p t (full_at t.occasion answer.LogFull))
+append_led_fewer p t told old (Done append.NoRoom) at fewer = behind_fewer _ old most_end_asks (omega (arith, fewer)) (ends_left p t (answer.Wait reason.NoRoom))
+append_led_fewer p t told old (Done append.Contended) at fewer = behind_fewer _ old most_end_asks (omega (arith, fewer)) (ends_left p t (answer.Wait reason.Contended))
+append_led_fewer p t told old ask at fewer = rw at (inside_fewer (append_asks_left t.append) old most_end_asks fewer)
 
 exclusive_dropped_fewer : (p : Places) (t : TryState) (its : TryAnswer) (old : ℕ) (ask : Ask LatchAnswer) → t.step ≡ DropsExclusive its → asks_left t.latching < old
     → try_asks_left p (exclusive_dropped p t its ask) < sum_left old 1
@@ -303,19 +352,22 @@ trying_fewer p room t TakesShared reply at some =
 trying_fewer p room t LoadsPhase reply at some = let few = phase_loaded_left p t (phase_said reply) in omega (arith, few)
 trying_fewer p room t Walks reply at some =
     walk_led_fewer p (walk_moved p t reply) (walk_asks_left p t.walk) (walk_ask p (walk_next p t.walk reply)) at (value_few p t reply) (walk_fewer p t.walk reply (some_inside _ most_asks_behind_walk some))
+trying_fewer p room t CountsTaken reply at some = let few = count_loaded_left p t reply in omega (arith, few)
 trying_fewer p room t (LoadsSafe addr version) reply at some = let few = safe_loaded_left p t addr version reply in omega (arith, few)
 trying_fewer p room t (SwapsValue addr) reply at some = let few = takes_effect_left p t (reply_from None t.request.op) in omega (arith, few)
 trying_fewer p room t (LoadsCurrent addr) reply at some =
-    current_led_fewer p (walk_moved p t reply) addr (walk_asks_left p t.walk) (walk_ask p (walk_next p t.walk reply)) at (walk_fewer p t.walk reply (some_inside _ (1 + most_drop_asks) some))
+    current_led_fewer p (walk_moved p t reply) addr (walk_asks_left p t.walk) (walk_ask p (walk_next p t.walk reply)) at (walk_fewer p t.walk reply (some_inside _ (1 + most_end_asks) some))
 trying_fewer p room t (ChangesValue addr old) reply at some = let few = value_changed_left p t old reply in omega (arith, few)
 trying_fewer p room t LoadsAnswer reply at some =
-    answer_led_fewer p (walk_moved p t reply) (walk_asks_left p t.walk) (walk_ask p (walk_next p t.walk reply)) at (walk_fewer p t.walk reply (some_inside _ most_drop_asks some))
+    answer_led_fewer p (walk_moved p t reply) (walk_asks_left p t.walk) (walk_ask p (walk_next p t.walk reply)) at (walk_fewer p t.walk reply (some_inside _ most_end_asks some))
 trying_fewer p room t (TakesExclusive from) reply at some =
     exclusive_led_fewer p (latch_moved t reply) from (asks_left t.latching) (latch_next_ask t.latching reply) at (latch_falls t reply (some_inside _ (walk_asks_left p (walk_on t.walk) + most_append_asks) some))
 trying_fewer p room t LoadsOld reply at some =
     old_led_fewer p (walk_moved p t reply) (walk_asks_left p t.walk) (walk_ask p (walk_next p t.walk reply)) at (walk_fewer p t.walk reply (some_inside _ most_append_asks some))
 trying_fewer p room t (Appends told) reply at some =
-    append_led_fewer p (record t { append = append_next p room t.append reply }) told (append_asks_left t.append) (append_ask p (append_next p room t.append reply)) at (append_fewer p room t.append reply (some_inside _ most_drop_asks some))
+    append_led_fewer p (record t { append = append_next p room t.append reply }) told (append_asks_left t.append) (append_ask p (append_next p room t.append reply)) at (append_fewer p room t.append reply (some_inside _ most_end_asks some))
+trying_fewer p room t (LoadsTail waiting) reply at some = let few = tail_loaded_left p t waiting reply in omega (arith, few)
+trying_fewer p room t (LoadsTaken waiting) reply at some = let few = taken_loaded_left p t waiting reply in omega (arith, few)
 trying_fewer p room t (DropsExclusive its) reply at some =
     exclusive_dropped_fewer p (latch_moved t reply) its (asks_left t.latching) (latch_next_ask t.latching reply) at (latch_falls t reply (some_inside _ 1 some))
 trying_fewer p room t (DropsShared its) reply at some =

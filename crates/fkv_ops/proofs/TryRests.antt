@@ -32,14 +32,18 @@ use Rattle.fkv_ops.specs.declared.requests.Seen.{Seen}
 use Rattle.fkv_ops.specs.declared.trying.OldValue.{OldValue}
 use Rattle.fkv_ops.specs.declared.trying.OldValue.TheVariants.{InMemory, Known}
 use Rattle.fkv_ops.specs.declared.trying.Trying.{Trying}
-use Rattle.fkv_ops.specs.declared.trying.Trying.TheVariants.{Ended, TakesShared, LoadsPhase, Walks, LoadsSafe, SwapsValue, LoadsCurrent, ChangesValue, LoadsAnswer, TakesExclusive, LoadsOld, Appends, DropsExclusive, DropsShared}
+use Rattle.fkv_ops.specs.declared.trying.Trying.TheVariants.{Ended, TakesShared, LoadsPhase, Walks, CountsTaken, LoadsSafe, SwapsValue, LoadsCurrent, ChangesValue, LoadsAnswer, TakesExclusive, LoadsOld, Appends, LoadsTail, LoadsTaken, DropsExclusive, DropsShared}
 use Rattle.fkv_ops.specs.declared.walking.WalkAnswer.{WalkAnswer}
 use Rattle.fkv_ops.specs.declared.walking.WalkAnswer.TheVariants as walk
+use Rattle.fkv_ops.specs.declared.answers.Waiting.{Waiting}
+use Rattle.fkv_ops.specs.declared.answers.Waiting.TheVariants.{For, ForRecord}
+use Rattle.fkv_ops.specs.Bounds.{bounds_at, tail_bound, is_past_taken, is_past_tail}
+use Rattle.fkv_ops.specs.Waiting.{told_of}
 use Rattle.fkv_ops.specs.Values.{value_of}
-use Rattle.fkv_ops.specs.Requests.{purpose_of, is_read, is_blind}
+use Rattle.fkv_ops.specs.Requests.{purpose_at, is_read, is_blind}
 use Rattle.fkv_ops.specs.Walking.{walk_ask, walk_next, walk_on}
 use Rattle.fkv_ops.specs.Appending.{append_ask, append_next}
-use Rattle.fkv_ops.specs.Trying.{TryState, new_try, trying_ask, try_ask, with_latch, is_wait, ended_without, ends, takes_effect, full_at, walks, wants_shared, try_begun, is_next_marked, latch_shared, shared_ledto, is_still_in, phase_loaded, must_shift, wants_exclusive, words_of, slot_of, appends, copies_from, copies, awaits, held_used, met_nowhere, met_disk, changes, is_own_version, region_met, met_record, walked, has_walked, walk_ledto, is_surely_own, safe_loaded, current_ledto, value_changed, told_value, answer_ledto, exclusive_ledto, old_ledto, append_ledto, exclusive_dropped, shared_dropped, latch_moved, walk_moved, trying_next, try_next}
+use Rattle.fkv_ops.specs.Trying.{TryState, new_try, trying_ask, try_ask, with_latch, is_wait, ended_without, is_bounded, ends, ends_by, ends_so, tail_loaded, taken_loaded, takes_effect, full_at, walks, wants_shared, try_begun, is_next_marked, latch_shared, shared_ledto, is_still_in, phase_loaded, must_shift, wants_exclusive, words_of, slot_of, appends, copies_from, copies, awaits, held_used, must_count, met_nowhere, count_loaded, met_disk, changes, is_own_version, region_met, met_record, walked, has_walked, walk_ledto, is_surely_own, safe_loaded, current_ledto, value_changed, told_value, answer_ledto, exclusive_ledto, old_ledto, append_ledto, exclusive_dropped, shared_dropped, latch_moved, walk_moved, trying_next, try_next}
 use Rattle.fkv_plane.specs.AsksLeft.{AsksWhereLeft}
 use Rattle.fkv_ops.proofs.WalkRests.{IsWalkUnderWay, walk_done, walk_begun_under_way, walk_rests, walk_found, walk_goes_on}
 use Rattle.fkv_ops.proofs.AppendRests.{IsAppendUnderWay, append_done, append_begun_under_way, append_rests, append_goes_on}
@@ -59,6 +63,7 @@ TryAsksAt t (Ended its) = ⊤
 TryAsksAt t TakesShared = 0 < asks_left t.latching
 TryAsksAt t LoadsPhase = ⊤
 TryAsksAt t Walks = IsWalkUnderWay t.walk
+TryAsksAt t CountsTaken = ⊤
 TryAsksAt t (LoadsSafe addr version) = IsWalkUnderWay (walk_on t.walk)
 TryAsksAt t (SwapsValue addr) = ⊤
 TryAsksAt t (LoadsCurrent addr) = IsWalkUnderWay t.walk
@@ -67,6 +72,8 @@ TryAsksAt t LoadsAnswer = IsWalkUnderWay t.walk
 TryAsksAt t (TakesExclusive old) = (0 < asks_left t.latching) × CanLoadOld t old
 TryAsksAt t LoadsOld = IsWalkUnderWay t.walk
 TryAsksAt t (Appends its) = IsAppendUnderWay t.append
+TryAsksAt t (LoadsTail waiting) = ⊤
+TryAsksAt t (LoadsTaken waiting) = ⊤
 TryAsksAt t (DropsExclusive its) = 0 < asks_left t.latching
 TryAsksAt t (DropsShared its) = 0 < asks_left t.latching
 
@@ -88,6 +95,7 @@ trying_done p t (Ended its) at = refl
 trying_done p t TakesShared at = latch_asks t answer.Shift at
 trying_done p t LoadsPhase at = refl
 trying_done p t Walks at = walk_asks p t answer.Shift at
+trying_done p t CountsTaken at = refl
 trying_done p t (LoadsSafe addr version) at = refl
 trying_done p t (SwapsValue addr) at = refl
 trying_done p t (LoadsCurrent addr) at = walk_asks p t answer.Shift at
@@ -96,6 +104,8 @@ trying_done p t LoadsAnswer at = walk_asks p t answer.Shift at
 trying_done p t (TakesExclusive old) at = latch_asks t answer.Shift at.0
 trying_done p t LoadsOld at = walk_asks p t answer.Shift at
 trying_done p t (Appends its) at = append_asks p t answer.Shift at
+trying_done p t (LoadsTail waiting) at = refl
+trying_done p t (LoadsTaken waiting) at = refl
 trying_done p t (DropsExclusive its) at = latch_asks t its at
 trying_done p t (DropsShared its) at = latch_asks t its at
 
@@ -104,7 +114,7 @@ pub try_done : (p : Places) (t : TryState) → TryRestsOrAsks t → is_done (try
 try_done p t at = trying_done p t t.step at
 
 walks_rest : (p : Places) (t : TryState) → TryRestsOrAsks (walks p t)
-walks_rest p t = walk_begun_under_way p t.home (key_of t.request.op) (purpose_of t.request.op) t.seen.offsets.head t.spare
+walks_rest p t = walk_begun_under_way p t.home (key_of t.request.op) (purpose_at t.occasion t.request.op) t.seen.offsets.head t.spare
 
 -- as it begins it asks
 pub try_begun_rests : (p : Places) (bits : ℕ) (request : Request) (seen : Seen) (occasion : Occasion) (spare : ℕ) → TryRestsOrAsks (try_begun p bits request seen occasion spare)
@@ -139,20 +149,50 @@ ended_without_rests p t its = tested (t.has_shared && not (is_wait its))
     tested true = omega arith
     tested false = tt
 
-ends_rest : (p : Places) (t : TryState) (its : TryAnswer) → TryRestsOrAsks (ends p t its)
-unfolding ends asks_left
-ends_rest p t its = tested t.has_exclusive
+ends_so_rest : (p : Places) (t : TryState) (its : TryAnswer) → TryRestsOrAsks (ends_so p t its)
+unfolding ends_so asks_left
+ends_so_rest p t its = tested t.has_exclusive
   where
     tested : (b : Bool) → TryRestsOrAsks (if b then with_latch p (record t { has_exclusive = false }) DropExclusive (DropsExclusive its) else ended_without p t its)
     tested true = omega arith
     tested false = ended_without_rests p t its
+
+waits_rest : (p : Places) (t : TryState) (its : TryAnswer) (waiting : Waiting) → TryRestsOrAsks (ends_by p t its (Some waiting))
+waits_rest p t its waiting = tested (is_bounded t)
+  where
+    tested : (b : Bool) → TryRestsOrAsks (if b then record t { step = LoadsTail waiting } else ends_so p t its)
+    tested true = tt
+    tested false = ends_so_rest p t its
+
+ends_rest : (p : Places) (t : TryState) (its : TryAnswer) → TryRestsOrAsks (ends p t its)
+unfolding ends
+ends_rest p t (answer.Wait it) = waits_rest p t (answer.Wait it) (For it)
+ends_rest p t (answer.AwaitsDisk it) = waits_rest p t (answer.AwaitsDisk it) (ForRecord it)
+ends_rest p t its = ends_so_rest p t its
+
+tail_loaded_rests : (p : Places) (t : TryState) (waiting : Waiting) (tail : ℕ) → TryRestsOrAsks (tail_loaded p t waiting tail)
+unfolding tail_loaded
+tail_loaded_rests p t waiting tail = tested (is_past_tail (bounds_at t.occasion) tail) (t.walk.entry == 0)
+  where
+    tested : (past none : Bool) → TryRestsOrAsks (if past then ends_so p t answer.LogFull else if none then record t { step = LoadsTaken waiting } else ends_so p t (told_of waiting))
+    tested true none = ends_so_rest p t answer.LogFull
+    tested false true = tt
+    tested false false = ends_so_rest p t (told_of waiting)
+
+taken_loaded_rests : (p : Places) (t : TryState) (waiting : Waiting) (taken : ℕ) → TryRestsOrAsks (taken_loaded p t waiting taken)
+unfolding taken_loaded
+taken_loaded_rests p t waiting taken = tested (is_past_taken (bounds_at t.occasion) taken)
+  where
+    tested : (past : Bool) → TryRestsOrAsks (if past then ends_so p t answer.IndexFull else ends_so p t (told_of waiting))
+    tested true = ends_so_rest p t answer.IndexFull
+    tested false = ends_so_rest p t (told_of waiting)
 
 takes_effect_rests : (p : Places) (t : TryState) (told : Reply) → TryRestsOrAsks (takes_effect p t told)
 takes_effect_rests p t told = ends_rest p (record t { effect = Some told }) (answer.Done told)
 
 appends_rest : (t : TryState) (old : ℕ) → TryRestsOrAsks (appends t old)
 unfolding appends
-appends_rest t old = append_begun_under_way (slot_of t) (words_of t.request t.walk.entry (value_of old))
+appends_rest t old = append_begun_under_way (slot_of t) (words_of t.request t.walk.entry (value_of old)) (tail_bound (bounds_at t.occasion))
 
 copies_from_rest : (t : TryState) (old : OldValue) → CanLoadOld t old → TryRestsOrAsks (copies_from t old)
 unfolding copies_from
@@ -188,10 +228,19 @@ held_used_rests p t addr (Some held) = tested (held.entry == t.walk.entry) (held
     tested true false false = ends_rest p t (answer.AwaitsDisk (record { entry = t.walk.entry; addr = held.previous }))
 
 met_nowhere_rests : (p : Places) (t : TryState) → TryRestsOrAsks (met_nowhere p t)
-met_nowhere_rests p t = tested (is_read t.request.op)
+met_nowhere_rests p t = tested (is_read t.request.op) (must_count p t)
   where
-    tested : (b : Bool) → TryRestsOrAsks (if b then ends p t answer.Absent else copies p t (Known absent_word) false)
-    tested true = ends_rest p t answer.Absent
+    tested : (read count : Bool) → TryRestsOrAsks (if read then ends p t answer.Absent else if count then record t { step = CountsTaken } else copies p t (Known absent_word) false)
+    tested true count = ends_rest p t answer.Absent
+    tested false true = tt
+    tested false false = copies_rest p t (Known absent_word) false tt
+
+count_loaded_rests : (p : Places) (t : TryState) (taken : ℕ) → TryRestsOrAsks (count_loaded p t taken)
+unfolding count_loaded
+count_loaded_rests p t taken = tested (is_past_taken (bounds_at t.occasion) taken)
+  where
+    tested : (b : Bool) → TryRestsOrAsks (if b then ends p t answer.IndexFull else copies p t (Known absent_word) false)
+    tested true = ends_rest p t answer.IndexFull
     tested false = copies_rest p t (Known absent_word) false tt
 
 met_disk_rests : (p : Places) (t : TryState) (addr : Addr) → TryRestsOrAsks (met_disk p t addr)
@@ -231,6 +280,7 @@ walked_rests p t walk.Nowhere value = met_nowhere_rests p t
 walked_rests p t (walk.OnDisk addr) value = met_disk_rests p t addr
 walked_rests p t (walk.Value its) value = ends_rest p t (answer.Wait reason.Contended)
 walked_rests p t walk.Full value = ends_rest p t (full_at t.occasion answer.IndexFull)
+walked_rests p t walk.Kept value = ends_rest p t (full_at t.occasion answer.IndexFull)
 walked_rests p t walk.Contended value = ends_rest p t (answer.Wait reason.Contended)
 
 latch_shared_rests : (p : Places) (t : TryState) → TryRestsOrAsks (latch_shared p t)
@@ -340,6 +390,7 @@ trying_rests p room t LoadsPhase reply at asks = phase_loaded_rests p t (phase_s
 trying_rests p room t Walks reply at asks =
     let its = walk_next p t.walk reply in
     walk_led_rests p (walk_moved p t reply) (walk_ask p its) at (walk_moves_on p t reply asks) (λ addr version found. walk_found p its addr version (walk_rests p t.walk reply asks.asks) found)
+trying_rests p room t CountsTaken reply at asks = count_loaded_rests p t reply
 trying_rests p room t (LoadsSafe addr version) reply at asks = safe_loaded_rests p t addr version reply asks
 trying_rests p room t (SwapsValue addr) reply at asks = takes_effect_rests p t (reply_from None t.request.op)
 trying_rests p room t (LoadsCurrent addr) reply at asks = current_led_rests p (walk_moved p t reply) addr (walk_ask p (walk_next p t.walk reply)) at (walk_moves_on p t reply asks)
@@ -354,6 +405,8 @@ trying_rests p room t LoadsOld reply at asks = old_led_rests p (walk_moved p t r
 trying_rests p room t (Appends told) reply at asks =
     let its = append_next p room t.append reply in
     append_led_rests p (record t { append = its }) told (append_ask p its) at (append_goes_on p its (append_rests p room t.append reply asks.asks))
+trying_rests p room t (LoadsTail waiting) reply at asks = tail_loaded_rests p t waiting reply
+trying_rests p room t (LoadsTaken waiting) reply at asks = taken_loaded_rests p t waiting reply
 trying_rests p room t (DropsExclusive its) reply at asks = exclusive_dropped_rests p (latch_moved t reply) its (latch_next_ask t.latching reply) at (latch_next_left t.latching reply)
 trying_rests p room t (DropsShared its) reply at asks = shared_dropped_rests (latch_moved t reply) its (latch_next_ask t.latching reply) at (latch_next_left t.latching reply)
 

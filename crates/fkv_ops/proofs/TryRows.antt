@@ -1,5 +1,5 @@
 -- What a try knows at each of its steps, and how it comes to its end.
-use Rattle.std.proofs.Common.{◌≡◌, ℕ, ◌+◌, ◌<◌, List, [], ◌∷◌, refl, Bool, true, false}
+use Rattle.std.proofs.Common.{◌≡◌, ℕ, ◌+◌, ◌<◌, List, [], ◌∷◌, refl, Bool, true, false, subst}
 use Rattle.std.specs.Prelude.{◌==◌, ◌&&◌, ◌||◌, not, if◌then◌else◌, Option, Some}
 use Rattle.fkv_base.specs.declared.numbers.Addr.{Addr}
 use Rattle.fkv_base.specs.declared.numbers.Version.{Version}
@@ -16,19 +16,23 @@ use Rattle.fkv_latch.specs.declared.latching.Latching.TheVariants as latching
 use Rattle.fkv_latch.specs.Latching.{one_share}
 use Rattle.fkv_ops.specs.declared.answers.TryAnswer.{TryAnswer}
 use Rattle.fkv_ops.specs.declared.answers.TryAnswer.TheVariants as answer
+use Rattle.fkv_ops.specs.declared.answers.Waiting.{Waiting}
+use Rattle.fkv_ops.specs.declared.answers.Waiting.TheVariants.{For, ForRecord}
+use Rattle.fkv_ops.specs.Bounds.{bounds_at, has_bounds}
+use Rattle.fkv_ops.specs.Waiting.{told_of}
 use Rattle.fkv_ops.specs.declared.appending.Appending.{Appending}
 use Rattle.fkv_ops.specs.declared.trying.OldValue.{OldValue}
 use Rattle.fkv_ops.specs.declared.trying.OldValue.TheVariants.{InMemory, Known}
 use Rattle.fkv_ops.specs.declared.trying.Trying.{Trying}
-use Rattle.fkv_ops.specs.declared.trying.Trying.TheVariants.{Ended, TakesShared, LoadsPhase, Walks, LoadsSafe, SwapsValue, LoadsCurrent, ChangesValue, LoadsAnswer, TakesExclusive, LoadsOld, Appends, DropsExclusive, DropsShared}
+use Rattle.fkv_ops.specs.declared.trying.Trying.TheVariants.{Ended, TakesShared, LoadsPhase, Walks, CountsTaken, LoadsSafe, SwapsValue, LoadsCurrent, ChangesValue, LoadsAnswer, TakesExclusive, LoadsOld, Appends, LoadsTail, LoadsTaken, DropsExclusive, DropsShared}
 use Rattle.fkv_ops.specs.declared.walking.Walking.TheVariants.{HasFound as AtFound}
 use Rattle.fkv_ops.specs.Values.{value_of}
 use Rattle.fkv_ops.specs.Requests.{is_read, is_blind}
 use Rattle.fkv_ops.specs.Walking.{WalkState, walk_ask}
 use Rattle.fkv_ops.specs.Appending.{append_ask}
-use Rattle.fkv_ops.specs.Trying.{TryState, is_wait, is_next_marked, with_latch, ended_without, ends, takes_effect, words_of}
+use Rattle.fkv_ops.specs.Trying.{TryState, is_wait, is_next_marked, with_latch, ended_without, ends, ends_by, ends_so, takes_effect, words_of}
 use Rattle.fkv_ops.specs.TryRun.{Trial, home_at, Told, reply_told}
-use Rattle.fkv_ops.specs.Reasons.{latch_place, Loaded, HasEntry, HasFound, needs_exclusive, tells_own, OthersWentOn, IsTrue}
+use Rattle.fkv_ops.specs.Reasons.{latch_place, Loaded, HasEntry, WalksTo, HasFound, HasNoEntry, needs_exclusive, tells_own, OthersWentOn, IsTrue}
 use Rattle.fkv_ops.specs.Effects.{MayChange, MayCopy, IsMadeOf, HasSetBit, shares_latch, HasShared, MayStay}
 use Rattle.fkv_ops.proofs.Walked.{FoundKnows, WalkKnows, LoadsRecord}
 use Rattle.fkv_ops.proofs.Appended.{AppendKnows}
@@ -56,6 +60,7 @@ pub record Updates (c : Trial) (told : Told) (t : TryState) : Type 0 where
   pub under : Under c told t.has_shared
   pub update : is_read c.request.op ≡ false
   pub stays : Stays c told
+  pub lacks : t.walk.entry ≡ 0 → HasNoEntry c told
 
 -- how the latch is shared
 abbrev pub ShareRow : Trial → Told → Latching → Type 0
@@ -155,6 +160,26 @@ pub record WalksKnow (c : Trial) (told : Told) (t : TryState) : Type 0 where
   pub walks : WalkKnows c told t.walk
   pub asks : is_done (walk_ask c.places t.walk) ≡ false
 
+-- an empty slot was found, by an update that has bounds
+pub record CountKnows (c : Trial) (told : Told) (t : TryState) : Type 0 where
+  pub not_alone : t.has_exclusive ≡ false
+  pub updates : Updates c told t
+  pub walks : WalksTo c told t.walk.place t.walk.entry 0
+  pub empty : t.walk.entry ≡ 0
+
+-- an update that has bounds would wait, and for this
+pub record TailKnows (c : Trial) (told : Told) (t : TryState) (waiting : Waiting) : Type 0 where
+  pub truth : IsTrue c told (told_of waiting)
+  pub shared : t.has_shared ≡ shares c
+  pub update : is_read c.request.op ≡ false
+  pub lacks : t.walk.entry ≡ 0 → HasNoEntry c told
+
+pub record TakenKnows (c : Trial) (told : Told) (t : TryState) (waiting : Waiting) : Type 0 where
+  pub truth : IsTrue c told (told_of waiting)
+  pub shared : t.has_shared ≡ shares c
+  pub update : is_read c.request.op ≡ false
+  pub none : HasNoEntry c told
+
 -- at the end, and while latches are dropped
 pub record EndKnows (c : Trial) (told : Told) (t : TryState) (its : TryAnswer) : Type 0 where
   pub truth : IsTrue c told its
@@ -176,6 +201,7 @@ TryRow c told t (Ended its) = EndKnows c told t its
 TryRow c told t TakesShared = ShareKnows c told t
 TryRow c told t LoadsPhase = PhaseKnows c told t
 TryRow c told t Walks = WalksKnow c told t
+TryRow c told t CountsTaken = CountKnows c told t
 TryRow c told t (LoadsSafe addr version) = SafeKnows c told t addr version
 TryRow c told t (SwapsValue addr) = Updates c told t × MayChange c told addr.0 × (is_blind c.request.op ≡ true)
 TryRow c told t (LoadsCurrent addr) = Updates c told t × MayChange c told addr.0 × LoadsRecord t.walk addr
@@ -184,6 +210,8 @@ TryRow c told t LoadsAnswer = AnswerKnows c told t
 TryRow c told t (TakesExclusive old) = AloneKnows c told t old
 TryRow c told t LoadsOld = OldKnows c told t
 TryRow c told t (Appends its) = AppendsKnow c told t its
+TryRow c told t (LoadsTail waiting) = TailKnows c told t waiting
+TryRow c told t (LoadsTaken waiting) = TakenKnows c told t waiting
 TryRow c told t (DropsExclusive its) = DropKnows c told t its
 TryRow c told t (DropsShared its) = UnshareKnows c told t its
 
@@ -236,14 +264,45 @@ ended_without_true c told t its truth not_alone kept = by_cases t.has_shared (is
     by_cases false true d e = record { same = refl; owes = refl; its_effect = refl; its_told = refl; row = record { truth = truth; not_alone = not_alone; shared = rw e (kept e) } }
     by_cases false false d e = record { same = refl; owes = refl; its_effect = refl; its_told = refl; row = record { truth = truth; not_alone = not_alone; shared = rw e d } }
 
-pub ends_true : (c : Trial) (told : Told) (t : TryState) (its : TryAnswer) → IsTrue c told its → (is_wait its ≡ true → t.has_shared ≡ shares c) → Comes c told t.effect (reply_told its) (latch_held t) (ends c.places (norm c t) its)
-unfolding ends
-ends_true c told t its truth kept = by_alone t.has_exclusive refl
+pub ends_so_true : (c : Trial) (told : Told) (t : TryState) (its : TryAnswer) → IsTrue c told its → (is_wait its ≡ true → t.has_shared ≡ shares c) → Comes c told t.effect (reply_told its) (latch_held t) (ends_so c.places (norm c t) its)
+unfolding ends_so
+ends_so_true c told t its truth kept = by_alone t.has_exclusive refl
   where
     by_alone : (b : Bool) → t.has_exclusive ≡ b
         → Comes c told t.effect (reply_told its) (latch_held t) (if b then with_latch c.places (record (norm c t) { has_exclusive = false }) DropExclusive (DropsExclusive its) else ended_without c.places (norm c t) its)
     by_alone true e = record { same = refl; owes = rw e refl; its_effect = refl; its_told = refl; row = record { truth = truth; not_alone = refl; shared = kept; its_latching = refl } }
     by_alone false e = ended_without_true c told t its truth e kept
 
+-- an update at its call, where calls have bounds
+abbrev pub bounded : Trial → Bool
+bounded c = has_bounds (bounds_at c.occasion) && not (is_read c.request.op)
+
+-- where such an update would wait and has met no entry, there is none
+abbrev pub Lacks : Trial → Told → TryState → TryAnswer → Type 0
+Lacks c told t its = bounded c ≡ true → is_wait its ≡ true → t.walk.entry ≡ 0 → HasNoEntry c told
+
+pub told_none : (waiting : Waiting) → reply_told (told_of waiting) ≡ []
+told_none (For reason) = refl
+told_none (ForRecord its) = refl
+
+is_update : (a b : Bool) → (a && not b) ≡ true → b ≡ false
+is_update true true e = cc
+is_update true false e = refl
+is_update false b e = cc
+
+waits_true : (c : Trial) (told : Told) (t : TryState) (waiting : Waiting) → IsTrue c told (told_of waiting) → t.has_shared ≡ shares c → (bounded c ≡ true → t.walk.entry ≡ 0 → HasNoEntry c told)
+    → Comes c told t.effect [] (latch_held t) (ends_by c.places (norm c t) (told_of waiting) (Some waiting))
+waits_true c told t waiting truth kept lacks = by_bounds (bounded c) refl
+  where
+    by_bounds : (b : Bool) → bounded c ≡ b → Comes c told t.effect [] (latch_held t) (if b then record (norm c t) { step = LoadsTail waiting } else ends_so c.places (norm c t) (told_of waiting))
+    by_bounds true e = record { same = refl; owes = refl; its_effect = refl; its_told = refl; row = record { truth = truth; shared = kept; update = is_update (has_bounds (bounds_at c.occasion)) (is_read c.request.op) e; lacks = lacks e } }
+    by_bounds false e = subst (λ l. Comes c told t.effect l (latch_held t) (ends_so c.places (norm c t) (told_of waiting))) (told_none waiting) (ends_so_true c told t (told_of waiting) truth (λ waits. kept))
+
+pub ends_true : (c : Trial) (told : Told) (t : TryState) (its : TryAnswer) → IsTrue c told its → (is_wait its ≡ true → t.has_shared ≡ shares c) → Lacks c told t its → Comes c told t.effect (reply_told its) (latch_held t) (ends c.places (norm c t) its)
+unfolding ends
+ends_true c told t (answer.Wait reason) truth kept lacks = waits_true c told t (For reason) truth (kept refl) (λ e. lacks e refl)
+ends_true c told t (answer.AwaitsDisk its) truth kept lacks = waits_true c told t (ForRecord its) truth (kept refl) (λ e. lacks e refl)
+ends_true c told t its truth kept lacks = ends_so_true c told t its truth kept
+
 pub takes_effect_true : (c : Trial) (told : Told) (t : TryState) (its : Reply) → Updates c told t → Comes c told (Some its) (its ∷ []) (latch_held t) (takes_effect c.places (norm c t) its)
-takes_effect_true c told t its updates = ends_true c told (record t { effect = Some its }) (answer.Done its) updates.update (λ e. cc)
+takes_effect_true c told t its updates = ends_true c told (record t { effect = Some its }) (answer.Done its) updates.update (λ e. cc) (λ bounds e. cc)

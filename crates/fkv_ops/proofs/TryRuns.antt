@@ -14,7 +14,7 @@ use Rattle.fkv_latch.specs.Latching.{latch_ask}
 use Rattle.fkv_ops.specs.declared.answers.TryAnswer.{TryAnswer}
 use Rattle.fkv_ops.specs.declared.answers.TryAnswer.TheVariants as answer
 use Rattle.fkv_ops.specs.declared.trying.Trying.{Trying}
-use Rattle.fkv_ops.specs.declared.trying.Trying.TheVariants.{Ended, TakesShared, LoadsPhase, Walks, LoadsSafe, SwapsValue, LoadsCurrent, ChangesValue, LoadsAnswer, TakesExclusive, LoadsOld, Appends, DropsExclusive, DropsShared}
+use Rattle.fkv_ops.specs.declared.trying.Trying.TheVariants.{Ended, TakesShared, LoadsPhase, Walks, CountsTaken, LoadsSafe, SwapsValue, LoadsCurrent, ChangesValue, LoadsAnswer, TakesExclusive, LoadsOld, Appends, LoadsTail, LoadsTaken, DropsExclusive, DropsShared}
 use Rattle.fkv_ops.specs.Walking.{walk_ask}
 use Rattle.fkv_ops.specs.Appending.{append_ask}
 use Rattle.fkv_ops.specs.Trying.{TryState, new_try, trying_ask, try_ask, trying_next, try_next, with_latch, walks}
@@ -80,6 +80,7 @@ ask_same p t (Ended its) = refl
 ask_same p t TakesShared = refl
 ask_same p t LoadsPhase = refl
 ask_same p t Walks = refl
+ask_same p t CountsTaken = refl
 ask_same p t (LoadsSafe addr version) = refl
 ask_same p t (SwapsValue addr) = refl
 ask_same p t (LoadsCurrent addr) = refl
@@ -88,6 +89,8 @@ ask_same p t LoadsAnswer = refl
 ask_same p t (TakesExclusive old) = refl
 ask_same p t LoadsOld = refl
 ask_same p t (Appends its) = refl
+ask_same p t (LoadsTail waiting) = refl
+ask_same p t (LoadsTaken waiting) = refl
 ask_same p t (DropsExclusive its) = refl
 ask_same p t (DropsShared its) = refl
 
@@ -149,6 +152,7 @@ row_ended c told t (Ended it) its row e = cc
 row_ended c told t TakesShared its row e = absurd (not_passed (latch_ask t.latching) answer.Shift its (share_asks c told t.latching row.its_latching) e)
 row_ended c told t LoadsPhase its row e = cc
 row_ended c told t Walks its row e = absurd (not_passed (walk_ask c.places t.walk) answer.Shift its row.asks e)
+row_ended c told t CountsTaken its row e = cc
 row_ended c told t (LoadsSafe addr version) its row e = cc
 row_ended c told t (SwapsValue addr) its row e = cc
 row_ended c told t (LoadsCurrent addr) its row e = absurd (not_passed (walk_ask c.places t.walk) answer.Shift its (loads_asks c.places t.walk addr row.2) e)
@@ -157,6 +161,8 @@ row_ended c told t LoadsAnswer its row e = absurd (not_passed (walk_ask c.places
 row_ended c told t (TakesExclusive old) its row e = absurd (not_passed (latch_ask t.latching) answer.Shift its (alone_asks c told t.latching row.its_latching) e)
 row_ended c told t LoadsOld its row e = absurd (not_passed (walk_ask c.places t.walk) answer.Shift its (loads_asks c.places t.walk row.addr row.loads) e)
 row_ended c told t (Appends it) its row e = absurd (not_passed (append_ask c.places t.append) answer.Shift its row.asks e)
+row_ended c told t (LoadsTail waiting) its row e = cc
+row_ended c told t (LoadsTaken waiting) its row e = cc
 row_ended c told t (DropsExclusive it) its row e = absurd (not_passed (latch_ask t.latching) it its (subst (λ x. is_done (latch_ask x) ≡ false) (sym row.its_latching) (drop_asks (latch_place c))) e)
 row_ended c told t (DropsShared it) its row e = absurd (not_passed (latch_ask t.latching) it its (subst (λ x. is_done (latch_ask x) ≡ false) (sym row.its_latching) (unshare_asks (latch_place c))) e)
 

@@ -1,6 +1,6 @@
 -- Each reply leads a try on to a state of which it knows what it has to.
-use Rattle.std.proofs.Common.{◌≡◌, ℕ, ◌+◌, ◌<◌, ◌≤◌, [], ◌∷◌, refl, inl, inr, sym, ap, ◌∙◌, subst, Bool, true, false}
-use Rattle.std.specs.Prelude.{◌==◌, ◌&&◌, ◌||◌, not, if◌then◌else◌, Option, Some, None}
+use Rattle.std.proofs.Common.{◌≡◌, ℕ, ◌+◌, ◌<◌, ◌≤◌, ◌⊎◌, [], ◌∷◌, refl, inl, inr, sym, ap, ◌∙◌, subst, Bool, true, false}
+use Rattle.std.specs.Prelude.{◌==◌, ◌&&◌, ◌||◌, not, nat_le, if◌then◌else◌, Option, Some, None}
 use Rattle.fkv_base.specs.declared.numbers.Addr.{Addr}
 use Rattle.fkv_marks.specs.Marks.{mark}
 use Rattle.fkv_words.specs.Fields.{bit_of}
@@ -21,28 +21,34 @@ use Rattle.fkv_latch.specs.Latching.{one_share, exclusive_bit, is_exclusive, is_
 use Rattle.fkv_ops.specs.declared.answers.Reason.TheVariants as reason
 use Rattle.fkv_ops.specs.declared.answers.TryAnswer.{TryAnswer}
 use Rattle.fkv_ops.specs.declared.answers.TryAnswer.TheVariants as answer
+use Rattle.fkv_ops.specs.declared.answers.Waiting.{Waiting}
+use Rattle.fkv_ops.specs.declared.bounds.Bounds.{Bounds}
+use Rattle.fkv_ops.specs.declared.requests.Occasion.{Occasion}
+use Rattle.fkv_ops.specs.declared.requests.Occasion.TheVariants.{Call, Poll}
+use Rattle.fkv_ops.specs.Bounds.{bounds_at, IsCall, is_past_taken, is_past_tail}
+use Rattle.fkv_ops.specs.Waiting.{told_of}
 use Rattle.fkv_ops.specs.declared.appending.AppendAnswer.{AppendAnswer}
 use Rattle.fkv_ops.specs.declared.appending.AppendAnswer.TheVariants as append
 use Rattle.fkv_ops.specs.declared.appending.Appending.{Appending}
 use Rattle.fkv_ops.specs.declared.trying.OldValue.{OldValue}
 use Rattle.fkv_ops.specs.declared.trying.OldValue.TheVariants.{InMemory, Known}
 use Rattle.fkv_ops.specs.declared.trying.Trying.{Trying}
-use Rattle.fkv_ops.specs.declared.trying.Trying.TheVariants.{Ended, TakesShared, LoadsPhase, Walks, LoadsSafe, SwapsValue, LoadsCurrent, ChangesValue, LoadsAnswer, TakesExclusive, LoadsOld, Appends, DropsExclusive, DropsShared}
+use Rattle.fkv_ops.specs.declared.trying.Trying.TheVariants.{Ended, TakesShared, LoadsPhase, Walks, CountsTaken, LoadsSafe, SwapsValue, LoadsCurrent, ChangesValue, LoadsAnswer, TakesExclusive, LoadsOld, Appends, LoadsTail, LoadsTaken, DropsExclusive, DropsShared}
 use Rattle.fkv_ops.specs.declared.walking.WalkAnswer.TheVariants as walk
 use Rattle.fkv_ops.specs.Values.{value_of, word_of}
 use Rattle.fkv_ops.specs.Requests.{is_read}
 use Rattle.fkv_ops.specs.Walking.{WalkState, walk_ask, walk_next}
 use Rattle.fkv_ops.specs.Appending.{append_ask, append_next}
-use Rattle.fkv_ops.specs.Trying.{TryState, trying_ask, is_wait, is_prepare, is_moving_on, is_marked, is_next_marked, is_still_in, ends, takes_effect, walks, latch_shared, shared_ledto, phase_loaded, current_ledto, value_changed, told_value, answer_ledto, exclusive_ledto, old_ledto, append_ledto, exclusive_dropped, shared_dropped, trying_next, words_of}
+use Rattle.fkv_ops.specs.Trying.{TryState, trying_ask, is_wait, is_prepare, is_moving_on, is_marked, is_next_marked, is_still_in, ends, ends_so, tail_loaded, taken_loaded, count_loaded, copies, takes_effect, walks, latch_shared, shared_ledto, phase_loaded, current_ledto, value_changed, told_value, answer_ledto, exclusive_ledto, old_ledto, append_ledto, exclusive_dropped, shared_dropped, trying_next, words_of}
 use Rattle.fkv_ops.specs.TryRun.{Trial, home_at, Told, reply_told}
-use Rattle.fkv_ops.specs.Reasons.{latch_place, Loaded, HasEntry, HasFound, Held, Quicker, HasMetLatch, needs_exclusive, tells_own, HasNoneOfVersion, FoundMarked, FoundAnother, FoundNone, FoundBelow, OthersWentOn, ByLatch, ByWord, HasValue, ValueLost, IsTrue}
+use Rattle.fkv_ops.specs.Reasons.{latch_place, Loaded, HasEntry, HasFound, Held, Quicker, HasMetLatch, needs_exclusive, tells_own, HasNoneOfVersion, FoundMarked, FoundAnother, FoundNone, FoundBelow, OthersWentOn, ByLatch, ByWord, HasValue, ValueLost, HasNoRoom, HasNoEntry, IsPastTail, IsTrue}
 use Rattle.fkv_ops.specs.Effects.{MayChange, IsMadeOf, OfRecord, OfNone, OfAny, OfHeld, OfNoneBehind, IsLoaded, shares_latch, HasShared, OnWord}
 use Rattle.fkv_ops.proofs.BoolTests.{lt_true, lt_false, le_true, le_false, eq_true, eq_false, both}
 use Rattle.fkv_ops.proofs.Walked.{walk_true, walk_begun_true, walk_begun_asks, loads_place, loads_value, loads_same}
 use Rattle.fkv_ops.proofs.Appended.{AppendKnows, append_true, append_answers}
-use Rattle.fkv_ops.proofs.TryRows.{norm, shares, Owed, latch_held, owed_at, Under, Updates, ShareRow, AloneRow, OldRow, Alone, PhaseKnows, TryRow, told_at, Comes, ended_without_true, ends_true, takes_effect_true}
-use Rattle.fkv_ops.proofs.Copied.{appends_true, copies_from_true}
-use Rattle.fkv_ops.proofs.Tried.{quiet_end, full_true, walk_led_true, safe_true}
+use Rattle.fkv_ops.proofs.TryRows.{norm, shares, Owed, latch_held, owed_at, Under, Updates, ShareRow, AloneRow, OldRow, Alone, PhaseKnows, TryRow, told_at, Comes, CountKnows, TailKnows, TakenKnows, told_none, ended_without_true, ends_so_true, ends_true, takes_effect_true}
+use Rattle.fkv_ops.proofs.Copied.{appends_true, copies_from_true, copies_true}
+use Rattle.fkv_ops.proofs.Tried.{quiet_end, never_kept, full_true, walk_led_true, safe_true}
 
 -- the steps whose ask can make an effect
 abbrev pub makes_effect : Trying → Bool
@@ -95,7 +101,7 @@ shift_true : (c : Trial) (told : Told) (t : TryState) → t.effect ≡ None → 
 shift_true c told t quiet wants others =
     let split = both (is_prepare c.seen.phase) (not (is_read c.request.op)) wants in
     subst (λ e. Comes c told e [] (latch_held t) (ends c.places (norm c t) answer.Shift)) quiet
-    (ends_true c told t answer.Shift (record { in_prepare = split.0; update = negated (is_read c.request.op) split.1; others = others }) (λ waits. cc))
+    (ends_true c told t answer.Shift (record { in_prepare = split.0; update = negated (is_read c.request.op) split.1; others = others }) (λ waits. cc) (λ b waits. cc))
 
 no : false ≡ true → ⊥
 no e = cc
@@ -188,14 +194,14 @@ alone_true c told t old (latching.LoadsWord place) reply is_current next quiet n
       its_effect = quiet;
       its_told = ap told_at at;
       row = subst (TryRow c told (norm c t)) (sym at)
-          (record { not_alone = not_alone; updates = record { under = updates.under; update = updates.update; stays = updates.stays }; slot = slot; is_current = is_current; its_old = its_old; need = need; its_latching = subst (AloneRow c told) (sym its) (row, free, subst (λ p. told (Load p) reply) row was) });
+          (record { not_alone = not_alone; updates = record { under = updates.under; update = updates.update; stays = updates.stays; lacks = updates.lacks }; slot = slot; is_current = is_current; its_old = its_old; need = need; its_latching = subst (AloneRow c told) (sym its) (row, free, subst (λ p. told (Load p) reply) row was) });
     }
 
     by_word : (b : Bool) → is_free reply ≡ b
         → Comes c told None [] (record { shares = bit_of t.has_shared; bits = 0 }) (exclusive_ledto c.places (norm c t) old (if b then latch_ask (latching.SetsExclusive place reply) else Done latch.Busy))
     by_word true e = stays (next ∙ rw e refl) (lt_true reply one_share e)
     by_word false e = owing c told (latch_held t) (record { shares = bit_of t.has_shared; bits = 0 }) (ends c.places (norm c t) (answer.Wait reason.Latch)) none
-        (quiet_end c told t (answer.Wait reason.Latch) quiet updates.under refl (waits_for_latch c told t old is_current updates its_old need (Held reply (subst (λ p. told (Load p) reply) row was) (lt_false reply one_share e))))
+        (quiet_end c told t (answer.Wait reason.Latch) quiet updates.under refl (waits_for_latch c told t old is_current updates its_old need (Held reply (subst (λ p. told (Load p) reply) row was) (lt_false reply one_share e))) (λ b waits. updates.lacks))
 alone_true c told t old (latching.SetsExclusive place word) reply is_current next quiet not_alone at updates slot its_old need row was = by_word (reply == word) refl
   where
     none : latch_held t ≡ record { shares = bit_of t.has_shared; bits = 0 }
@@ -206,10 +212,10 @@ alone_true c told t old (latching.SetsExclusive place word) reply is_current nex
 
     by_word : (b : Bool) → (reply == word) ≡ b
         → Comes c told None [] (record { shares = bit_of t.has_shared; bits = bit_of b }) (exclusive_ledto c.places (norm c t) old (Done (if b then latch.Taken else latch.Busy)))
-    by_word true e = copies_from_true c told (record t { has_exclusive = true }) old is_current quiet (record { under = updates.under; update = updates.update; stays = updates.stays }) slot its_old
+    by_word true e = copies_from_true c told (record t { has_exclusive = true }) old is_current quiet (record { under = updates.under; update = updates.update; stays = updates.stays; lacks = updates.lacks }) slot its_old
         (λ need. record { word = word; free = row.1; its_cas = subst (told (Cas (latch_place c) word (word + exclusive_bit))) (eq_true reply word e) its_cas })
     by_word false e = owing c told (latch_held t) (record { shares = bit_of t.has_shared; bits = 0 }) (ends c.places (norm c t) (answer.Wait reason.Latch)) none
-        (quiet_end c told t (answer.Wait reason.Latch) quiet updates.under refl (waits_for_latch c told t old is_current updates its_old need (Quicker word row.1 row.2 (record { found = reply; its_cas = its_cas; another = eq_false reply word e }))))
+        (quiet_end c told t (answer.Wait reason.Latch) quiet updates.under refl (waits_for_latch c told t old is_current updates its_old need (Quicker word row.1 row.2 (record { found = reply; its_cas = its_cas; another = eq_false reply word e }))) (λ b waits. updates.lacks))
 alone_true c told t old step reply is_current next quiet not_alone at updates slot its_old need row was = absurd row
 
 dropped_true : (c : Trial) (told : Told) (t : TryState) (its : TryAnswer) (place reply : ℕ) → IsTrue c told its → t.has_exclusive ≡ false → (is_wait its ≡ true → t.has_shared ≡ shares c)
@@ -224,15 +230,15 @@ unshared_true c told t its place reply truth not_alone kept = record { same = re
 
 current_true : (c : Trial) (told : Told) (t : TryState) (addr : Addr) (value : ℕ) → t.effect ≡ None → Updates c told t → MayChange c told addr.0 → Loaded told (record_place c.places addr.0 rec.Value) value → Comes c told None [] (latch_held t) (current_ledto c.places (norm c t) addr (Done (walk.Value value)))
 unfolding current_ledto
-current_true c told t addr value quiet updates may loaded = record { same = refl; owes = refl; its_effect = quiet; its_told = refl; row = (record { under = updates.under; update = updates.update; stays = updates.stays }, may, loaded) }
+current_true c told t addr value quiet updates may loaded = record { same = refl; owes = refl; its_effect = quiet; its_told = refl; row = (record { under = updates.under; update = updates.update; stays = updates.stays; lacks = updates.lacks }, may, loaded) }
 
 answer_true : (c : Trial) (told : Told) (t : TryState) (value : ℕ) → t.effect ≡ None → Under c told t.has_shared → is_read c.request.op ≡ true → HasValue c told value → Comes c told None [] (latch_held t) (answer_ledto c.places (norm c t) (Done (walk.Value value)))
 unfolding answer_ledto
 answer_true c told t value quiet under reads has = by_word (value == absent_word) refl
   where
     by_word : (b : Bool) → (value == absent_word) ≡ b → Comes c told None [] (latch_held t) (ends c.places (norm c t) (told_value (if b then None else Some value)))
-    by_word true e = quiet_end c told t answer.Absent quiet under refl (record { reads = reads; none = inl (subst (HasValue c told) (eq_true value absent_word e) has) })
-    by_word false e = quiet_end c told t (answer.Found (record { 0 = value })) quiet under refl (record { reads = reads; its_value = has; present = eq_false value absent_word e })
+    by_word true e = quiet_end c told t answer.Absent quiet under refl (record { reads = reads; none = inl (subst (HasValue c told) (eq_true value absent_word e) has) }) (λ b waits. cc)
+    by_word false e = quiet_end c told t (answer.Found (record { 0 = value })) quiet under refl (record { reads = reads; its_value = has; present = eq_false value absent_word e }) (λ b waits. cc)
 
 old_true : (c : Trial) (told : Told) (t : TryState) (value : ℕ) (is_current : Bool) → t.effect ≡ None → Updates c told t → HasEntry c told t.walk.place t.walk.entry → IsMadeOf c told t.walk.place t.walk.entry (value_of value) is_current → Alone c told is_current
     → Comes c told None [] (latch_held t) (old_ledto c.places (norm c t) (Done (walk.Value value)))
@@ -247,7 +253,7 @@ changed_true c told t addr old reply quiet updates may loaded was = by_word (rep
         → Steps c told (ChangesValue addr old) (latch_held t) (if b then takes_effect c.places (norm c t) (reply_from (value_of old) c.request.op) else ends c.places (norm c t) (answer.Wait reason.Contended))
     by_word true e = Effectively (reply_from (value_of old) c.request.op) refl refl (takes_effect_true c told t (reply_from (value_of old) c.request.op) updates)
     by_word false e = Quietly (quiet_end c told t (answer.Wait reason.Contended) quiet updates.under refl
-        (ValueLost old may.found loaded (record { found = reply; its_cas = was; another = eq_false reply old e })))
+        (ValueLost old may.found loaded (record { found = reply; its_cas = was; another = eq_false reply old e })) (λ b waits. updates.lacks))
 
 append_led_true : (c : Trial) (told : Told) (t : TryState) (its : Reply) (place entry : ℕ) (old : Option ℕ) (is_current : Bool) (last : Appending) (ask : Ask AppendAnswer) → t.effect ≡ None → t.step ≡ Appends its → Updates c told t
     → its ≡ reply_from old c.request.op → IsMadeOf c told place entry old is_current → Alone c told is_current
@@ -257,18 +263,22 @@ unfolding append_ledto
 append_led_true c told t its place entry old is_current last (Done append.Published) quiet at updates told_so made_of alone knows e = Effectively its refl refl (takes_effect_true c told t its updates)
 append_led_true c told t its place entry old is_current last (Done append.Full) quiet at updates told_so made_of alone knows e =
     let full = append_answers c told (record { place = place; entry = entry; tag = (home_at c).tag }) (words_of c.request entry old) last t.append append.Full knows e in
-    Quietly (full_true c told t answer.LogFull (inr full) quiet updates.under refl (λ here. (here, full)))
+    Quietly (full_true c told t answer.LogFull (λ at. inr (at_poll at full)) quiet updates.under refl refl (λ call. (call, full)))
+  where
+    at_poll : c.occasion ≡ Poll → HasNoRoom told c.room ⊎ IsPastTail c told → HasNoRoom told c.room
+    at_poll at (inl none) = none
+    at_poll at (inr past) = absurd (never_kept c.occasion past.bounds at past.has)
 append_led_true c told t its place entry old is_current last (Done append.NoRoom) quiet at updates told_so made_of alone knows e =
-    Quietly (quiet_end c told t (answer.Wait reason.NoRoom) quiet updates.under refl (append_answers c told (record { place = place; entry = entry; tag = (home_at c).tag }) (words_of c.request entry old) last t.append append.NoRoom knows e))
+    Quietly (quiet_end c told t (answer.Wait reason.NoRoom) quiet updates.under refl (append_answers c told (record { place = place; entry = entry; tag = (home_at c).tag }) (words_of c.request entry old) last t.append append.NoRoom knows e) (λ b waits. updates.lacks))
 append_led_true c told t its place entry old is_current last (Done append.Contended) quiet at updates told_so made_of alone knows e =
-    Quietly (quiet_end c told t (answer.Wait reason.Contended) quiet updates.under refl (append_answers c told (record { place = place; entry = entry; tag = (home_at c).tag }) (words_of c.request entry old) last t.append append.Contended knows e))
+    Quietly (quiet_end c told t (answer.Wait reason.Contended) quiet updates.under refl (append_answers c told (record { place = place; entry = entry; tag = (home_at c).tag }) (words_of c.request entry old) last t.append append.Contended knows e) (λ b waits. updates.lacks))
 append_led_true c told t its place entry old is_current last ask quiet at updates told_so made_of alone knows e = Quietly (record {
   same = refl;
   owes = ap (owed_at t) at;
   its_effect = quiet;
   its_told = ap told_at at;
   row = subst (TryRow c told (norm c t)) (sym at) (record {
-    updates = record { under = updates.under; update = updates.update; stays = updates.stays };
+    updates = record { under = updates.under; update = updates.update; stays = updates.stays; lacks = updates.lacks };
     place = place;
     entry = entry;
     old = old;
@@ -281,6 +291,61 @@ append_led_true c told t its place entry old is_current last ask quiet at update
     asks = ap is_done e;
   });
 })
+
+is_call : (o : Occasion) (bounds : Bounds) → bounds_at o ≡ Some bounds → IsCall o
+is_call (Call its) bounds e = tt
+is_call Poll bounds e = cc
+
+-- the try ends as it is to, or is refused
+ends_quietly : (c : Trial) (told : Told) (t : TryState) (its : TryAnswer) → t.effect ≡ None → reply_told its ≡ [] → IsTrue c told its → (is_wait its ≡ true → t.has_shared ≡ shares c) → Comes c told None [] (latch_held t) (ends_so c.places (norm c t) its)
+ends_quietly c told t its quiet none truth kept =
+    subst (λ e. Comes c told e [] (latch_held t) (ends_so c.places (norm c t) its)) quiet (subst (λ l. Comes c told t.effect l (latch_held t) (ends_so c.places (norm c t) its)) none (ends_so_true c told t its truth kept))
+
+tail_true : (c : Trial) (told : Told) (t : TryState) (waiting : Waiting) (tail : ℕ) → t.effect ≡ None → TailKnows c told t waiting → Loaded told (shared_place one.Tail) tail → Comes c told None [] (latch_held t) (tail_loaded c.places (norm c t) waiting tail)
+unfolding tail_loaded
+tail_true c told t waiting tail quiet knows was = by_bounds (bounds_at c.occasion) refl
+  where
+    waits : Comes c told None [] (latch_held t) (ends_so c.places (norm c t) (told_of waiting))
+    waits = ends_quietly c told t (told_of waiting) quiet (told_none waiting) knows.truth (λ waits. knows.shared)
+
+    by_entry : (b : Bool) → (t.walk.entry == 0) ≡ b → Comes c told None [] (latch_held t) (if b then record (norm c t) { step = LoadsTaken waiting } else ends_so c.places (norm c t) (told_of waiting))
+    by_entry true e = record { same = refl; owes = refl; its_effect = quiet; its_told = refl; row = record { truth = knows.truth; shared = knows.shared; update = knows.update; none = knows.lacks (eq_true t.walk.entry 0 e) } }
+    by_entry false e = waits
+
+    by_tail : (bounds : Bounds) → bounds_at c.occasion ≡ Some bounds → (b : Bool) → nat_le bounds.tail tail ≡ b
+        → Comes c told None [] (latch_held t) (if b then ends_so c.places (norm c t) answer.LogFull else if t.walk.entry == 0 then record (norm c t) { step = LoadsTaken waiting } else ends_so c.places (norm c t) (told_of waiting))
+    by_tail bounds has true e = ends_quietly c told t answer.LogFull quiet refl
+        (is_call c.occasion bounds has, inr (record { update = knows.update; bounds = bounds; has = has; tail = tail; its_tail = was; past = le_true bounds.tail tail e })) (λ waits. cc)
+    by_tail bounds has false e = by_entry (t.walk.entry == 0) refl
+
+    by_bounds : (its : Option Bounds) → bounds_at c.occasion ≡ its
+        → Comes c told None [] (latch_held t) (if is_past_tail its tail then ends_so c.places (norm c t) answer.LogFull else if t.walk.entry == 0 then record (norm c t) { step = LoadsTaken waiting } else ends_so c.places (norm c t) (told_of waiting))
+    by_bounds None has = by_entry (t.walk.entry == 0) refl
+    by_bounds (Some bounds) has = by_tail bounds has (nat_le bounds.tail tail) refl
+
+past_taken : (c : Trial) (told : Told) (taken : ℕ) → is_read c.request.op ≡ false → HasNoEntry c told → Loaded told (shared_place one.Taken) taken → is_past_taken (bounds_at c.occasion) taken ≡ true → IsTrue c told answer.IndexFull
+past_taken c told taken update none was past = by_bounds (bounds_at c.occasion) refl past
+  where
+    by_bounds : (its : Option Bounds) → bounds_at c.occasion ≡ its → is_past_taken its taken ≡ true → IsTrue c told answer.IndexFull
+    by_bounds None has e = cc
+    by_bounds (Some bounds) has e =
+        (is_call c.occasion bounds has, inr (record { none = none; past = record { update = update; bounds = bounds; has = has; taken = taken; its_count = was; past = le_true bounds.taken taken e } }))
+
+taken_true : (c : Trial) (told : Told) (t : TryState) (waiting : Waiting) (taken : ℕ) → t.effect ≡ None → TakenKnows c told t waiting → Loaded told (shared_place one.Taken) taken → Comes c told None [] (latch_held t) (taken_loaded c.places (norm c t) waiting taken)
+unfolding taken_loaded
+taken_true c told t waiting taken quiet knows was = by_count (is_past_taken (bounds_at c.occasion) taken) refl
+  where
+    by_count : (b : Bool) → is_past_taken (bounds_at c.occasion) taken ≡ b → Comes c told None [] (latch_held t) (if b then ends_so c.places (norm c t) answer.IndexFull else ends_so c.places (norm c t) (told_of waiting))
+    by_count true e = ends_quietly c told t answer.IndexFull quiet refl (past_taken c told taken knows.update knows.none was e) (λ waits. cc)
+    by_count false e = ends_quietly c told t (told_of waiting) quiet (told_none waiting) knows.truth (λ waits. knows.shared)
+
+count_true : (c : Trial) (told : Told) (t : TryState) (taken : ℕ) → t.effect ≡ None → CountKnows c told t → Loaded told (shared_place one.Taken) taken → Comes c told None [] (latch_held t) (count_loaded c.places (norm c t) taken)
+unfolding count_loaded
+count_true c told t taken quiet knows was = by_count (is_past_taken (bounds_at c.occasion) taken) refl
+  where
+    by_count : (b : Bool) → is_past_taken (bounds_at c.occasion) taken ≡ b → Comes c told None [] (latch_held t) (if b then ends c.places (norm c t) answer.IndexFull else copies c.places (norm c t) (Known absent_word) false)
+    by_count true e = quiet_end c told t answer.IndexFull quiet knows.updates.under refl (past_taken c told taken knows.updates.update (knows.updates.lacks knows.empty) was e) (λ b waits. cc)
+    by_count false e = copies_true c told t (Known absent_word) false quiet knows.not_alone knows.updates knows.walks.slot (OfNone knows.walks)
 
 -- the state as a reply meets it: what the last reply made is told no more
 abbrev pub quieted : Trial → TryState → TryState
@@ -298,23 +363,26 @@ row_true c told t LoadsPhase reply at row was =
     Quietly (phase_true c told (record t { effect = None }) reply refl (record { not_alone = row.not_alone; shared = row.shared; wants = row.wants; added = row.added; marked = row.marked }) was)
 row_true c told t Walks reply at row was =
     Quietly (walk_led_true c told (record t { effect = None; walk = walk_next c.places t.walk reply }) (walk_ask c.places (walk_next c.places t.walk reply)) refl row.not_alone at row.under (walk_true c told t.walk reply row.walks was) refl)
+row_true c told t CountsTaken reply at row was =
+    Quietly (count_true c told (record t { effect = None }) reply refl
+    (record { not_alone = row.not_alone; updates = record { under = row.updates.under; update = row.updates.update; stays = row.updates.stays; lacks = row.updates.lacks }; walks = row.walks; empty = row.empty }) was)
 row_true c told t (LoadsSafe addr version) reply at row was =
-    Quietly (safe_true c told (record t { effect = None }) addr version reply refl row.not_alone (record { under = row.updates.under; update = row.updates.update; stays = row.updates.stays }) row.found row.below was)
+    Quietly (safe_true c told (record t { effect = None }) addr version reply refl row.not_alone (record { under = row.updates.under; update = row.updates.update; stays = row.updates.stays; lacks = row.updates.lacks }) row.found row.below was)
 row_true c told t (SwapsValue addr) reply at row was =
-    Effectively (reply_from None c.request.op) refl refl (takes_effect_true c told (record t { effect = None }) (reply_from None c.request.op) (record { under = row.0.under; update = row.0.update; stays = row.0.stays }))
+    Effectively (reply_from None c.request.op) refl refl (takes_effect_true c told (record t { effect = None }) (reply_from None c.request.op) (record { under = row.0.under; update = row.0.update; stays = row.0.stays; lacks = row.0.lacks }))
 row_true c told t (LoadsCurrent addr) reply at row was =
     Quietly (subst (λ ask. Comes c told None [] (latch_held t) (current_ledto c.places (norm c (record t { effect = None; walk = walk_next c.places t.walk reply })) addr ask)) (sym (loads_value c.places t.walk addr reply row.2))
-    (current_true c told (record t { effect = None; walk = walk_next c.places t.walk reply }) addr reply refl (record { under = row.0.under; update = row.0.update; stays = row.0.stays }) row.1 (subst (λ a. told a reply) (loads_place c.places t.walk addr row.2) was)))
-row_true c told t (ChangesValue addr old) reply at row was = changed_true c told (record t { effect = None }) addr old reply refl (record { under = row.0.under; update = row.0.update; stays = row.0.stays }) row.1 row.2 was
+    (current_true c told (record t { effect = None; walk = walk_next c.places t.walk reply }) addr reply refl (record { under = row.0.under; update = row.0.update; stays = row.0.stays; lacks = λ none. row.0.lacks (sym (loads_same c.places t.walk addr reply row.2).1 ∙ none) }) row.1 (subst (λ a. told a reply) (loads_place c.places t.walk addr row.2) was)))
+row_true c told t (ChangesValue addr old) reply at row was = changed_true c told (record t { effect = None }) addr old reply refl (record { under = row.0.under; update = row.0.update; stays = row.0.stays; lacks = row.0.lacks }) row.1 row.2 was
 row_true c told t LoadsAnswer reply at row was =
     Quietly (subst (λ ask. Comes c told None [] (latch_held t) (answer_ledto c.places (norm c (record t { effect = None; walk = walk_next c.places t.walk reply })) ask)) (sym (loads_value c.places t.walk row.addr reply row.loads))
     (answer_true c told (record t { effect = None; walk = walk_next c.places t.walk reply }) reply refl row.under row.reads
     (record { place = t.walk.place; entry = t.walk.entry; addr = row.addr.0; version = row.version; found = row.found; its_value = subst (λ a. told a reply) (loads_place c.places t.walk row.addr row.loads) was })))
 row_true c told t (TakesExclusive old) reply at row was =
-    Quietly (alone_true c told (record t { effect = None; latching = latch_next t.latching reply }) old t.latching reply row.is_current refl refl row.not_alone at (record { under = row.updates.under; update = row.updates.update; stays = row.updates.stays }) row.slot row.its_old row.need row.its_latching was)
+    Quietly (alone_true c told (record t { effect = None; latching = latch_next t.latching reply }) old t.latching reply row.is_current refl refl row.not_alone at (record { under = row.updates.under; update = row.updates.update; stays = row.updates.stays; lacks = row.updates.lacks }) row.slot row.its_old row.need row.its_latching was)
 row_true c told t LoadsOld reply at row was =
     Quietly (subst (λ ask. Comes c told None [] (latch_held t) (old_ledto c.places (norm c (record t { effect = None; walk = walk_next c.places t.walk reply })) ask)) (sym (loads_value c.places t.walk row.addr reply row.loads))
-    (old_true c told (record t { effect = None; walk = walk_next c.places t.walk reply }) reply (tells_own c row.version) refl (record { under = row.updates.under; update = row.updates.update; stays = row.updates.stays })
+    (old_true c told (record t { effect = None; walk = walk_next c.places t.walk reply }) reply (tells_own c row.version) refl (record { under = row.updates.under; update = row.updates.update; stays = row.updates.stays; lacks = λ none. row.updates.lacks (sym same.1 ∙ none) })
     (subst (λ p. HasEntry c told p (walk_next c.places t.walk reply).entry) (sym same.0) (subst (λ e. HasEntry c told t.walk.place e) (sym same.1) row.found.walk.slot))
     (subst (λ p. IsMadeOf c told p (walk_next c.places t.walk reply).entry (value_of reply) (tells_own c row.version)) (sym same.0)
     (subst (λ e. IsMadeOf c told t.walk.place e (value_of reply) (tells_own c row.version)) (sym same.1) made)) row.alone))
@@ -326,8 +394,12 @@ row_true c told t LoadsOld reply at row was =
     made = OfRecord row.found row.may (IsLoaded reply (subst (λ a. told a reply) (loads_place c.places t.walk row.addr row.loads) was))
 row_true c told t (Appends its) reply at row was =
     append_led_true c told (record t { effect = None; append = append_next c.places c.room t.append reply }) its row.place row.entry row.old row.is_current t.append.step (append_ask c.places (append_next c.places c.room t.append reply)) refl at
-    (record { under = row.updates.under; update = row.updates.update; stays = row.updates.stays }) row.its_reply row.made_of row.alone
+    (record { under = row.updates.under; update = row.updates.update; stays = row.updates.stays; lacks = row.updates.lacks }) row.its_reply row.made_of row.alone
     (append_true c told (record { place = row.place; entry = row.entry; tag = (home_at c).tag }) (words_of c.request row.entry row.old) row.last t.append reply row.appends row.asks was) refl
+row_true c told t (LoadsTail waiting) reply at row was =
+    Quietly (tail_true c told (record t { effect = None }) waiting reply refl (record { truth = row.truth; shared = row.shared; update = row.update; lacks = row.lacks }) was)
+row_true c told t (LoadsTaken waiting) reply at row was =
+    Quietly (taken_true c told (record t { effect = None }) waiting reply refl (record { truth = row.truth; shared = row.shared; update = row.update; none = row.none }) was)
 row_true c told t (DropsExclusive its) reply at row was =
     Quietly (subst (λ x. Comes c told None (reply_told its) (latch_held t) (exclusive_dropped c.places (norm c (record t { effect = None; latching = latch_next t.latching reply })) its (latch_next_ask x reply))) (sym row.its_latching)
     (dropped_true c told (record t { effect = None; latching = latch_next t.latching reply }) its (latch_place c) reply row.truth row.not_alone row.shared))

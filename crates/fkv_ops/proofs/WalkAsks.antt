@@ -52,6 +52,7 @@ find_begun_left : (p : Places) (home : Home) (purpose : Purpose) (spare : ℕ) �
 unfolding step_asks_left
 find_begun_left p home purpose.Read spare = omega arith
 find_begun_left p home purpose.Update spare = omega arith
+find_begun_left p home (purpose.UpdateWithin bound) spare = omega arith
 
 pub walk_begun_left : (p : Places) (home : Home) (key : Key) (purpose : Purpose) (head : Addr) (spare : ℕ) → walk_asks_left p (walk_begun p home key purpose head spare) ≤ most_walk_asks p
 unfolding walking_asks_left
@@ -83,6 +84,7 @@ unfolding walking_asks_left
 slot_found_left p w (found.Slot place word) = reached_left p (record w { place = place; entry = word }) (entry_addr word) (2 * p.ring) (λ above less. omega (arith, less))
 slot_found_left p w found.NoSlot = omega arith
 slot_found_left p w found.Full = omega arith
+slot_found_left p w found.Kept = omega arith
 slot_found_left p w found.Contended = omega arith
 
 record_met_left : (p : Places) (w : WalkState) (addr : Addr) (key : Key) (said : HeaderSaid) → walk_asks_left p (record_met p w addr key said) ≤ 2 * (addr.0 - w.head.0)

@@ -97,6 +97,7 @@ slot_found_rests : (p : Places) (w : WalkState) (its : Found) → WalkRestsOrAsk
 slot_found_rests p w (found.Slot place word) = reached_rests p (record w { place = place; entry = word }) (entry_addr word)
 slot_found_rests p w found.NoSlot = refl
 slot_found_rests p w found.Full = refl
+slot_found_rests p w found.Kept = refl
 slot_found_rests p w found.Contended = refl
 
 record_met_rests : (p : Places) (w : WalkState) (addr : Addr) (key : Key) (said : HeaderSaid) → 0 < load_asks_left (load_on w.loading) → WalkRestsOrAsks (record_met p w addr key said)

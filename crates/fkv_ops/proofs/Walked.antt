@@ -25,12 +25,16 @@ use Rattle.fkv_ops.specs.declared.walking.WalkAnswer.TheVariants as walk
 use Rattle.fkv_ops.specs.declared.walking.Walking.{Walking}
 use Rattle.fkv_ops.specs.declared.walking.Walking.TheVariants.{Ended, Finds, Meets, HasFound as AtFound, LoadsValue}
 use Rattle.fkv_ops.specs.HeaderWords.{previous_in, version_in, is_header, header_said}
-use Rattle.fkv_ops.specs.Requests.{is_read, purpose_of}
+use Rattle.fkv_ops.specs.Requests.{is_read, purpose_at}
 use Rattle.fkv_ops.specs.Walking.{WalkState, walk_begun, walking_ask, walk_ask, reached, slot_found, find_ledto, first_met, record_met, load_ledto, value_ledto, walking_next, walk_next, walking_on, walk_on}
 use Rattle.fkv_ops.specs.TryRun.{Trial, home_at, Told}
-use Rattle.fkv_ops.specs.Reasons.{Loaded, HasEntry, HasEnd, IsIndexFull, AtEntry, Behind, WalksTo, HasFound, LeavesMemory, IsContended, NoStore, NoHeader, NotBelow, PastRing}
+use Rattle.fkv_ops.specs.Reasons.{Loaded, HasEntry, HasEnd, IsIndexFull, HasNoEntry, AtEmpty, AreBucketsKept, AtEntry, Behind, WalksTo, HasFound, LeavesMemory, IsContended, NoStore, NoHeader, NotBelow, PastRing}
 use Rattle.fkv_ops.proofs.BoolTests.{lt_true, lt_false, eq_true, eq_false, some_where}
 use Rattle.fkv_ops.proofs.Searched.{Searches, Leads, FindsTrue, search_true, search_begun, search_asks}
+
+-- an empty slot is no entry
+pub at_slot : (c : Trial) (told : Told) (place entry : ℕ) → HasEntry c told place entry → entry ≡ 0 → HasNoEntry c told
+at_slot c told place entry slot none = AtEmpty (subst (HasEntry c told place) none slot)
 
 -- the version of the chain's first record
 pub record HasFirst (c : Trial) (told : Told) (place entry version : ℕ) : Type 0 where
@@ -82,7 +86,8 @@ WalkEnd c told w walk.Nowhere = NowhereTrue c told w
 WalkEnd c told w (walk.OnDisk addr) = LeavesMemory c told w.place w.entry addr.0 × FirstAt c told w.place w.entry addr.0 w.first
 WalkEnd c told w (walk.Value value) = ⊥
 WalkEnd c told w walk.Full = IsIndexFull c told
-WalkEnd c told w walk.Contended = IsContended c told
+WalkEnd c told w walk.Kept = AreBucketsKept c told
+WalkEnd c told w walk.Contended = IsContended c told × (w.entry ≡ 0 → HasNoEntry c told)
 
 abbrev pub WalkRow : Trial → Told → WalkState → Walking → Type 0
 WalkRow c told w (Ended its) = WalkEnd c told w its
@@ -112,7 +117,7 @@ reached_true c told w addr its_key its_head walks first = by_zero (addr == 0) re
     by_ring true e high = record { its_key = its_key; its_head = its_head; its_row = record { walks = walks; in_memory = omega (arith, same, high); first = first; its_load = refl } }
     by_ring false e high =
         let far = lt_false (addr - w.head.0) c.places.ring e in
-        record { its_key = its_key; its_head = its_head; its_row = NoStore (PastRing walks (omega (arith, same, high, far))) }
+        record { its_key = its_key; its_head = its_head; its_row = (NoStore (PastRing walks (omega (arith, same, high, far))), at_slot c told w.place w.entry walks.slot) }
 
     by_head : (b : Bool) → nat_lt addr w.head.0 ≡ b → 0 < addr
         → WalkKnows c told (if b then record w { step = Ended (walk.OnDisk (record { 0 = addr })) } else if nat_lt (addr - w.head.0) c.places.ring then record w { loading = LoadsHeader (record { 0 = addr }); step = Meets (record { 0 = addr }) } else record w { step = Ended walk.Contended })
@@ -130,7 +135,8 @@ slot_found_true c told w (found.Slot place word) its_key its_head none slot =
     reached_true c told (record w { place = place; entry = word }) (entry_addr word) its_key its_head (record { slot = slot; reached = AtEntry }) (subst (FirstAt c told place word (entry_addr word)) (sym none) refl)
 slot_found_true c told w found.NoSlot its_key its_head none ends = record { its_key = its_key; its_head = its_head; its_row = inr (ends.0, ends.1, none) }
 slot_found_true c told w found.Full its_key its_head none full = record { its_key = its_key; its_head = its_head; its_row = full }
-slot_found_true c told w found.Contended its_key its_head none lost = record { its_key = its_key; its_head = its_head; its_row = lost }
+slot_found_true c told w found.Kept its_key its_head none kept = record { its_key = its_key; its_head = its_head; its_row = kept }
+slot_found_true c told w found.Contended its_key its_head none lost = record { its_key = its_key; its_head = its_head; its_row = (lost.0, λ empty. lost.1) }
 
 find_true : (c : Trial) (told : Told) (w : WalkState) (ask : Ask FindAnswer) → w.step ≡ Finds → w.key ≡ key_of c.request.op → w.head ≡ c.seen.offsets.head → w.first ≡ None → Leads c told ask w.finding → WalkKnows c told (find_ledto c.places w ask)
 unfolding find_ledto
@@ -172,11 +178,11 @@ record_true c told w addr header key its_key its_head walks in_memory first its_
     by_previous : (b : Bool) → nat_lt (previous_in header) addr.0 ≡ b
         → WalkKnows c told (if b then (if key == w.key.0 then record w { first = first_met w.first version; step = AtFound addr version } else reached c.places (record w { first = first_met w.first version }) (previous_in header)) else record w { step = Ended walk.Contended })
     by_previous true e = by_key (key == w.key.0) refl
-    by_previous false e = record { its_key = its_key; its_head = its_head; its_row = NoStore (NotBelow walks its_header (lt_false (previous_in header) addr.0 e)) }
+    by_previous false e = record { its_key = its_key; its_head = its_head; its_row = (NoStore (NotBelow walks its_header (lt_false (previous_in header) addr.0 e)), at_slot c told w.place w.entry walks.slot) }
 
     by_header : (b : Bool) → is_header header ≡ b → WalkKnows c told (record_met c.places w addr (record { 0 = key }) (if b then Says (record { 0 = previous_in header }) version else Spoiled))
     by_header true e = by_previous (nat_lt (previous_in header) addr.0) refl
-    by_header false e = record { its_key = its_key; its_head = its_head; its_row = NoStore (NoHeader walks its_header e) }
+    by_header false e = record { its_key = its_key; its_head = its_head; its_row = (NoStore (NoHeader walks its_header e), at_slot c told w.place w.entry walks.slot) }
 
 load_true : (c : Trial) (told : Told) (w : WalkState) (addr : Addr) (loading : Loading) (reply : ℕ) → w.loading ≡ load_next loading reply → w.step ≡ Meets addr → w.key ≡ key_of c.request.op → w.head ≡ c.seen.offsets.head → WalksTo c told w.place w.entry addr.0
     → c.seen.offsets.head.0 ≤ addr.0 → FirstAt c told w.place w.entry addr.0 w.first → LoadRow c told addr loading → told (passed (passed (load_ask c.places loading) walk.Contended) answer.Shift) reply
@@ -207,10 +213,10 @@ pub walk_true : (c : Trial) (told : Told) (w : WalkState) (reply : ℕ) → Walk
 walk_true c told w reply knows was = walk_row_true c told w w.step reply refl knows.its_key knows.its_head knows.its_row was
 
 -- as it begins, it asks
-pub walk_begun_true : (c : Trial) (told : Told) (spare : ℕ) → WalkKnows c told (walk_begun c.places (home_at c) (key_of c.request.op) (purpose_of c.request.op) c.seen.offsets.head spare)
+pub walk_begun_true : (c : Trial) (told : Told) (spare : ℕ) → WalkKnows c told (walk_begun c.places (home_at c) (key_of c.request.op) (purpose_at c.occasion c.request.op) c.seen.offsets.head spare)
 walk_begun_true c told spare = record { its_key = refl; its_head = refl; its_row = (search_begun c told spare, refl) }
 
-pub walk_begun_asks : (c : Trial) (spare : ℕ) → is_done (walk_ask c.places (walk_begun c.places (home_at c) (key_of c.request.op) (purpose_of c.request.op) c.seen.offsets.head spare)) ≡ false
+pub walk_begun_asks : (c : Trial) (spare : ℕ) → is_done (walk_ask c.places (walk_begun c.places (home_at c) (key_of c.request.op) (purpose_at c.occasion c.request.op) c.seen.offsets.head spare)) ≡ false
 unfolding walking_ask find_step_ask passed
 walk_begun_asks c spare = refl
 
@@ -283,6 +289,18 @@ walk_on_found c told w addr version at knows = by_step w.step at
     by_step Finds e = cc
     by_step (Meets a) e = cc
     by_step LoadsValue e = cc
+
+-- what is sought in the record leaves the slot as it was found
+pub walk_on_same : (w : WalkState) → ((walk_on w).place ≡ w.place) × ((walk_on w).entry ≡ w.entry)
+unfolding walking_on
+walk_on_same w = by_step w.step
+  where
+    by_step : (step : Walking) → ((walking_on w step).place ≡ w.place) × ((walking_on w step).entry ≡ w.entry)
+    by_step (AtFound addr version) = (refl, refl)
+    by_step (Ended its) = (refl, refl)
+    by_step Finds = (refl, refl)
+    by_step (Meets addr) = (refl, refl)
+    by_step LoadsValue = (refl, refl)
 
 pub loads_place : (p : Places) (w : WalkState) (addr : Addr) → LoadsRecord w addr → passed (walk_ask p w) answer.Shift ≡ Load (record_place p addr.0 rec.Value)
 unfolding walking_ask load_ask passed

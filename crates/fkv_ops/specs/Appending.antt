@@ -1,6 +1,6 @@
 -- How a record is appended and published: its address is reserved, its words are written, and its entry takes the place of the one that
 -- was found. A record whose entry was not won is invalidated.
-use Rattle.std.specs.Prelude.{ℕ, ◌^◌, ◌<◌, ◌&&◌, nat_lt, if◌then◌else◌, false, ⊤}
+use Rattle.std.specs.Prelude.{ℕ, ◌^◌, ◌<◌, ◌&&◌, nat_lt, if◌then◌else◌, false, Option, ⊤}
 use Rattle.std.proofs.Common.{arith}
 use Rattle.fkv_base.specs.declared.numbers.Addr.{Addr}
 use Rattle.fkv_words.specs.declared.headers.Header.{Header}
@@ -63,8 +63,8 @@ unfoldable pub append_rested : AppendState
 append_rested = record { slot = no_slot; its_words = no_words; reserving = reserving.AtRest; filling = filling.AtRest; publishing = publishing.AtRest; invalidating = invalidating.AtRest; step = Ended answer.Contended }
 
 -- As it begins it is made of what it is given alone: nothing is left of an earlier append.
-abbrev pub append_begun : FoundSlot → RecordWords → AppendState
-append_begun slot its_words = record { slot = slot; its_words = its_words; reserving = reserving.LoadsLimit; filling = filling.AtRest; publishing = publishing.AtRest; invalidating = invalidating.AtRest; step = Reserves }
+abbrev pub append_begun : FoundSlot → RecordWords → Option ℕ → AppendState
+append_begun slot its_words bound = record { slot = slot; its_words = its_words; reserving = reserving.LoadsLimit bound; filling = filling.AtRest; publishing = publishing.AtRest; invalidating = invalidating.AtRest; step = Reserves }
 
 -- what each state asks
 unfoldable pub appending_ask : Places → AppendState → Appending → Ask AppendAnswer

@@ -51,15 +51,19 @@ append_asks_left a = appending_asks_left a a.step
 abbrev pub most_drop_asks : ℕ
 most_drop_asks = 2
 
+-- and before that, two load words where an update would wait that has bounds
+abbrev pub most_end_asks : ℕ
+most_end_asks = 2 + most_drop_asks
+
 -- an append makes eight asks, and the end comes behind it
 abbrev pub most_append_asks : ℕ
-most_append_asks = 8 + most_drop_asks
+most_append_asks = 8 + most_end_asks
 
 -- before a copy two asks take the exclusive latch, and the walk goes on to the value
 abbrev pub most_copy_asks : Places → TryState → ℕ
 most_copy_asks p t = 2 + walk_asks_left p (walk_on t.walk) + most_append_asks
 
--- behind the walk one ask may load the safe read-only offset, and a copy comes then, whose value is loaded by two at most
+-- behind the walk one ask may load the safe read-only offset, or the count of taken overflow buckets, and a copy comes then, whose value is loaded by two at most
 abbrev pub most_asks_behind_walk : ℕ
 most_asks_behind_walk = 1 + (2 + 2 + most_append_asks)
 
@@ -72,14 +76,17 @@ trying_asks_left p t (try.Ended its) = 0
 trying_asks_left p t try.TakesShared = sum_left (latch_asks_left t.latching) (most_asks_behind_share p)
 trying_asks_left p t try.LoadsPhase = most_asks_behind_share p
 trying_asks_left p t try.Walks = sum_left (walk_asks_left p t.walk) most_asks_behind_walk
+trying_asks_left p t try.CountsTaken = 1 + most_copy_asks p t
 trying_asks_left p t (try.LoadsSafe addr version) = 1 + most_copy_asks p t
-trying_asks_left p t (try.SwapsValue addr) = 1 + most_drop_asks
-trying_asks_left p t (try.LoadsCurrent addr) = sum_left (walk_asks_left p t.walk) (1 + most_drop_asks)
-trying_asks_left p t (try.ChangesValue addr old) = 1 + most_drop_asks
-trying_asks_left p t try.LoadsAnswer = sum_left (walk_asks_left p t.walk) most_drop_asks
+trying_asks_left p t (try.SwapsValue addr) = 1 + most_end_asks
+trying_asks_left p t (try.LoadsCurrent addr) = sum_left (walk_asks_left p t.walk) (1 + most_end_asks)
+trying_asks_left p t (try.ChangesValue addr old) = 1 + most_end_asks
+trying_asks_left p t try.LoadsAnswer = sum_left (walk_asks_left p t.walk) most_end_asks
 trying_asks_left p t (try.TakesExclusive old) = sum_left (latch_asks_left t.latching) (walk_asks_left p (walk_on t.walk) + most_append_asks)
 trying_asks_left p t try.LoadsOld = sum_left (walk_asks_left p t.walk) most_append_asks
-trying_asks_left p t (try.Appends its) = sum_left (append_asks_left t.append) most_drop_asks
+trying_asks_left p t (try.Appends its) = sum_left (append_asks_left t.append) most_end_asks
+trying_asks_left p t (try.LoadsTail waiting) = 2 + most_drop_asks
+trying_asks_left p t (try.LoadsTaken waiting) = 1 + most_drop_asks
 trying_asks_left p t (try.DropsExclusive its) = sum_left (latch_asks_left t.latching) 1
 trying_asks_left p t (try.DropsShared its) = latch_asks_left t.latching
 

@@ -1,5 +1,6 @@
 pub mod Appending
 pub mod AsksLeft
+pub mod Bounds
 pub mod EachAsk
 pub mod Effects
 pub mod HeaderWords
@@ -11,4 +12,5 @@ pub mod Spares
 pub mod Trying
 pub mod TryRun
 pub mod Values
+pub mod Waiting
 pub mod Walking

@@ -17,7 +17,9 @@ use Rattle.fkv_ops.specs.declared.answers.Reason.TheVariants as reason
 use Rattle.fkv_ops.specs.declared.answers.TryAnswer.{TryAnswer}
 use Rattle.fkv_ops.specs.declared.answers.TryAnswer.TheVariants as answer
 use Rattle.fkv_ops.specs.declared.requests.HeldRecord.{HeldRecord}
-use Rattle.fkv_ops.specs.declared.requests.Occasion.TheVariants.{Call, Poll}
+use Rattle.fkv_ops.specs.declared.bounds.Bounds.{Bounds}
+use Rattle.fkv_ops.specs.declared.requests.Occasion.TheVariants.{Poll}
+use Rattle.fkv_ops.specs.Bounds.{bounds_at, IsCall}
 use Rattle.fkv_ops.specs.Values.{value_of, word_of}
 use Rattle.fkv_ops.specs.Requests.{is_read, is_blind}
 use Rattle.fkv_ops.specs.HeaderWords.{previous_in, version_in, is_header}
@@ -236,6 +238,35 @@ pub data IsSpoiled (c : Trial) (told : Told) : Type 0 where
   PastRing : {place entry addr : ℕ} → WalksTo c told place entry addr → c.seen.offsets.head.0 + c.places.ring ≤ addr → IsSpoiled c told
   NoAddress : {place entry addr : ℕ} → HasEntry c told place entry → Won told (shared_place one.Tail) addr (addr + 1) → (addr ≤ entry_addr entry) ⊎ (2 ^ 48 ≤ addr) → IsSpoiled c told
 
+-- the search has found no entry of the key's home: an empty slot, or the last of the buckets, or a word that no store writes
+pub data HasNoEntry (c : Trial) (told : Told) : Type 0 where
+  AtEmpty : {place : ℕ} → HasEntry c told place 0 → HasNoEntry c told
+  AtLast : {own : Bool} → HasEnd c told own → HasNoEntry c told
+  AtSpoiled : IsSpoiled c told → HasNoEntry c told
+
+-- an update within bounds has loaded a count of taken overflow buckets at which no more than the margin is left
+pub record IsPastTaken (c : Trial) (told : Told) : Type 0 where
+  pub update : is_read c.request.op ≡ false
+  pub bounds : Bounds
+  pub has : bounds_at c.occasion ≡ Some bounds
+  pub taken : ℕ
+  pub its_count : Loaded told (shared_place one.Taken) taken
+  pub past : bounds.taken ≤ taken
+
+-- the same of the tail
+pub record IsPastTail (c : Trial) (told : Told) : Type 0 where
+  pub update : is_read c.request.op ≡ false
+  pub bounds : Bounds
+  pub has : bounds_at c.occasion ≡ Some bounds
+  pub tail : ℕ
+  pub its_tail : Loaded told (shared_place one.Tail) tail
+  pub past : bounds.tail ≤ tail
+
+-- what is left of the index is the polls'
+pub record AreBucketsKept (c : Trial) (told : Told) : Type 0 where
+  pub none : HasNoEntry c told
+  pub past : IsPastTaken c told
+
 -- The Cas that was to publish a record was lost, and the record is invalidated: at the address that was reserved for it its header is stored
 -- with bit 62.
 pub record LosesEntry (c : Trial) (told : Told) : Type 0 where
@@ -266,7 +297,7 @@ IsReason c told reason.Fuzzy = IsFuzzy c told
 IsReason c told reason.Disk = ⊥
 IsReason c told reason.Latch = WaitsForLatch c told
 IsReason c told reason.Contended = IsContended c told
-IsReason c told reason.NoRoom = (tail : ℕ) × HasNoRoom told tail × (tail ≢ c.room)
+IsReason c told reason.NoRoom = ((tail : ℕ) × HasNoRoom told tail × (tail ≢ c.room)) ⊎ IsPastTail c told
 IsReason c told reason.Full = (c.occasion ≡ Poll) × (IsIndexFull c told ⊎ HasNoRoom told c.room)
 
 -- each answer. That of an update that is done is told by its effect
@@ -277,8 +308,8 @@ IsTrue c told answer.Absent = ReadMisses c told
 IsTrue c told (answer.Wait its) = IsReason c told its
 IsTrue c told (answer.AwaitsDisk it) = IsOnDisk c told it
 IsTrue c told answer.Shift = MustShift c told
-IsTrue c told answer.IndexFull = (c.occasion ≡ Call) × IsIndexFull c told
-IsTrue c told answer.LogFull = (c.occasion ≡ Call) × HasNoRoom told c.room
+IsTrue c told answer.IndexFull = IsCall c.occasion × (IsIndexFull c told ⊎ AreBucketsKept c told)
+IsTrue c told answer.LogFull = IsCall c.occasion × (HasNoRoom told c.room ⊎ IsPastTail c told)
 
 -- over every list of replies, each answer was found by the try that gives it
 abbrev pub EachIsTrue : Type 0

@@ -33,9 +33,11 @@ use Rattle.fkv_latch.specs.declared.latching.Latching.TheVariants.{AtRest}
 use Rattle.fkv_latch.specs.Latching.{latch_first, latch_ask, latch_next, latch_next_ask}
 use Rattle.fkv_index.specs.declared.homes.Home.{Home}
 use Rattle.fkv_index.specs.Slots.{entry_addr, home_of}
+use Rattle.fkv_index.specs.Finding.{is_beyond}
 use Rattle.fkv_ops.specs.declared.answers.Reason.TheVariants as reason
 use Rattle.fkv_ops.specs.declared.answers.TryAnswer.{TryAnswer}
 use Rattle.fkv_ops.specs.declared.answers.TryAnswer.TheVariants as answer
+use Rattle.fkv_ops.specs.declared.answers.Waiting.{Waiting}
 use Rattle.fkv_ops.specs.declared.appending.AppendAnswer.{AppendAnswer}
 use Rattle.fkv_ops.specs.declared.appending.AppendAnswer.TheVariants as append
 use Rattle.fkv_ops.specs.declared.appending.FoundSlot.{FoundSlot}
@@ -47,12 +49,14 @@ use Rattle.fkv_ops.specs.declared.requests.Seen.{Seen}
 use Rattle.fkv_ops.specs.declared.trying.OldValue.{OldValue}
 use Rattle.fkv_ops.specs.declared.trying.OldValue.TheVariants.{InMemory, Known}
 use Rattle.fkv_ops.specs.declared.trying.Trying.{Trying}
-use Rattle.fkv_ops.specs.declared.trying.Trying.TheVariants.{Ended, TakesShared, LoadsPhase, Walks, LoadsSafe, SwapsValue, LoadsCurrent, ChangesValue, LoadsAnswer, TakesExclusive, LoadsOld, Appends, DropsExclusive, DropsShared}
+use Rattle.fkv_ops.specs.declared.trying.Trying.TheVariants.{Ended, TakesShared, LoadsPhase, Walks, CountsTaken, LoadsSafe, SwapsValue, LoadsCurrent, ChangesValue, LoadsAnswer, TakesExclusive, LoadsOld, Appends, LoadsTail, LoadsTaken, DropsExclusive, DropsShared}
 use Rattle.fkv_ops.specs.declared.walking.WalkAnswer.{WalkAnswer}
 use Rattle.fkv_ops.specs.declared.walking.WalkAnswer.TheVariants as walk
 use Rattle.fkv_ops.specs.Values.{value_of, word_of}
 use Rattle.fkv_ops.specs.Resting.{no_request, nothing_seen}
-use Rattle.fkv_ops.specs.Requests.{purpose_of, is_read, is_blind}
+use Rattle.fkv_ops.specs.Bounds.{bounds_at, has_bounds, tail_bound, is_past_taken, is_past_tail}
+use Rattle.fkv_ops.specs.Waiting.{told_of, waiting_of}
+use Rattle.fkv_ops.specs.Requests.{purpose_at, is_read, is_blind}
 use Rattle.fkv_ops.specs.Walking.{WalkState, walk_rested, walk_begun, walk_ask, walk_next, walk_on}
 use Rattle.fkv_ops.specs.Appending.{AppendState, append_rested, append_begun, append_ask, append_next}
 
@@ -87,7 +91,7 @@ new_try bits request seen occasion spare = record { request = request; seen = se
 
 -- before it first starts it is at its end, and has nothing
 unfoldable pub try_rested : ℕ → TryState
-try_rested bits = new_try bits no_request nothing_seen Call 0
+try_rested bits = new_try bits no_request nothing_seen (Call None) 0
 
 -- what each state asks
 unfoldable pub trying_ask : Places → TryState → Trying → Ask TryAnswer
@@ -95,6 +99,7 @@ trying_ask p t (Ended its) = Done its
 trying_ask p t TakesShared = passed (latch_ask t.latching) answer.Shift
 trying_ask p t LoadsPhase = Load (shared_place one.Phase)
 trying_ask p t Walks = passed (walk_ask p t.walk) answer.Shift
+trying_ask p t CountsTaken = Load (shared_place one.Taken)
 trying_ask p t (LoadsSafe addr version) = Load (shared_place one.SafeReadOnly)
 trying_ask p t (SwapsValue addr) = Swap (record_place p addr.0 rec.Value) (word_of (value_applied None t.request.op))
 trying_ask p t (LoadsCurrent addr) = passed (walk_ask p t.walk) answer.Shift
@@ -103,6 +108,8 @@ trying_ask p t LoadsAnswer = passed (walk_ask p t.walk) answer.Shift
 trying_ask p t (TakesExclusive old) = passed (latch_ask t.latching) answer.Shift
 trying_ask p t LoadsOld = passed (walk_ask p t.walk) answer.Shift
 trying_ask p t (Appends its) = passed (append_ask p t.append) answer.Shift
+trying_ask p t (LoadsTail waiting) = Load (shared_place one.Tail)
+trying_ask p t (LoadsTaken waiting) = Load (shared_place one.Taken)
 trying_ask p t (DropsExclusive its) = passed (latch_ask t.latching) its
 trying_ask p t (DropsShared its) = passed (latch_ask t.latching) its
 
@@ -123,8 +130,29 @@ abbrev pub ended_without : Places → TryState → TryAnswer → TryState
 ended_without p t its = if t.has_shared && not (is_wait its) then with_latch p (record t { has_shared = false }) DropShared (DropsShared its) else record t { step = Ended its }
 
 -- the exclusive latch is dropped however the try ends
+unfoldable pub ends_so : Places → TryState → TryAnswer → TryState
+ends_so p t its = if t.has_exclusive then with_latch p (record t { has_exclusive = false }) DropExclusive (DropsExclusive its) else ended_without p t its
+
+-- an update at its call, of a store whose calls have bounds
+abbrev pub is_bounded : TryState → Bool
+is_bounded t = has_bounds (bounds_at t.occasion) && not (is_read t.request.op)
+
+-- such an update loads the tail before it waits
+abbrev pub ends_by : Places → TryState → TryAnswer → Option Waiting → TryState
+ends_by p t its None = ends_so p t its
+ends_by p t its (Some waiting) = if is_bounded t then record t { step = LoadsTail waiting } else ends_so p t its
+
 unfoldable pub ends : Places → TryState → TryAnswer → TryState
-ends p t its = if t.has_exclusive then with_latch p (record t { has_exclusive = false }) DropExclusive (DropsExclusive its) else ended_without p t its
+ends p t its = ends_by p t its (waiting_of its)
+
+-- where no more than the margin of the log is left, it is refused. Else, where its key has no entry, the count of taken overflow buckets is loaded too
+unfoldable pub tail_loaded : Places → TryState → Waiting → ℕ → TryState
+tail_loaded p t waiting tail =
+    if is_past_tail (bounds_at t.occasion) tail then ends_so p t answer.LogFull else if t.walk.entry == 0 then record t { step = LoadsTaken waiting } else ends_so p t (told_of waiting)
+
+-- where no more than the margin of the index is left, it is refused
+unfoldable pub taken_loaded : Places → TryState → Waiting → ℕ → TryState
+taken_loaded p t waiting taken = if is_past_taken (bounds_at t.occasion) taken then ends_so p t answer.IndexFull else ends_so p t (told_of waiting)
 
 -- the update has taken effect
 abbrev pub takes_effect : Places → TryState → Reply → TryState
@@ -132,11 +160,11 @@ takes_effect p t its = ends p (record t { effect = Some its }) (answer.Done its)
 
 -- where the index or the log is full a new request is refused, and a pending one waits
 abbrev pub full_at : Occasion → TryAnswer → TryAnswer
-full_at Call refused = refused
+full_at (Call bounds) refused = refused
 full_at Poll refused = answer.Wait reason.Full
 
 abbrev pub walks : Places → TryState → TryState
-walks p t = record t { walk = walk_begun p t.home (key_of t.request.op) (purpose_of t.request.op) t.seen.offsets.head t.spare; step = Walks }
+walks p t = record t { walk = walk_begun p t.home (key_of t.request.op) (purpose_at t.occasion t.request.op) t.seen.offsets.head t.spare; step = Walks }
 
 abbrev pub is_prepare : Phase → Bool
 is_prepare phase.Prepare = true
@@ -210,7 +238,7 @@ slot_of t = record { place = t.walk.place; entry = t.walk.entry; tag = t.home.ta
 
 -- a new record is made of the old value
 unfoldable pub appends : TryState → ℕ → TryState
-appends t old = record t { append = append_begun (slot_of t) (words_of t.request t.walk.entry (value_of old)); step = Appends (reply_from (value_of old) t.request.op) }
+appends t old = record t { append = append_begun (slot_of t) (words_of t.request t.walk.entry (value_of old)) (tail_bound (bounds_at t.occasion)); step = Appends (reply_from (value_of old) t.request.op) }
 
 -- the old value is loaded first, where it is in memory and counts
 unfoldable pub copies_from : TryState → OldValue → TryState
@@ -231,9 +259,18 @@ held_used p t addr (Some held) =
     if held.entry == t.walk.entry then (if held.key.0 == (key_of t.request.op).0 then copies p t (Known held.value) false else if held.previous.0 == 0 then copies p t (Known absent_word) false else awaits p t held.previous)
     else awaits p t addr
 
+-- An update with bounds whose key has no entry, and whose empty slot is in an overflow bucket that others have linked. Such a slot may be one that
+-- a poll needs.
+abbrev pub must_count : Places → TryState → Bool
+must_count p t = is_bounded t && t.walk.entry == 0 && is_beyond p t.walk.finding
+
 -- the chain has no record of the key
 abbrev pub met_nowhere : Places → TryState → TryState
-met_nowhere p t = if is_read t.request.op then ends p t answer.Absent else copies p t (Known absent_word) false
+met_nowhere p t = if is_read t.request.op then ends p t answer.Absent else if must_count p t then record t { step = CountsTaken } else copies p t (Known absent_word) false
+
+-- where no more than the margin of the index is left, the update is refused
+unfoldable pub count_loaded : Places → TryState → ℕ → TryState
+count_loaded p t taken = if is_past_taken (bounds_at t.occasion) taken then ends p t answer.IndexFull else copies p t (Known absent_word) false
 
 -- the chain leaves memory
 abbrev pub met_disk : Places → TryState → Addr → TryState
@@ -261,6 +298,7 @@ walked p t walk.Nowhere = met_nowhere p t
 walked p t (walk.OnDisk addr) = met_disk p t addr
 walked p t (walk.Value value) = ends p t (answer.Wait reason.Contended)
 walked p t walk.Full = ends p t (full_at t.occasion answer.IndexFull)
+walked p t walk.Kept = ends p t (full_at t.occasion answer.IndexFull)
 walked p t walk.Contended = ends p t (answer.Wait reason.Contended)
 
 -- whether the walk came to its end in memory or below it: only there a version above tells something
@@ -340,6 +378,7 @@ trying_next p room t (Ended its) reply = t
 trying_next p room t TakesShared reply = shared_ledto p (latch_moved t reply) (latch_next_ask t.latching reply)
 trying_next p room t LoadsPhase reply = phase_loaded p t (phase_said reply)
 trying_next p room t Walks reply = walk_ledto p (walk_moved p t reply) (walk_ask p (walk_next p t.walk reply))
+trying_next p room t CountsTaken reply = count_loaded p t reply
 trying_next p room t (LoadsSafe addr version) reply = safe_loaded p t addr version reply
 trying_next p room t (SwapsValue addr) reply = takes_effect p t (reply_from None t.request.op)
 trying_next p room t (LoadsCurrent addr) reply = current_ledto p (walk_moved p t reply) addr (walk_ask p (walk_next p t.walk reply))
@@ -348,6 +387,8 @@ trying_next p room t LoadsAnswer reply = answer_ledto p (walk_moved p t reply) (
 trying_next p room t (TakesExclusive old) reply = exclusive_ledto p (latch_moved t reply) old (latch_next_ask t.latching reply)
 trying_next p room t LoadsOld reply = old_ledto p (walk_moved p t reply) (walk_ask p (walk_next p t.walk reply))
 trying_next p room t (Appends its) reply = append_ledto p (record t { append = append_next p room t.append reply }) its (append_ask p (append_next p room t.append reply))
+trying_next p room t (LoadsTail waiting) reply = tail_loaded p t waiting reply
+trying_next p room t (LoadsTaken waiting) reply = taken_loaded p t waiting reply
 trying_next p room t (DropsExclusive its) reply = exclusive_dropped p (latch_moved t reply) its (latch_next_ask t.latching reply)
 trying_next p room t (DropsShared its) reply = shared_dropped (latch_moved t reply) its (latch_next_ask t.latching reply)
 

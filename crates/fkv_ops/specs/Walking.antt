@@ -86,6 +86,7 @@ abbrev pub slot_found : Places → WalkState → Found → WalkState
 slot_found p w (found.Slot place word) = reached p (record w { place = place; entry = word }) (entry_addr word)
 slot_found p w found.NoSlot = walk_ended w answer.Nowhere
 slot_found p w found.Full = walk_ended w answer.Full
+slot_found p w found.Kept = walk_ended w answer.Kept
 slot_found p w found.Contended = walk_ended w answer.Contended
 
 -- by what the search asks next

@@ -1,4 +1,7 @@
 //! What a try of a request comes to.
+ghost use Rattle.std.specs.Prelude.{◌≡◌};
+ghost use Rattle.fkv_ops.specs.Waiting.{told_of, waiting_of};
+
 use fkv_base::{Addr, Value};
 use fkv_map::Reply;
 
@@ -41,8 +44,40 @@ pub enum TryAnswer {
     AwaitsDisk(DiskRecord),
     /// The session is to refresh and to try again: another session has gone on to the next version.
     Shift,
-    /// At the call: the home has no slot, none is empty, and all overflow buckets are taken.
+    /// At the call: the home has no slot, none is empty, and all overflow buckets are taken. Or the key has no entry, and no more of them are left than polls may need.
     IndexFull,
-    /// At the call: the log has no page for another record.
+    /// At the call: the log has no page for another record. Or no more records are left than polls may need.
     LogFull,
+}
+
+/// Why a request would wait.
+#[derive(Clone, Copy)]
+pub(crate) enum Waiting {
+    For(Reason),
+    ForRecord(DiskRecord),
+}
+
+impl Waiting {
+    /// What a request is told that waits.
+    pub(crate) fn told(self) -> TryAnswer
+        ensures { result ≡ told_of self }
+    {
+        match self {
+            Waiting::For(reason) => TryAnswer::Wait(reason),
+            Waiting::ForRecord(record) => TryAnswer::AwaitsDisk(record),
+        }
+    }
+}
+
+impl TryAnswer {
+    /// Why its request waits, if it does.
+    pub(crate) fn waiting(self) -> Option<Waiting>
+        ensures { result ≡ waiting_of self }
+    {
+        match self {
+            TryAnswer::Wait(reason) => Some(Waiting::For(reason)),
+            TryAnswer::AwaitsDisk(record) => Some(Waiting::ForRecord(record)),
+            _ => None,
+        }
+    }
 }

@@ -27,7 +27,7 @@ pub enum AppendAnswer {
     Published,
     /// The log has no page for another record.
     Full,
-    /// The page after the limit isn't open yet.
+    /// The page after the limit isn't open yet, or the tail stood at the bound.
     NoRoom,
     /// Another actor was quicker: the record is invalidated, or none was reserved. Or the machine is at rest.
     Contended,
@@ -106,11 +106,16 @@ impl Append {
         self.step = Appending::Ended(AppendAnswer::Contended);
     }
 
-    /// The first ask, to append this record and to publish its entry in the slot.
+    /// The first ask, to append this record below the bound, where there is one, and to publish its entry in the slot.
     #[tactic(auto, unfolding(crate::specs::Appending::append_rested, crate::specs::Appending::appending_ask))]
-    pub fn start(&mut self, slot: FoundSlot, its_words: RecordWords) -> Ask<AppendAnswer>
+    pub fn start(
+        &mut self,
+        slot: FoundSlot,
+        its_words: RecordWords,
+        bound: Option<u64>,
+    ) -> Ask<AppendAnswer>
         requires tag { slot.tag < 2 ^ 15 }
-        ensures next { self.new ≡ record self.old { state = append_begun slot its_words } }
+        ensures next { self.new ≡ record self.old { state = append_begun slot its_words bound } }
         ensures ask { result ≡ append_ask self.old.places self.new.state }
         ensures asks { AsksWhereLeft (append_asks_left self.new.state) result }
         ensures bounded { append_asks_left self.new.state ≤ 8 }
@@ -119,7 +124,7 @@ impl Append {
         self.slot = slot;
         self.its_words = its_words;
         self.step = Appending::Reserves;
-        passed(self.reserve.start(), AppendAnswer::Contended)
+        passed(self.reserve.start(bound), AppendAnswer::Contended)
     }
 
     /// Goes on with the reply to its ask. At its end it stays where it is.

@@ -5,6 +5,7 @@ ghost use Rattle.fkv_ops.specs.Trying.{wants_exclusive, is_moving_on, appends, c
 
 use crate::answers::{DiskRecord, TryAnswer};
 use crate::appending::FoundSlot;
+use crate::bounds::tail_bound;
 use crate::requests::{HeldRecord, is_blind};
 use crate::trying::{OldValue, Try, Trying};
 use crate::values::{value_of_word, word_of_value};
@@ -66,7 +67,8 @@ impl Try {
             key: op.key(),
             value: word_of_value(op.value_applied(old)),
         };
-        self.append.start(slot, its_words);
+        let bound = tail_bound(self.occasion.bounds());
+        self.append.start(slot, its_words, bound);
         self.step = Trying::Appends(op.reply_from(old));
     }
 

@@ -1,9 +1,10 @@
 //! How a try ends: its latches are dropped.
 ghost use Rattle.std.specs.Prelude.{◌≡◌};
-ghost use Rattle.fkv_ops.specs.Trying.{with_latch, walks, ends, ended_without, takes_effect, full_at, is_wait};
+ghost use Rattle.fkv_ops.specs.Trying.{with_latch, walks, is_bounded, ends, ends_so, ended_without, takes_effect, full_at, is_wait, tail_loaded, taken_loaded};
 
-use crate::answers::{Reason, TryAnswer};
-use crate::requests::{Occasion, purpose_of};
+use crate::answers::{Reason, TryAnswer, Waiting};
+use crate::bounds::{is_past_tail, is_past_taken};
+use crate::requests::{Occasion, is_read, purpose_at};
 use crate::trying::{Try, Trying};
 use fkv_latch::LatchTask;
 use fkv_map::Reply;
@@ -23,7 +24,9 @@ impl Try {
         ensures { self.new ≡ record self.old { state = walks self.old.places self.old.state } }
     {
         let op = self.request.op;
-        self.walk.start(op.key(), purpose_of(op), self.seen.offsets.head, self.spare);
+        let purpose = purpose_at(self.occasion, op);
+        self.walk
+            .start(op.key(), purpose, self.seen.offsets.head, self.spare);
         self.step = Trying::Walks;
     }
 
@@ -35,10 +38,55 @@ impl Try {
         self.ends(TryAnswer::Done(told));
     }
 
-    /// The exclusive latch is dropped however the try ends.
+    /// Whether it is an update at its call, of a store whose calls have bounds.
+    pub(crate) fn is_bounded(&self) -> bool
+        ensures { result ≡ is_bounded self.now.state }
+    {
+        self.occasion.bounds().is_some() && !is_read(self.request.op)
+    }
+
+    /// An update that has bounds loads the tail before it waits.
     #[tactic(auto, unfolding(crate::specs::Trying::ends))]
     pub(crate) fn ends(&mut self, answer: TryAnswer)
         ensures { self.new ≡ record self.old { state = ends self.old.places self.old.state answer } }
+    {
+        match answer.waiting() {
+            Some(waiting) if self.is_bounded() => self.step = Trying::LoadsTail(waiting),
+            _ => self.ends_so(answer),
+        }
+    }
+
+    /// Where no more than the margin of the log is left, the update is refused. Else, where its key has no entry, the count of
+    /// taken overflow buckets is loaded too.
+    #[tactic(auto, unfolding(crate::specs::Trying::tail_loaded))]
+    pub(crate) fn after_tail(&mut self, waiting: Waiting, tail: u64)
+        ensures { self.new ≡ record self.old { state = tail_loaded self.old.places self.old.state waiting tail } }
+    {
+        if is_past_tail(self.occasion.bounds(), tail) {
+            self.ends_so(TryAnswer::LogFull);
+        } else if self.walk.entry() == 0 {
+            self.step = Trying::LoadsTaken(waiting);
+        } else {
+            self.ends_so(waiting.told());
+        }
+    }
+
+    /// Where no more than the margin of the index is left, the update is refused.
+    #[tactic(auto, unfolding(crate::specs::Trying::taken_loaded))]
+    pub(crate) fn after_taken(&mut self, waiting: Waiting, taken: u64)
+        ensures { self.new ≡ record self.old { state = taken_loaded self.old.places self.old.state waiting taken } }
+    {
+        if is_past_taken(self.occasion.bounds(), taken) {
+            self.ends_so(TryAnswer::IndexFull);
+        } else {
+            self.ends_so(waiting.told());
+        }
+    }
+
+    /// The exclusive latch is dropped however the try ends.
+    #[tactic(auto, unfolding(crate::specs::Trying::ends_so))]
+    fn ends_so(&mut self, answer: TryAnswer)
+        ensures { self.new ≡ record self.old { state = ends_so self.old.places self.old.state answer } }
     {
         if self.has_exclusive {
             self.has_exclusive = false;
@@ -72,7 +120,7 @@ fn full_at(occasion: Occasion, refused: TryAnswer) -> TryAnswer
     ensures { result ≡ full_at occasion refused }
 {
     match occasion {
-        Occasion::Call => refused,
+        Occasion::Call(_) => refused,
         Occasion::Poll => TryAnswer::Wait(Reason::Full),
     }
 }

@@ -1,6 +1,6 @@
 //! Where a try goes on by what the machines inside it ask.
 ghost use Rattle.std.specs.Prelude.{◌≡◌, Option};
-ghost use Rattle.fkv_ops.specs.Trying.{wants_shared, must_shift, is_prepare, is_above, shared_ledto, latch_shared, is_marked, is_next_marked, is_still_in, phase_loaded, is_surely_own, walk_ledto, walked, has_walked, met_nowhere, met_disk, met_record, region_met, changes, is_own_version, safe_loaded, current_ledto, value_changed, answer_ledto, told_value, exclusive_ledto, old_ledto, append_ledto, exclusive_dropped, shared_dropped, latch_moved, walk_moved};
+ghost use Rattle.fkv_ops.specs.Trying.{wants_shared, must_shift, is_prepare, is_above, shared_ledto, latch_shared, is_marked, is_next_marked, is_still_in, phase_loaded, is_surely_own, walk_ledto, walked, has_walked, must_count, met_nowhere, count_loaded, met_disk, met_record, region_met, changes, is_own_version, safe_loaded, current_ledto, value_changed, answer_ledto, told_value, exclusive_ledto, old_ledto, append_ledto, exclusive_dropped, shared_dropped, latch_moved, walk_moved};
 ghost use Rattle.fkv_ops.specs.Walking.{walk_ask, walk_next};
 ghost use Rattle.fkv_ops.specs.Appending.{append_ask, append_next};
 ghost use Rattle.fkv_latch.specs.Latching.{latch_next_ask};
@@ -8,6 +8,7 @@ ghost use Rattle.fkv_map.specs.Keys.{as_number};
 
 use crate::answers::{Reason, TryAnswer};
 use crate::appending::AppendAnswer;
+use crate::bounds::is_past_taken;
 use crate::requests::{is_blind, is_read};
 use crate::trying::{OldValue, Try, Trying};
 use crate::values::value_of_word;
@@ -98,7 +99,7 @@ impl Try {
             WalkAnswer::Found(addr, version) => self.met_record(addr, version),
             WalkAnswer::Nowhere => self.met_nowhere(),
             WalkAnswer::OnDisk(addr) => self.met_disk(addr),
-            WalkAnswer::Full => self.full(TryAnswer::IndexFull),
+            WalkAnswer::Full | WalkAnswer::Kept => self.full(TryAnswer::IndexFull),
             WalkAnswer::Value(_) | WalkAnswer::Contended => {
                 self.ends(TryAnswer::Wait(Reason::Contended));
             }
@@ -111,6 +112,28 @@ impl Try {
     {
         if is_read(self.request.op) {
             self.ends(TryAnswer::Absent);
+        } else if self.must_count() {
+            self.step = Trying::CountsTaken;
+        } else {
+            self.copies(OldValue::Known(Value::ABSENT), false);
+        }
+    }
+
+    /// Whether it is an update with bounds whose key has no entry, and whose empty slot is in an overflow bucket that others
+    /// have linked. Such a slot may be one that a poll needs.
+    fn must_count(&self) -> bool
+        ensures { result ≡ must_count self.now.places self.now.state }
+    {
+        self.is_bounded() && self.walk.entry() == 0 && self.walk.is_beyond()
+    }
+
+    /// Where no more than the margin of the index is left, the update is refused.
+    #[tactic(auto, unfolding(crate::specs::Trying::count_loaded))]
+    pub(crate) fn after_count(&mut self, taken: u64)
+        ensures { self.new ≡ record self.old { state = count_loaded self.old.places self.old.state taken } }
+    {
+        if is_past_taken(self.occasion.bounds(), taken) {
+            self.ends(TryAnswer::IndexFull);
         } else {
             self.copies(OldValue::Known(Value::ABSENT), false);
         }

@@ -4,6 +4,7 @@
 
 mod answers;
 mod appending;
+mod bounds;
 mod copying;
 mod ending;
 mod header_words;
@@ -16,6 +17,7 @@ mod walking;
 
 pub use answers::{DiskRecord, Reason, TryAnswer};
 pub use appending::{Append, AppendAnswer, FoundSlot};
+pub use bounds::Bounds;
 pub use header_words::{HeaderSaid, header_said};
 pub use laws::law_reasons;
 pub use leading::{is_marked, is_next_marked, told_value};

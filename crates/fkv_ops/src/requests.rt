@@ -1,7 +1,9 @@
 //! Requests, and what a try of one goes by.
 ghost use Rattle.std.specs.Prelude.{◌≡◌, ◌<◌, ◌^◌, ℕ};
-ghost use Rattle.fkv_ops.specs.Requests.{purpose_of, is_read, is_blind};
+ghost use Rattle.fkv_ops.specs.Bounds.{bounds_at};
+ghost use Rattle.fkv_ops.specs.Requests.{purpose_at, is_read, is_blind};
 
+use crate::bounds::Bounds;
 use fkv_base::{Addr, Key, Phase, Version};
 use fkv_index::Purpose;
 use fkv_log::SeenOffsets;
@@ -84,18 +86,33 @@ impl Seen {
 /// When a request is tried. Where the index or the log is full a new request is refused, and one that is pending waits.
 #[derive(Clone, Copy)]
 pub enum Occasion {
-    Call,
+    /// With the bounds of the store's calls.
+    Call(Option<Bounds>),
     Poll,
 }
 
+impl Occasion {
+    /// The bounds of an update that is tried then.
+    pub(crate) fn bounds(self) -> Option<Bounds>
+        ensures { result ≡ bounds_at self }
+    {
+        match self {
+            Occasion::Call(bounds) => bounds,
+            Occasion::Poll => None,
+        }
+    }
+}
+
 /// A read seeks a slot that there is, an update one that it may fill.
-pub(crate) fn purpose_of(op: Op) -> Purpose
-    ensures { result ≡ purpose_of op }
+pub(crate) fn purpose_at(occasion: Occasion, op: Op) -> Purpose
+    ensures { result ≡ purpose_at occasion op }
 {
-    match op {
-        Op::Read(_) => Purpose::Read,
-        Op::Upsert(..) | Op::Delete(_) | Op::Add(..) | Op::Max(..) | Op::Merge(..) =>
-            Purpose::Update,
+    if is_read(op) {
+        return Purpose::Read;
+    }
+    match occasion.bounds() {
+        Some(bounds) => Purpose::UpdateWithin(bounds.taken),
+        None => Purpose::Update,
     }
 }
 

@@ -4,7 +4,7 @@ ghost use Rattle.fkv_ops.specs.Trying.{try_begun, try_ask, try_next};
 ghost use Rattle.fkv_plane.specs.AsksLeft.{AsksWhereLeft};
 ghost use Rattle.fkv_ops.specs.AsksLeft.{try_asks_left};
 
-use crate::answers::TryAnswer;
+use crate::answers::{TryAnswer, Waiting};
 use crate::appending::Append;
 use crate::requests::{Occasion, Request, Seen};
 use crate::values::{value_of_word, word_of_value};
@@ -34,6 +34,8 @@ pub(crate) enum Trying {
     /// The latch is shared, and the phase word is loaded.
     LoadsPhase,
     Walks,
+    /// An empty slot was found behind a link, and the count of taken overflow buckets is loaded.
+    CountsTaken,
     /// The record was found at this address, below the read-only offset that the session has seen.
     LoadsSafe(Addr, Version),
     SwapsValue(Addr),
@@ -47,6 +49,10 @@ pub(crate) enum Trying {
     LoadsOld,
     /// A new record is appended, whose update is told this.
     Appends(Reply),
+    /// The update would wait, and the tail is loaded.
+    LoadsTail(Waiting),
+    /// So it would yet, its key has no entry, and the count of taken overflow buckets is loaded.
+    LoadsTaken(Waiting),
     DropsExclusive(TryAnswer),
     DropsShared(TryAnswer),
 }
@@ -104,7 +110,7 @@ impl Try {
             bits: shape.bucket_bits,
             request: Request::none(),
             seen: Seen::nothing(),
-            occasion: Occasion::Call,
+            occasion: Occasion::Call(None),
             home: home_of(Key(0), shape.bucket_bits),
             has_shared: false,
             has_exclusive: false,
@@ -124,7 +130,7 @@ impl Try {
     {
         self.request = Request::none();
         self.seen = Seen::nothing();
-        self.occasion = Occasion::Call;
+        self.occasion = Occasion::Call(None);
         self.home = home_of(Key(0), self.bits);
         self.has_shared = false;
         self.has_exclusive = false;
@@ -148,7 +154,7 @@ impl Try {
         ensures next { self.new ≡ record self.old { state = try_begun self.old.places self.old.bits request seen occasion spare } }
         ensures ask { result ≡ try_ask self.old.places self.new.state }
         ensures asks { AsksWhereLeft (try_asks_left self.old.places self.new.state) result }
-        ensures bounded { try_asks_left self.old.places self.new.state ≤ 8 * (self.old.places.overflow + 1) + 2 * self.old.places.ring + 21 }
+        ensures bounded { try_asks_left self.old.places self.new.state ≤ 8 * (self.old.places.overflow + 1) + 2 * self.old.places.ring + 23 }
     {
         self.request = request;
         self.seen = seen;
@@ -183,6 +189,7 @@ impl Try {
             Trying::TakesShared => self.after_shared(reply),
             Trying::LoadsPhase => self.after_phase(phase_said(reply)),
             Trying::Walks => self.after_walk(reply),
+            Trying::CountsTaken => self.after_count(reply),
             Trying::LoadsSafe(addr, version) => self.after_safe(addr, version, reply),
             Trying::SwapsValue(_) => self.takes_effect(self.request.op.reply_from(None)),
             Trying::LoadsCurrent(addr) => self.after_current(addr, reply),
@@ -191,6 +198,8 @@ impl Try {
             Trying::TakesExclusive(old) => self.after_exclusive(old, reply),
             Trying::LoadsOld => self.after_old(reply),
             Trying::Appends(told) => self.after_append(told, reply),
+            Trying::LoadsTail(waiting) => self.after_tail(waiting, reply),
+            Trying::LoadsTaken(waiting) => self.after_taken(waiting, reply),
             Trying::DropsExclusive(answer) => self.after_exclusive_drop(answer, reply),
             Trying::DropsShared(answer) => self.after_shared_drop(answer, reply),
         }
@@ -214,6 +223,8 @@ impl Try {
             Trying::Walks | Trying::LoadsCurrent(_) | Trying::LoadsAnswer | Trying::LoadsOld =>
                 passed(self.walk.ask(), TryAnswer::Shift),
             Trying::LoadsPhase => Ask::Load(SharedWord::Phase.place()),
+            Trying::CountsTaken | Trying::LoadsTaken(_) => Ask::Load(SharedWord::Taken.place()),
+            Trying::LoadsTail(_) => Ask::Load(SharedWord::Tail.place()),
             Trying::LoadsSafe(_, _) => Ask::Load(SharedWord::SafeReadOnly.place()),
             Trying::SwapsValue(addr) => {
                 let value = self.request.op.value_applied(None);

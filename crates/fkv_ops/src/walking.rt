@@ -26,6 +26,8 @@ pub enum WalkAnswer {
     Value(u64),
     /// The home has no slot, none is empty, and all overflow buckets are taken.
     Full,
+    /// The home has no slot, none is empty, and as many overflow buckets are taken as the bound of the update says.
+    Kept,
     /// Another actor was quicker, or a word was met that no store writes, or the machine is at rest.
     Contended,
 }
@@ -71,6 +73,7 @@ impl Model for Walk {
 }
 
 impl Walk {
+    ghost use Rattle.fkv_index.specs.Finding.{is_beyond};
     ghost use Rattle.fkv_ops.specs.Walking.{walk_rested};
 
     /// The machine of a store with these places, whose index has 2^bits buckets, at rest.
@@ -200,6 +203,13 @@ impl Walk {
         self.entry
     }
 
+    /// Whether the slot that was found is in an overflow bucket that others have linked.
+    pub(crate) fn is_beyond(&self) -> bool
+        ensures { result ≡ is_beyond self.now.places self.now.state.finding }
+    {
+        self.find.is_beyond()
+    }
+
     /// The version of the first record that the walk has met, if it has met one.
     pub fn first(&self) -> Option<Version>
         ensures { result ≡ self.now.state.first }
@@ -237,6 +247,7 @@ impl Walk {
             }
             Found::NoSlot => self.step = Walking::Ended(WalkAnswer::Nowhere),
             Found::Full => self.step = Walking::Ended(WalkAnswer::Full),
+            Found::Kept => self.step = Walking::Ended(WalkAnswer::Kept),
             Found::Contended => self.step = Walking::Ended(WalkAnswer::Contended),
         }
     }

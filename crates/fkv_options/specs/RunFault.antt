@@ -1,6 +1,14 @@
--- How a run ends early.
-use Rattle.std.specs.Prelude.{◌≡◌, ℕ, List, [], ◌∷◌, ◌++◌, codes, string_bytes}
+-- How a run ends.
+use Rattle.std.specs.Prelude.{◌≡◌, ℕ, List, [], ◌∷◌, ◌++◌, Result, Ok, Err, codes, string_bytes}
 use Rattle.fkv_options.specs.declared.endings.RunFault.{RunFault}
+use Rattle.fkv_options.specs.declared.endings.Verdict.{Verdict}
+use Rattle.fkv_options.specs.declared.endings.Verdict.TheVariants.{Agrees, Differs}
+
+-- the exit status of a run that ended so
+abbrev pub ended_status : Result Verdict RunFault → ℕ
+ended_status (Ok Agrees) = 0
+ended_status (Ok Differs) = 1
+ended_status (Err fault) = fault.status
 
 -- memory, or a standard stream, failed: status 4, and nothing is left to print
 abbrev pub IsWant : RunFault → Type 0

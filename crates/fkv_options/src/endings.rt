@@ -1,9 +1,41 @@
-//! How a run ends early.
-ghost use Rattle.std.specs.Prelude.{◌≡◌, ◌⊎◌, ◌++◌, ◌∷◌, [], IfOk, string_bytes};
-ghost use Rattle.fkv_options.specs.RunFault.{IsWant, LeavesLine};
+//! How a run ends.
+ghost use Rattle.std.specs.Prelude.{◌≡◌, ◌⊎◌, ◌++◌, ◌∷◌, [], IfErr, IfOk, string_bytes};
+ghost use Rattle.fkv_options.specs.RunFault.{IsWant, LeavesLine, ended_status};
 
 use std::alloc::{AllocError, Global};
 use thiserror::Error;
+
+/// How a run ended that came to its end.
+#[derive(Clone, Copy, Debug, PartialEq, Eq)]
+pub enum Verdict {
+    /// Status 0: nothing that was checked differs.
+    Agrees,
+    /// Status 1: something differs.
+    Differs,
+}
+
+/// How a run ended that has come to this status, and has written its texts.
+pub fn ended_with(alloc: Global, status: u8) -> Result<Verdict, RunFault>
+    ensures status { ended_status result ≡ status }
+    ensures printed { IfErr result (λ fault. string_bytes fault.text ≡ []) }
+{
+    match status {
+        0 => Ok(Verdict::Agrees),
+        1 => Ok(Verdict::Differs),
+        _ => Err(RunFault::printed(alloc, status)),
+    }
+}
+
+/// The exit status of a run that ended so.
+pub fn status_of(ended: &Result<Verdict, RunFault>) -> u8
+    ensures { result ≡ ended_status ended.now }
+{
+    match ended {
+        Ok(Verdict::Agrees) => 0,
+        Ok(Verdict::Differs) => 1,
+        Err(fault) => fault.status,
+    }
+}
 
 /// Why a run ended early: its exit status, and the text that is left to print.
 #[derive(Debug, Drop, Error)]

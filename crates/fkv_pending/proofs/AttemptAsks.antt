@@ -124,14 +124,14 @@ tried_left p a its = omega arith
 
 -- all of it
 pub attempt_begun_left : (p : Places) (bits : ℕ) (pending : PendingRequest) (seen : Seen) (occasion : Occasion) (spare : ℕ) (is_orphaned : Bool)
-    → attempt_asks_left p (attempt_begun p bits pending seen occasion spare is_orphaned) ≤ 8 * (p.overflow + 1) + 2 * p.ring + 29
+    → attempt_asks_left p (attempt_begun p bits pending seen occasion spare is_orphaned) ≤ 8 * (p.overflow + 1) + 2 * p.ring + 31
 unfolding attempting_asks_left mail_asks_left
 attempt_begun_left p bits pending seen occasion spare is_orphaned = tested pending.has_asked
   where
     its : AttemptState
     its = new_attempt bits pending seen occasion spare is_orphaned
 
-    tested : (b : Bool) → attempt_asks_left p (if b then record its { mailing = LoadsState Take; step = Looks } else goes_on p bits its) ≤ 8 * (p.overflow + 1) + 2 * p.ring + 29
+    tested : (b : Bool) → attempt_asks_left p (if b then record its { mailing = LoadsState Take; step = Looks } else goes_on p bits its) ≤ 8 * (p.overflow + 1) + 2 * p.ring + 31
     tested true = let both = sum_most most_look_asks (most_try_asks p + most_put_asks) in omega (arith, both)
     tested false = let few = goes_on_left p bits its in omega (arith, few)
 

@@ -14,7 +14,9 @@ use Rattle.fkv_ops.specs.declared.answers.TryAnswer.TheVariants as answer
 use Rattle.fkv_ops.specs.declared.header_words.HeaderSaid.{HeaderSaid}
 use Rattle.fkv_ops.specs.declared.header_words.HeaderSaid.TheVariants.{Says, Spoiled}
 use Rattle.fkv_ops.specs.declared.requests.HeldRecord.{HeldRecord}
-use Rattle.fkv_ops.specs.declared.requests.Occasion.TheVariants.{Poll}
+use Rattle.fkv_ops.specs.declared.requests.Occasion.{Occasion}
+use Rattle.fkv_ops.specs.declared.requests.Occasion.TheVariants.{Call, Poll}
+use Rattle.fkv_ops.specs.Bounds.{IsCall}
 use Rattle.fkv_ops.specs.HeaderWords.{header_said}
 use Rattle.fkv_ops.specs.Requests.{is_read}
 use Rattle.fkv_ops.specs.Values.{value_of}
@@ -434,7 +436,11 @@ none_both true = refl
 none_both false = refl
 
 pub is_tried : (c : AttemptGiven) → IsToBeTried c → is_read_on c ≡ false
-is_tried c (inl call) = rw call refl
+is_tried c (inl call) = by_occasion c.occasion call
+  where
+    by_occasion : (o : Occasion) → IsCall o → (is_poll o && (is_read c.pending.request.op && is_some c.pending.sought)) ≡ false
+    by_occasion (Call bounds) its = refl
+    by_occasion Poll its = absurd its
 is_tried c (inr (inl update)) = rw update (none_both (is_poll c.occasion))
 is_tried c (inr (inr sought)) = rw (sought, none_both (is_read c.pending.request.op)) (none_both (is_poll c.occasion))
 

@@ -13,7 +13,7 @@ abbrev pub most_look_asks : ℕ
 most_look_asks = 5
 
 abbrev pub most_try_asks : Places → ℕ
-most_try_asks p = 8 * (p.overflow + 1) + 2 * p.ring + 21
+most_try_asks p = 8 * (p.overflow + 1) + 2 * p.ring + 23
 
 abbrev pub most_put_asks : ℕ
 most_put_asks = 3

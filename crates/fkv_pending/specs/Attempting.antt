@@ -93,7 +93,7 @@ abbrev pub tries : Places → ℕ → AttemptState → AttemptState
 tries p bits a = record a { trial = try_begun p bits a.pending.request a.seen a.occasion a.spare; step = Tries }
 
 abbrev pub is_poll : Occasion → Bool
-is_poll Call = false
+is_poll (Call bounds) = false
 is_poll Poll = true
 
 -- a pending read that seeks a record of the device is answered from its walk, so it waits for the mailbox alone; one that seeks none is tried again
@@ -110,7 +110,7 @@ new_attempt bits pending seen occasion spare is_orphaned = record { pending = pe
 
 -- before it first starts it is at its end
 abbrev pub attempt_rested : ℕ → AttemptState
-attempt_rested bits = new_attempt bits no_pending nothing_seen Call 0 false
+attempt_rested bits = new_attempt bits no_pending nothing_seen (Call None) 0 false
 
 abbrev pub attempt_begun : Places → ℕ → PendingRequest → Seen → Occasion → ℕ → Bool → AttemptState
 attempt_begun p bits pending seen occasion spare is_orphaned =

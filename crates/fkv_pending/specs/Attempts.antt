@@ -18,7 +18,8 @@ use Rattle.fkv_ops.specs.declared.header_words.HeaderSaid.{HeaderSaid}
 use Rattle.fkv_ops.specs.declared.header_words.HeaderSaid.TheVariants.{Says, Spoiled}
 use Rattle.fkv_ops.specs.declared.requests.HeldRecord.{HeldRecord}
 use Rattle.fkv_ops.specs.declared.requests.Occasion.{Occasion}
-use Rattle.fkv_ops.specs.declared.requests.Occasion.TheVariants.{Call, Poll}
+use Rattle.fkv_ops.specs.declared.requests.Occasion.TheVariants.{Poll}
+use Rattle.fkv_ops.specs.Bounds.{IsCall}
 use Rattle.fkv_ops.specs.declared.requests.Request.{Request}
 use Rattle.fkv_ops.specs.declared.requests.Seen.{Seen}
 use Rattle.fkv_ops.specs.HeaderWords.{header_said}
@@ -287,7 +288,7 @@ TrySeeks first taken tried sought = sought ≡ first.sought
 
 -- an update, a read at its call, or a read that seeks no record
 abbrev pub IsToBeTried : AttemptGiven → Type 0
-IsToBeTried c = (c.occasion ≡ Call) ⊎ ((is_read c.pending.request.op ≡ false) ⊎ (is_some c.pending.sought ≡ false))
+IsToBeTried c = IsCall c.occasion ⊎ ((is_read c.pending.request.op ≡ false) ⊎ (is_some c.pending.sought ≡ false))
 
 -- What an attempt is answered, and what its request seeks then.
 pub record IsAnswered (c : AttemptGiven) (a : AttemptState) (past : AttemptPast) (ask : Ask TryAnswer) : Type 0 where

@@ -69,7 +69,7 @@ impl Attempt {
         Attempt {
             pending: PendingRequest::default(),
             seen: Seen::nothing(),
-            occasion: Occasion::Call,
+            occasion: Occasion::Call(None),
             spare: 0,
             is_orphaned: false,
             is_emptied: false,
@@ -94,7 +94,7 @@ impl Attempt {
         ensures next { self.new ≡ record self.old { state = attempt_begun self.old.places self.old.bits pending.now seen occasion spare is_orphaned } }
         ensures ask { result ≡ attempt_ask self.old.places self.old.session self.new.state }
         ensures asks { AsksWhereLeft (attempt_asks_left self.old.places self.new.state) result }
-        ensures bounded { attempt_asks_left self.old.places self.new.state ≤ 8 * (self.old.places.overflow + 1) + 2 * self.old.places.ring + 29 }
+        ensures bounded { attempt_asks_left self.old.places self.new.state ≤ 8 * (self.old.places.overflow + 1) + 2 * self.old.places.ring + 31 }
     {
         self.pending = *pending;
         self.seen = seen;
@@ -196,7 +196,7 @@ impl Attempt {
     fn is_seeking_read(&self) -> bool
         ensures { result ≡ is_seeking_read self.now.state }
     {
-        self.occasion == Occasion::Poll
+        matches!(self.occasion, Occasion::Poll)
             && self.pending.request.is_read()
             && self.pending.sought.is_some()
     }

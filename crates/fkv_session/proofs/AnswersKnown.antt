@@ -18,6 +18,7 @@ use Rattle.fkv_plane.specs.declared.places.SharedWord.TheVariants as one
 use Rattle.fkv_plane.specs.Places.{shared_place, session_place}
 use Rattle.fkv_plane.specs.Passing.{is_done}
 use Rattle.fkv_epoch.specs.Leaving.{leave_next}
+use Rattle.fkv_ops.specs.Bounds.{bounds_of}
 use Rattle.fkv_ops.specs.declared.answers.Reason.{Reason}
 use Rattle.fkv_ops.specs.declared.answers.Reason.TheVariants as reason
 use Rattle.fkv_ops.specs.declared.answers.TryAnswer.{TryAnswer}
@@ -139,7 +140,7 @@ module _ (k : Seat) (buckets : HasItsBuckets k) (was : Seen) (called : Option Ca
   attempts_known : (asked : List Exchange) (s : SessionState) (has_shifted : Bool) → called ≡ Some (call.Op s.op) → (has_shifted ≡ true → HasRefreshed asked) → KnownAfter asked (attempts k s has_shifted)
   unfolding attempts
   attempts_known asked s has_shifted op has =
-      (op, attempt_begun_rests k.places (bits_of k) (request_in_hand s) s.seen AtCall s.spare s.is_orphaned, begun_ran (trial_of k buckets s.seen s.op) asked s.spare, has)
+      (op, attempt_begun_rests k.places (bits_of k) (request_in_hand s) s.seen (AtCall (bounds_of k.shape)) s.spare s.is_orphaned, begun_ran (trial_of k buckets s.seen s.op) asked s.spare, has)
 
   found_known : (asked : List Exchange) (s : SessionState) (i : ℕ) (found : Option PendingRequest) → called ≡ Some call.Poll → KnownAfter asked (polls_request k s i found)
   found_known asked s i None poll = turn_polled asked s (length s.requests) poll

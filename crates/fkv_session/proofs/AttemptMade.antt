@@ -172,6 +172,9 @@ ended_update p t (try.Ended found) its end e = let same : found ≡ its = cc in 
 ended_update p t try.TakesShared its end e = passed_update _ answer.Shift its tt e
 ended_update p t try.Walks its end e = passed_update _ answer.Shift its tt e
 ended_update p t try.LoadsPhase its end e = cc
+ended_update p t try.CountsTaken its end e = cc
+ended_update p t (try.LoadsTail waiting) its end e = cc
+ended_update p t (try.LoadsTaken waiting) its end e = cc
 ended_update p t (try.LoadsSafe addr version) its end e = cc
 ended_update p t (try.SwapsValue addr) its end e = cc
 ended_update p t (try.LoadsCurrent addr) its end e = passed_update _ answer.Shift its tt e

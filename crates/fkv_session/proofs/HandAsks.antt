@@ -15,6 +15,7 @@ use Rattle.fkv_epoch.specs.Leaving.{leave_ask, leave_next}
 use Rattle.fkv_epoch.specs.Protecting.{protect_ask}
 use Rattle.fkv_epoch.specs.Refreshing.{refresh_ask}
 use Rattle.fkv_epoch.specs.Scanning.{scan_ask}
+use Rattle.fkv_ops.specs.Bounds.{bounds_of}
 use Rattle.fkv_ops.specs.declared.answers.Reason.{Reason}
 use Rattle.fkv_ops.specs.declared.answers.Reason.TheVariants as reason
 use Rattle.fkv_ops.specs.declared.answers.TryAnswer.{TryAnswer}
@@ -65,7 +66,7 @@ turn_asks k s its = either_asks s.wants_turn k (record s { own_turn = own_turn_b
 attempts_asks : (k : Seat) (s : SessionState) (has_shifted : Bool) → AsksInHand k (attempts k s has_shifted)
 unfolding attempts sitting_ask
 attempts_asks k s has_shifted busy =
-    passed_done (attempt_ask k.places k.number (attempts k s has_shifted).attempt) told.Slept ∙ attempt_begun_asks k.places (bits_of k) k.number (request_in_hand s) s.seen AtCall s.spare s.is_orphaned
+    passed_done (attempt_ask k.places k.number (attempts k s has_shifted).attempt) told.Slept ∙ attempt_begun_asks k.places (bits_of k) k.number (request_in_hand s) s.seen (AtCall (bounds_of k.shape)) s.spare s.is_orphaned
 
 found_asks : (k : Seat) (s : SessionState) (index : ℕ) (found : Option PendingRequest) → AsksInHand k (polls_request k s index found)
 unfolding sitting_ask

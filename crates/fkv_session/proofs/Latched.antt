@@ -12,6 +12,7 @@ use Rattle.fkv_plane.specs.declared.asks.Ask.{Ask}
 use Rattle.fkv_plane.specs.declared.asks.Ask.TheVariants.{Done}
 use Rattle.fkv_plane.specs.Passing.{passed}
 use Rattle.fkv_epoch.specs.Leaving.{leave_next}
+use Rattle.fkv_ops.specs.Bounds.{bounds_of}
 use Rattle.fkv_ops.specs.declared.answers.Reason.{Reason}
 use Rattle.fkv_ops.specs.declared.answers.Reason.TheVariants as reason
 use Rattle.fkv_ops.specs.declared.answers.TryAnswer.{TryAnswer}
@@ -77,8 +78,8 @@ attempts_latched : (k : Seat) (its : HasItsBuckets k) (s : SessionState) (has_sh
 unfolding attempts
 attempts_latched k its s has_shifted all = record {
   all = all;
-  rests = attempt_begun_rests k.places (bits_of k) (request_in_hand s) s.seen AtCall s.spare s.is_orphaned;
-  knows = begun_in k its (request_in_hand s) s.seen AtCall s.spare s.is_orphaned;
+  rests = attempt_begun_rests k.places (bits_of k) (request_in_hand s) s.seen (AtCall (bounds_of k.shape)) s.spare s.is_orphaned;
+  knows = begun_in k its (request_in_hand s) s.seen (AtCall (bounds_of k.shape)) s.spare s.is_orphaned;
 }
 
 found_latched : (k : Seat) (its : HasItsBuckets k) (s : SessionState) (i : ℕ) (found : Option PendingRequest) → All s → LatchedAfter k its (polls_request k s i found)

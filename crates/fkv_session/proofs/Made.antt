@@ -28,9 +28,13 @@ use Rattle.fkv_ops.specs.declared.trying.Trying.{Trying}
 use Rattle.fkv_ops.specs.declared.trying.Trying.TheVariants as try
 use Rattle.fkv_ops.specs.declared.walking.WalkAnswer.{WalkAnswer}
 use Rattle.fkv_ops.specs.declared.walking.WalkAnswer.TheVariants as walk
+use Rattle.fkv_ops.specs.declared.answers.Waiting.{Waiting}
+use Rattle.fkv_ops.specs.declared.answers.Waiting.TheVariants.{For, ForRecord}
+use Rattle.fkv_ops.specs.Bounds.{bounds_at, is_past_taken, is_past_tail}
+use Rattle.fkv_ops.specs.Waiting.{told_of}
 use Rattle.fkv_ops.specs.Requests.{is_read, is_blind}
 use Rattle.fkv_ops.specs.Values.{value_of}
-use Rattle.fkv_ops.specs.Trying.{TryState, ends, ended_without, is_wait, takes_effect, full_at, walks, is_next_marked, shared_ledto, is_still_in, phase_loaded, is_surely_own, wants_exclusive, copies_from, copies, appends, awaits, held_used, changes, is_own_version, region_met, walked, has_walked, must_shift, walk_ledto, safe_loaded, current_ledto, value_changed, told_value, answer_ledto, exclusive_ledto, old_ledto, append_ledto, exclusive_dropped, shared_dropped, trying_ask, try_ask, trying_next, try_next}
+use Rattle.fkv_ops.specs.Trying.{TryState, is_bounded, ends, ends_so, tail_loaded, taken_loaded, must_count, count_loaded, ended_without, is_wait, takes_effect, full_at, walks, is_next_marked, shared_ledto, is_still_in, phase_loaded, is_surely_own, wants_exclusive, copies_from, copies, appends, awaits, held_used, changes, is_own_version, region_met, walked, has_walked, must_shift, walk_ledto, safe_loaded, current_ledto, value_changed, told_value, answer_ledto, exclusive_ledto, old_ledto, append_ledto, exclusive_dropped, shared_dropped, trying_ask, try_ask, trying_next, try_next}
 
 -- the reply of a try that has ended as done
 abbrev pub reply_of : TryAnswer → Option Reply
@@ -64,14 +68,41 @@ ended_made p t its before e same =
     either_made (t.has_shared && not (is_wait its)) _ (record t { step = try.Ended its }) before
     (subst (λ (o : Option Reply). MadeFrom o (reply_of its) before) (sym e) same) (subst (λ (o : Option Reply). MadeFrom o (reply_of its) before) (sym e) same)
 
-ends_made : (p : Places) (t : TryState) (its : TryAnswer) (before : Option Reply) → t.effect ≡ None → reply_of its ≡ before → IsMade (ends p t its) before
-unfolding ends
-ends_made p t its before e same =
+-- a step that makes nothing and leads to one where nothing was made
+stepped : (t : TryState) → t.effect ≡ None → MadeFrom t.effect None None
+stepped t e = subst (λ (o : Option Reply). MadeFrom o None None) (sym e) refl
+
+ends_so_made : (p : Places) (t : TryState) (its : TryAnswer) (before : Option Reply) → t.effect ≡ None → reply_of its ≡ before → IsMade (ends_so p t its) before
+unfolding ends_so
+ends_so_made p t its before e same =
     either_made t.has_exclusive _ (ended_without p t its) before
     (subst (λ (o : Option Reply). MadeFrom o (reply_of its) before) (sym e) same) (ended_made p t its before e same)
 
-takes_made : (p : Places) (t : TryState) (its : Reply) → IsMade (takes_effect p t its) None
+ends_made : (p : Places) (t : TryState) (its : TryAnswer) (before : Option Reply) → t.effect ≡ None → reply_of its ≡ before → IsMade (ends p t its) before
 unfolding ends
+ends_made p t (answer.Wait it) before e same =
+    either_made (is_bounded t) _ (ends_so p t (answer.Wait it)) before (subst (λ (o : Option Reply). MadeFrom o None before) (sym e) same) (ends_so_made p t (answer.Wait it) before e same)
+ends_made p t (answer.AwaitsDisk it) before e same =
+    either_made (is_bounded t) _ (ends_so p t (answer.AwaitsDisk it)) before (subst (λ (o : Option Reply). MadeFrom o None before) (sym e) same) (ends_so_made p t (answer.AwaitsDisk it) before e same)
+ends_made p t its before e same = ends_so_made p t its before e same
+
+waits_none : (waiting : Waiting) → reply_of (told_of waiting) ≡ None
+waits_none (For reason) = refl
+waits_none (ForRecord its) = refl
+
+tail_made : (p : Places) (t : TryState) (waiting : Waiting) (tail : ℕ) → t.effect ≡ None → IsMade (tail_loaded p t waiting tail) None
+unfolding tail_loaded
+tail_made p t waiting tail e =
+    either_made (is_past_tail (bounds_at t.occasion) tail) (ends_so p t answer.LogFull) _ None (ends_so_made p t answer.LogFull None e refl)
+    (either_made (t.walk.entry == 0) (record t { step = try.LoadsTaken waiting }) (ends_so p t (told_of waiting)) None (stepped t e) (ends_so_made p t (told_of waiting) None e (waits_none waiting)))
+
+taken_made : (p : Places) (t : TryState) (waiting : Waiting) (taken : ℕ) → t.effect ≡ None → IsMade (taken_loaded p t waiting taken) None
+unfolding taken_loaded
+taken_made p t waiting taken e =
+    either_made (is_past_taken (bounds_at t.occasion) taken) (ends_so p t answer.IndexFull) (ends_so p t (told_of waiting)) None (ends_so_made p t answer.IndexFull None e refl) (ends_so_made p t (told_of waiting) None e (waits_none waiting))
+
+takes_made : (p : Places) (t : TryState) (its : Reply) → IsMade (takes_effect p t its) None
+unfolding ends ends_so
 takes_made p t its =
     either_made t.has_exclusive _ (ended_without p (record t { effect = Some its }) (answer.Done its)) None (refl, refl)
     (either_made (t.has_shared && true) _ (record t { effect = Some its; step = try.Ended (answer.Done its) }) None (refl, refl) (refl, refl))
@@ -79,10 +110,6 @@ takes_made p t its =
 appends_made : (t : TryState) (old : ℕ) → t.effect ≡ None → IsMade (appends t old) None
 unfolding appends
 appends_made t old e = subst (λ (o : Option Reply). MadeFrom o None None) (sym e) refl
-
--- a step that makes nothing and leads to one where nothing was made
-stepped : (t : TryState) → t.effect ≡ None → MadeFrom t.effect None None
-stepped t e = subst (λ (o : Option Reply). MadeFrom o None None) (sym e) refl
 
 from_made : (t : TryState) (old : OldValue) → t.effect ≡ None → IsMade (copies_from t old) None
 unfolding copies_from
@@ -109,17 +136,20 @@ region_made p t addr version (Some its) e =
     (either_made (is_blind t.request.op) _ _ None (stepped t e) (stepped t e)) (copies_made p t InMemory false e)
 
 full_none : (occasion : Occasion) (its : TryAnswer) → reply_of its ≡ None → reply_of (full_at occasion its) ≡ None
-full_none Call its e = e
+full_none (Call bounds) its e = e
 full_none Poll its e = refl
 
 walked_made : (p : Places) (t : TryState) (its : WalkAnswer) → t.effect ≡ None → IsMade (walked p t its) None
 walked_made p t (walk.Found addr version) e = either_made (is_read t.request.op) _ (region_met p t addr version _) None (stepped t e) (region_made p t addr version _ e)
-walked_made p t walk.Nowhere e = either_made (is_read t.request.op) (ends p t answer.Absent) (copies p t (Known _) false) None (ends_made p t answer.Absent None e refl) (copies_made p t (Known _) false e)
+walked_made p t walk.Nowhere e =
+    either_made (is_read t.request.op) (ends p t answer.Absent) _ None (ends_made p t answer.Absent None e refl)
+    (either_made (must_count p t) (record t { step = try.CountsTaken }) (copies p t (Known _) false) None (stepped t e) (copies_made p t (Known _) false e))
 walked_made p t (walk.OnDisk addr) e =
     either_made (is_read t.request.op) (awaits p t addr) _ None (ends_made p t _ None e refl)
     (either_made (is_blind t.request.op) (copies p t (Known _) false) (held_used p t addr t.request.held) None (copies_made p t (Known _) false e) (held_made p t addr t.request.held e))
 walked_made p t (walk.Value value) e = ends_made p t _ None e refl
 walked_made p t walk.Full e = ends_made p t _ None e (full_none t.occasion answer.IndexFull refl)
+walked_made p t walk.Kept e = ends_made p t _ None e (full_none t.occasion answer.IndexFull refl)
 walked_made p t walk.Contended e = ends_made p t _ None e refl
 
 walk_made : (p : Places) (t : TryState) (ask : Ask WalkAnswer) → t.effect ≡ None → made_by t.step ≡ None → IsMade (walk_ledto p t ask) None
@@ -138,6 +168,10 @@ shared_made p t ask e made = quiet t None e made
 phase_made : (p : Places) (t : TryState) (said : PhaseSaid) → t.effect ≡ None → IsMade (phase_loaded p t said) None
 unfolding phase_loaded
 phase_made p t said e = either_made (is_still_in said t.request.version) (walks p t) (ends p t answer.Shift) None (stepped t e) (ends_made p t answer.Shift None e refl)
+
+count_made : (p : Places) (t : TryState) (taken : ℕ) → t.effect ≡ None → IsMade (count_loaded p t taken) None
+unfolding count_loaded
+count_made p t taken e = either_made (is_past_taken (bounds_at t.occasion) taken) (ends p t answer.IndexFull) (copies p t (Known _) false) None (ends_made p t answer.IndexFull None e refl) (copies_made p t (Known _) false e)
 
 safe_made : (p : Places) (t : TryState) (addr : Addr) (version : Version) (safe : ℕ) → t.effect ≡ None → IsMade (safe_loaded p t addr version safe) None
 safe_made p t addr version safe e = either_made (nat_le safe addr.0) (ends p t _) (copies p t InMemory (is_surely_own t version)) None (ends_made p t _ None e refl) (copies_made p t InMemory (is_surely_own t version) e)
@@ -197,6 +231,7 @@ step_made p room t (try.Ended its) reply e s = quiet t (reply_of its) e (subst (
 step_made p room t try.TakesShared reply e s = shared_made p _ _ e (subst (λ (x : Trying). made_by x ≡ None) (sym s) refl)
 step_made p room t try.LoadsPhase reply e s = phase_made p t (phase_said reply) e
 step_made p room t try.Walks reply e s = walk_made p _ _ e (subst (λ (x : Trying). made_by x ≡ None) (sym s) refl)
+step_made p room t try.CountsTaken reply e s = count_made p t reply e
 step_made p room t (try.LoadsSafe addr version) reply e s = safe_made p t addr version reply e
 step_made p room t (try.SwapsValue addr) reply e s = takes_made p t _
 step_made p room t (try.LoadsCurrent addr) reply e s = current_made p _ addr _ e (subst (λ (x : Trying). made_by x ≡ None) (sym s) refl)
@@ -205,6 +240,8 @@ step_made p room t try.LoadsAnswer reply e s = answer_made p _ _ e (subst (λ (x
 step_made p room t (try.TakesExclusive old) reply e s = exclusive_made p _ old _ e (subst (λ (x : Trying). made_by x ≡ None) (sym s) refl)
 step_made p room t try.LoadsOld reply e s = old_made p _ _ e (subst (λ (x : Trying). made_by x ≡ None) (sym s) refl)
 step_made p room t (try.Appends its) reply e s = append_made p _ its _ e (subst (λ (x : Trying). made_by x ≡ None) (sym s) refl)
+step_made p room t (try.LoadsTail waiting) reply e s = tail_made p t waiting reply e
+step_made p room t (try.LoadsTaken waiting) reply e s = taken_made p t waiting reply e
 step_made p room t (try.DropsExclusive its) reply e s = exclusive_left p _ its _ e (subst (λ (x : Trying). made_by x ≡ reply_of its) (sym s) refl)
 step_made p room t (try.DropsShared its) reply e s = shared_left _ its _ e (subst (λ (x : Trying). made_by x ≡ reply_of its) (sym s) refl)
 
@@ -226,6 +263,7 @@ ended_reply p t (try.Ended found) its e = let same : found ≡ its = cc in ap re
 ended_reply p t try.TakesShared its e = passed_reply _ answer.Shift its e
 ended_reply p t try.LoadsPhase its e = cc
 ended_reply p t try.Walks its e = passed_reply _ answer.Shift its e
+ended_reply p t try.CountsTaken its e = cc
 ended_reply p t (try.LoadsSafe addr version) its e = cc
 ended_reply p t (try.SwapsValue addr) its e = cc
 ended_reply p t (try.LoadsCurrent addr) its e = passed_reply _ answer.Shift its e
@@ -234,6 +272,8 @@ ended_reply p t try.LoadsAnswer its e = passed_reply _ answer.Shift its e
 ended_reply p t (try.TakesExclusive old) its e = passed_reply _ answer.Shift its e
 ended_reply p t try.LoadsOld its e = passed_reply _ answer.Shift its e
 ended_reply p t (try.Appends found) its e = passed_reply _ answer.Shift its e
+ended_reply p t (try.LoadsTail waiting) its e = cc
+ended_reply p t (try.LoadsTaken waiting) its e = cc
 ended_reply p t (try.DropsExclusive found) its e = passed_reply _ found its e
 ended_reply p t (try.DropsShared found) its e = passed_reply _ found its e
 

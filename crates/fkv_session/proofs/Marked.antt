@@ -23,6 +23,7 @@ use Rattle.fkv_epoch.specs.Protecting.{protect_next}
 use Rattle.fkv_latch.specs.declared.latching.LatchAnswer.{LatchAnswer}
 use Rattle.fkv_latch.specs.declared.latching.LatchAnswer.TheVariants.{Taken}
 use Rattle.fkv_latch.specs.Latching.{latch_next, latch_next_ask}
+use Rattle.fkv_ops.specs.Bounds.{bounds_of}
 use Rattle.fkv_ops.specs.declared.answers.Reason.{Reason}
 use Rattle.fkv_ops.specs.declared.answers.Reason.TheVariants as reason
 use Rattle.fkv_ops.specs.declared.answers.TryAnswer.{TryAnswer}
@@ -269,8 +270,8 @@ turn_marks m s its left so marked =
 pub attempts_marks : (m : Moment) (s : SessionState) (has_shifted : Bool) (left : Option ℕ) → LeavesSo m s left → MarkedBy m s left → MarksAfter m (attempts m.seat s has_shifted)
 unfolding attempts
 attempts_marks m s has_shifted left so marked =
-    let same = begun_same m.seat.places (bits_of m.seat) (request_in_hand s) s.seen AtCall s.spare s.is_orphaned in
-    let begun : SessionState = record s { attempt = attempt_begun m.seat.places (bits_of m.seat) (request_in_hand s) s.seen AtCall s.spare s.is_orphaned; step = Attempts has_shifted } in
+    let same = begun_same m.seat.places (bits_of m.seat) (request_in_hand s) s.seen (AtCall (bounds_of m.seat.shape)) s.spare s.is_orphaned in
+    let begun : SessionState = record s { attempt = attempt_begun m.seat.places (bits_of m.seat) (request_in_hand s) s.seen (AtCall (bounds_of m.seat.shape)) s.spare s.is_orphaned; step = Attempts has_shifted } in
     still m begun left (Attempts has_shifted) so refl (marked, ap (λ (v : Version). v.0) same.version)
 
 found_marks : (m : Moment) (s : SessionState) (i : ℕ) (found : Option PendingRequest) (left : Option ℕ) → slice_get s.requests i ≡ found → LeavesSo m s left → MarkedBy m s left → MarksAfter m (polls_request m.seat s i found)

@@ -17,6 +17,7 @@ use Rattle.fkv_epoch.specs.Leaving.{leave_next}
 use Rattle.fkv_latch.specs.declared.latching.LatchAnswer.{LatchAnswer}
 use Rattle.fkv_latch.specs.declared.latching.LatchAnswer.TheVariants.{Taken as LatchTaken}
 use Rattle.fkv_latch.specs.Latching.{latch_next_ask}
+use Rattle.fkv_ops.specs.Bounds.{bounds_of}
 use Rattle.fkv_ops.specs.declared.answers.Reason.{Reason}
 use Rattle.fkv_ops.specs.declared.answers.Reason.TheVariants as reason
 use Rattle.fkv_ops.specs.declared.answers.TryAnswer.{TryAnswer}
@@ -261,11 +262,11 @@ attempts_told : (k : Seat) (effects : List HistoryEntry) (taken : List Taken) (c
     → IsSettled k.number (with_effect s.effect effects) taken before s.requests [] → IsToldAfter k effects taken called s.serial before (attempts k s has_shifted)
 unfolding attempts
 attempts_told k effects taken called before s has_shifted op books =
-    let same = begun_same k.places (bits_of k) (request_in_hand s) s.seen AtCall s.spare s.is_orphaned in
-    let begun = begun_so k.places (bits_of k) (request_in_hand s) s.seen AtCall s.spare s.is_orphaned in
-    let none = begun_nothing k.places (bits_of k) (request_in_hand s) s.seen AtCall s.spare s.is_orphaned in
-    let rests = attempt_begun_rests k.places (bits_of k) (request_in_hand s) s.seen AtCall s.spare s.is_orphaned in
-    let begins : AttemptState = attempt_begun k.places (bits_of k) (request_in_hand s) s.seen AtCall s.spare s.is_orphaned in
+    let same = begun_same k.places (bits_of k) (request_in_hand s) s.seen (AtCall (bounds_of k.shape)) s.spare s.is_orphaned in
+    let begun = begun_so k.places (bits_of k) (request_in_hand s) s.seen (AtCall (bounds_of k.shape)) s.spare s.is_orphaned in
+    let none = begun_nothing k.places (bits_of k) (request_in_hand s) s.seen (AtCall (bounds_of k.shape)) s.spare s.is_orphaned in
+    let rests = attempt_begun_rests k.places (bits_of k) (request_in_hand s) s.seen (AtCall (bounds_of k.shape)) s.spare s.is_orphaned in
+    let begins : AttemptState = attempt_begun k.places (bits_of k) (request_in_hand s) s.seen (AtCall (bounds_of k.shape)) s.spare s.is_orphaned in
     calm k effects taken called before _ (Attempts has_shifted) refl (none_coming k.number begins none)
     (record { called_so = op; name = same.name; op = same.op; under_way = record { rests = rests; knows = begun.knows } }) books
 

@@ -19,6 +19,7 @@ use Rattle.fkv_plane.proofs.Shown.{passed_done}
 use Rattle.fkv_epoch.specs.Claiming.{takes_action}
 use Rattle.fkv_epoch.specs.Leaving.{leave_ask, leave_next, leave_asks_left}
 use Rattle.fkv_epoch.proofs.Shown.{leave_left, leave_fewer}
+use Rattle.fkv_ops.specs.Bounds.{bounds_of}
 use Rattle.fkv_ops.specs.declared.answers.Reason.{Reason}
 use Rattle.fkv_ops.specs.declared.answers.Reason.TheVariants as reason
 use Rattle.fkv_ops.specs.declared.answers.TryAnswer.{TryAnswer}
@@ -95,14 +96,14 @@ answers_left k s its = refl
 first_left : (k : Seat) (s : SessionState) → session_asks_left k (attempts k s false) ≤ most_attempt_asks k.places + (most_catch_asks s.requests + (most_attempt_asks k.places + most_own_turn_asks k.shape))
 unfolding attempts sitting_asks_left
 first_left k s =
-    let begun = attempt_begun_left k.places (bits_of k) (request_in_hand s) s.seen AtCall s.spare s.is_orphaned in
+    let begun = attempt_begun_left k.places (bits_of k) (request_in_hand s) s.seen (AtCall (bounds_of k.shape)) s.spare s.is_orphaned in
     let most = sum_most (attempt_asks_left k.places (attempts k s false).attempt) (most_catch_asks s.requests + (most_attempt_asks k.places + most_own_turn_asks k.shape)) in
     omega (arith, begun, most)
 
 second_left : (k : Seat) (s : SessionState) → session_asks_left k (attempts k s true) ≤ most_attempt_asks k.places + most_own_turn_asks k.shape
 unfolding attempts sitting_asks_left
 second_left k s =
-    let begun = attempt_begun_left k.places (bits_of k) (request_in_hand s) s.seen AtCall s.spare s.is_orphaned in
+    let begun = attempt_begun_left k.places (bits_of k) (request_in_hand s) s.seen (AtCall (bounds_of k.shape)) s.spare s.is_orphaned in
     let most = sum_most (attempt_asks_left k.places (attempts k s true).attempt) (most_own_turn_asks k.shape) in
     omega (arith, begun, most)
 

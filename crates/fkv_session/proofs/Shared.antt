@@ -19,6 +19,7 @@ use Rattle.fkv_epoch.specs.Leaving.{leave_ask, leave_next}
 use Rattle.fkv_latch.specs.declared.latching.Latching.{Latching}
 use Rattle.fkv_latch.specs.declared.latching.Latching.TheVariants as latching
 use Rattle.fkv_latch.specs.Latching.{one_share, latch_ask}
+use Rattle.fkv_ops.specs.Bounds.{bounds_of}
 use Rattle.fkv_ops.specs.declared.answers.Reason.{Reason}
 use Rattle.fkv_ops.specs.declared.answers.Reason.TheVariants as reason
 use Rattle.fkv_ops.specs.declared.answers.TryAnswer.{TryAnswer}
@@ -126,14 +127,14 @@ share_there false false = refl
 attempts_shares : (m : Book) (s : SessionState) (has_shifted : Bool) → IsPlain m s.requests → SharesAfter m (attempts m.seat s has_shifted)
 unfolding attempts
 attempts_shares m s has_shifted plain =
-    let begun = begun_shares m.seat m.its (request_in_hand s) s.seen AtCall s.spare s.is_orphaned (λ e. refl) in
-    let a : AttemptState = attempt_begun m.seat.places (bits_of m.seat) (request_in_hand s) s.seen AtCall s.spare s.is_orphaned in
+    let begun = begun_shares m.seat m.its (request_in_hand s) s.seen (AtCall (bounds_of m.seat.shape)) s.spare s.is_orphaned (λ e. refl) in
+    let a : AttemptState = attempt_begun m.seat.places (bits_of m.seat) (request_in_hand s) s.seen (AtCall (bounds_of m.seat.shape)) s.spare s.is_orphaned in
     let none : owed_by m a ≡ 0 = there_none (latch_of m.seat.places (bits_of m.seat) a.pending.request.op == m.at) (owed_in a a.step) begun.owes in
     let counted = plain.counted in
     record {
       counted = omega (arith, counted, none);
       only = plain.only;
-      known = record { rests = attempt_begun_rests m.seat.places (bits_of m.seat) (request_in_hand s) s.seen AtCall s.spare s.is_orphaned; reads = begun.reads; knows = begun.knows };
+      known = record { rests = attempt_begun_rests m.seat.places (bits_of m.seat) (request_in_hand s) s.seen (AtCall (bounds_of m.seat.shape)) s.spare s.is_orphaned; reads = begun.reads; knows = begun.knows };
     }
 
 found_shares : (m : Book) (s : SessionState) (i : ℕ) (found : Option PendingRequest) → slice_get s.requests i ≡ found → IsPlain m s.requests → SharesAfter m (polls_request m.seat s i found)

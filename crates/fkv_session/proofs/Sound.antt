@@ -13,6 +13,7 @@ use Rattle.fkv_epoch.specs.Leaving.{leave_next}
 use Rattle.fkv_latch.specs.declared.latching.LatchAnswer.{LatchAnswer}
 use Rattle.fkv_latch.specs.declared.latching.LatchAnswer.TheVariants.{Taken}
 use Rattle.fkv_latch.specs.Latching.{latch_next_ask}
+use Rattle.fkv_ops.specs.Bounds.{bounds_of}
 use Rattle.fkv_ops.specs.declared.answers.Reason.{Reason}
 use Rattle.fkv_ops.specs.declared.answers.Reason.TheVariants as reason
 use Rattle.fkv_ops.specs.declared.answers.TryAnswer.{TryAnswer}
@@ -122,7 +123,7 @@ attempts_held : (first : ℕ) (before : List Telling) (k : Seat) (s : SessionSta
 unfolding attempts
 attempts_held first before k s has_shifted books = record {
   books = books;
-  knows = (begun_same k.places (bits_of k) (request_in_hand s) s.seen AtCall s.spare s.is_orphaned).name;
+  knows = (begun_same k.places (bits_of k) (request_in_hand s) s.seen (AtCall (bounds_of k.shape)) s.spare s.is_orphaned).name;
 }
 
 polls_found : (first : ℕ) (before : List Telling) (k : Seat) (s : SessionState) (i : ℕ) (found : Option PendingRequest) → slice_get s.requests i ≡ found → AreBooksKept first s.serial before (names_of s.requests) s.finished

@@ -30,8 +30,12 @@ use Rattle.fkv_ops.specs.declared.trying.Trying.{Trying}
 use Rattle.fkv_ops.specs.declared.trying.Trying.TheVariants as try
 use Rattle.fkv_ops.specs.declared.walking.WalkAnswer.{WalkAnswer}
 use Rattle.fkv_ops.specs.declared.walking.WalkAnswer.TheVariants as walk
+use Rattle.fkv_ops.specs.declared.answers.Waiting.{Waiting}
+use Rattle.fkv_ops.specs.declared.answers.Waiting.TheVariants.{For, ForRecord}
+use Rattle.fkv_ops.specs.Bounds.{bounds_at, is_past_taken, is_past_tail}
+use Rattle.fkv_ops.specs.Waiting.{told_of}
 use Rattle.fkv_ops.specs.Requests.{is_read, is_blind}
-use Rattle.fkv_ops.specs.Trying.{TryState, try_begun, wants_shared, with_latch, walks, ends, ended_without, is_wait, takes_effect, full_at, is_next_marked, shared_ledto, is_still_in, phase_loaded, is_surely_own, wants_exclusive, copies_from, copies, appends, awaits, held_used, changes, is_own_version, region_met, walked, has_walked, must_shift, walk_ledto, safe_loaded, current_ledto, value_changed, exclusive_ledto, old_ledto, append_ledto, exclusive_dropped, shared_dropped, trying_next, try_next, new_try}
+use Rattle.fkv_ops.specs.Trying.{TryState, try_begun, wants_shared, with_latch, walks, is_bounded, ends, ends_so, tail_loaded, taken_loaded, must_count, count_loaded, ended_without, is_wait, takes_effect, full_at, is_next_marked, shared_ledto, is_still_in, phase_loaded, is_surely_own, wants_exclusive, copies_from, copies, appends, awaits, held_used, changes, is_own_version, region_met, walked, has_walked, must_shift, walk_ledto, safe_loaded, current_ledto, value_changed, exclusive_ledto, old_ledto, append_ledto, exclusive_dropped, shared_dropped, trying_next, try_next, new_try}
 
 -- no answer of a read
 abbrev pub IsUpdateEnd : TryAnswer → Type 0
@@ -62,9 +66,30 @@ else_update false a b e other = other
 ended_update : (p : Places) (t : TryState) (its : TryAnswer) → is_read t.request.op ≡ false → IsUpdateEnd its → IsUpdateTry (ended_without p t its)
 ended_update p t its e end = either_update (t.has_shared && not (is_wait its)) _ (record t { step = try.Ended its }) (record { update = e; step = end }) (record { update = e; step = end })
 
+ends_so_update : (p : Places) (t : TryState) (its : TryAnswer) → is_read t.request.op ≡ false → IsUpdateEnd its → IsUpdateTry (ends_so p t its)
+unfolding ends_so
+ends_so_update p t its e end = either_update t.has_exclusive _ (ended_without p t its) (record { update = e; step = end }) (ended_update p t its e end)
+
 ends_update : (p : Places) (t : TryState) (its : TryAnswer) → is_read t.request.op ≡ false → IsUpdateEnd its → IsUpdateTry (ends p t its)
 unfolding ends
-ends_update p t its e end = either_update t.has_exclusive _ (ended_without p t its) (record { update = e; step = end }) (ended_update p t its e end)
+ends_update p t (answer.Wait it) e end = either_update (is_bounded t) _ (ends_so p t (answer.Wait it)) (record { update = e; step = tt }) (ends_so_update p t (answer.Wait it) e end)
+ends_update p t (answer.AwaitsDisk it) e end = either_update (is_bounded t) _ (ends_so p t (answer.AwaitsDisk it)) (record { update = e; step = tt }) (ends_so_update p t (answer.AwaitsDisk it) e end)
+ends_update p t its e end = ends_so_update p t its e end
+
+waits_end : (waiting : Waiting) → IsUpdateEnd (told_of waiting)
+waits_end (For reason) = tt
+waits_end (ForRecord its) = tt
+
+tail_update : (p : Places) (t : TryState) (waiting : Waiting) (tail : ℕ) → is_read t.request.op ≡ false → IsUpdateTry (tail_loaded p t waiting tail)
+unfolding tail_loaded
+tail_update p t waiting tail e =
+    either_update (is_past_tail (bounds_at t.occasion) tail) (ends_so p t answer.LogFull) _ (ends_so_update p t answer.LogFull e tt)
+    (either_update (t.walk.entry == 0) (record t { step = try.LoadsTaken waiting }) (ends_so p t (told_of waiting)) (record { update = e; step = tt }) (ends_so_update p t (told_of waiting) e (waits_end waiting)))
+
+taken_update : (p : Places) (t : TryState) (waiting : Waiting) (taken : ℕ) → is_read t.request.op ≡ false → IsUpdateTry (taken_loaded p t waiting taken)
+unfolding taken_loaded
+taken_update p t waiting taken e =
+    either_update (is_past_taken (bounds_at t.occasion) taken) (ends_so p t answer.IndexFull) (ends_so p t (told_of waiting)) (ends_so_update p t answer.IndexFull e tt) (ends_so_update p t (told_of waiting) e (waits_end waiting))
 
 takes_update : (p : Places) (t : TryState) (its : Reply) → is_read t.request.op ≡ false → IsUpdateTry (takes_effect p t its)
 takes_update p t its e = ends_update p (record t { effect = Some its }) (answer.Done its) e tt
@@ -98,17 +123,20 @@ region_update p t addr version (Some its) e =
     (either_update (is_blind t.request.op) _ _ (record { update = e; step = tt }) (record { update = e; step = tt })) (copies_update p t InMemory false e)
 
 full_end : (occasion : Occasion) (its : TryAnswer) → IsUpdateEnd its → IsUpdateEnd (full_at occasion its)
-full_end Call its end = end
+full_end (Call bounds) its end = end
 full_end Poll its end = tt
 
 walked_update : (p : Places) (t : TryState) (its : WalkAnswer) → is_read t.request.op ≡ false → IsUpdateTry (walked p t its)
 walked_update p t (walk.Found addr version) e = else_update (is_read t.request.op) _ (region_met p t addr version _) e (region_update p t addr version _ e)
-walked_update p t walk.Nowhere e = else_update (is_read t.request.op) (ends p t answer.Absent) (copies p t (Known _) false) e (copies_update p t (Known _) false e)
+walked_update p t walk.Nowhere e =
+    else_update (is_read t.request.op) (ends p t answer.Absent) _ e
+    (either_update (must_count p t) (record t { step = try.CountsTaken }) (copies p t (Known _) false) (record { update = e; step = tt }) (copies_update p t (Known _) false e))
 walked_update p t (walk.OnDisk addr) e =
     either_update (is_read t.request.op) (awaits p t addr) _ (ends_update p t _ e tt)
     (either_update (is_blind t.request.op) (copies p t (Known _) false) (held_used p t addr t.request.held) (copies_update p t (Known _) false e) (held_update p t addr t.request.held e))
 walked_update p t (walk.Value value) e = ends_update p t _ e tt
 walked_update p t walk.Full e = ends_update p t _ e (full_end t.occasion answer.IndexFull tt)
+walked_update p t walk.Kept e = ends_update p t _ e (full_end t.occasion answer.IndexFull tt)
 walked_update p t walk.Contended e = ends_update p t _ e tt
 
 walk_update : (p : Places) (t : TryState) (ask : Ask WalkAnswer) → IsUpdateTry t → IsUpdateTry (walk_ledto p t ask)
@@ -127,6 +155,10 @@ shared_update p t ask its_try = its_try
 phase_update : (p : Places) (t : TryState) (said : PhaseSaid) → is_read t.request.op ≡ false → IsUpdateTry (phase_loaded p t said)
 unfolding phase_loaded
 phase_update p t said e = either_update (is_still_in said t.request.version) (walks p t) (ends p t answer.Shift) (record { update = e; step = tt }) (ends_update p t answer.Shift e tt)
+
+count_update : (p : Places) (t : TryState) (taken : ℕ) → is_read t.request.op ≡ false → IsUpdateTry (count_loaded p t taken)
+unfolding count_loaded
+count_update p t taken e = either_update (is_past_taken (bounds_at t.occasion) taken) (ends p t answer.IndexFull) (copies p t (Known _) false) (ends_update p t answer.IndexFull e tt) (copies_update p t (Known _) false e)
 
 safe_update : (p : Places) (t : TryState) (addr : Addr) (version : Version) (safe : ℕ) → is_read t.request.op ≡ false → IsUpdateTry (safe_loaded p t addr version safe)
 safe_update p t addr version safe e = either_update (nat_le safe addr.0) (ends p t _) (copies p t InMemory (is_surely_own t version)) (ends_update p t _ e tt) (copies_update p t InMemory (is_surely_own t version) e)
@@ -176,6 +208,7 @@ step_update p room t (try.Ended its) reply knows its_try = its_try
 step_update p room t try.TakesShared reply knows its_try = shared_update p _ _ (record { update = its_try.update; step = its_try.step })
 step_update p room t try.LoadsPhase reply knows its_try = phase_update p t (phase_said reply) its_try.update
 step_update p room t try.Walks reply knows its_try = walk_update p _ _ (record { update = its_try.update; step = its_try.step })
+step_update p room t try.CountsTaken reply knows its_try = count_update p t reply its_try.update
 step_update p room t (try.LoadsSafe addr version) reply knows its_try = safe_update p t addr version reply its_try.update
 step_update p room t (try.SwapsValue addr) reply knows its_try = takes_update p t _ its_try.update
 step_update p room t (try.LoadsCurrent addr) reply knows its_try = current_update p _ addr _ (record { update = its_try.update; step = its_try.step })
@@ -184,6 +217,8 @@ step_update p room t try.LoadsAnswer reply knows its_try = absurd knows
 step_update p room t (try.TakesExclusive old) reply knows its_try = exclusive_update p _ old _ (record { update = its_try.update; step = its_try.step })
 step_update p room t try.LoadsOld reply knows its_try = old_update p _ _ (record { update = its_try.update; step = its_try.step })
 step_update p room t (try.Appends its) reply knows its_try = append_update p _ its _ (record { update = its_try.update; step = its_try.step })
+step_update p room t (try.LoadsTail waiting) reply knows its_try = tail_update p t waiting reply its_try.update
+step_update p room t (try.LoadsTaken waiting) reply knows its_try = taken_update p t waiting reply its_try.update
 step_update p room t (try.DropsExclusive its) reply knows its_try = exclusive_left p _ its _ knows (record { update = its_try.update; step = its_try.step })
 step_update p room t (try.DropsShared its) reply knows its_try = shared_left _ its _ knows (record { update = its_try.update; step = its_try.step })
 

@@ -16,6 +16,7 @@ use Rattle.fkv_epoch.specs.Leaving.{leave_next}
 use Rattle.fkv_latch.specs.declared.latching.LatchAnswer.{LatchAnswer}
 use Rattle.fkv_latch.specs.declared.latching.LatchAnswer.TheVariants.{Taken as LatchTaken}
 use Rattle.fkv_latch.specs.Latching.{latch_next_ask}
+use Rattle.fkv_ops.specs.Bounds.{bounds_of}
 use Rattle.fkv_ops.specs.declared.answers.Reason.{Reason}
 use Rattle.fkv_ops.specs.declared.answers.Reason.TheVariants as reason
 use Rattle.fkv_ops.specs.declared.answers.TryAnswer.{TryAnswer}
@@ -144,7 +145,7 @@ turn_kept taken called s its n waiting = either_kept s.wants_turn taken called n
 attempts_kept : (taken : List TakenAt) (called : Option Op) (k : Seat) (s : SessionState) (has_shifted : Bool) → called ≡ Some s.op → AreAsTaken taken s.requests → IsKeptAfter taken called s.serial (attempts k s has_shifted)
 unfolding attempts
 attempts_kept taken called k s has_shifted op waiting =
-    let same = begun_same k.places (bits_of k) (request_in_hand s) s.seen AtCall s.spare s.is_orphaned in
+    let same = begun_same k.places (bits_of k) (request_in_hand s) s.seen (AtCall (bounds_of k.shape)) s.spare s.is_orphaned in
     calm taken called _ (Attempts has_shifted) refl waiting
     (record { called_so = op; name = same.name; op = same.op; version = subst (λ (its : Version). IsVersionOf s.seen.version.0 its.0) (sym same.version) (within s.seen.version.0) })
 

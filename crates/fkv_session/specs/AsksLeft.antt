@@ -98,7 +98,7 @@ own_turn_asks_left shape o = own_turning_asks_left shape o o.step
 
 -- those of an attempt
 abbrev pub most_attempt_asks : Places → ℕ
-most_attempt_asks p = 8 * (p.overflow + 1) + 2 * p.ring + 29
+most_attempt_asks p = 8 * (p.overflow + 1) + 2 * p.ring + 31
 
 -- a poll from an index on: for each request from there an attempt and the owing word, and behind them a turn
 abbrev pub most_poll_asks : Seat → List PendingRequest → ℕ → ℕ

@@ -32,6 +32,7 @@ use Rattle.fkv_ops.specs.declared.answers.Reason.TheVariants as reason
 use Rattle.fkv_ops.specs.declared.answers.TryAnswer.{TryAnswer}
 use Rattle.fkv_ops.specs.declared.answers.TryAnswer.TheVariants as tried
 use Rattle.fkv_ops.specs.declared.requests.Occasion.TheVariants.{Call as AtCall, Poll as AtPoll}
+use Rattle.fkv_ops.specs.Bounds.{bounds_of}
 use Rattle.fkv_ops.specs.declared.requests.Request.{Request}
 use Rattle.fkv_ops.specs.declared.requests.Seen.{Seen}
 use Rattle.fkv_ops.specs.Requests.{is_read}
@@ -156,7 +157,7 @@ abbrev pub request_in_hand : SessionState → PendingRequest
 request_in_hand s = record { name = name_of s; request = request_of s.op s.seen.version; sought = None; has_asked = false }
 
 unfoldable pub attempts : Seat → SessionState → Bool → SessionState
-attempts k s has_shifted = record s { attempt = attempt_begun k.places (bits_of k) (request_in_hand s) s.seen AtCall s.spare s.is_orphaned; step = Attempts has_shifted }
+attempts k s has_shifted = record s { attempt = attempt_begun k.places (bits_of k) (request_in_hand s) s.seen (AtCall (bounds_of k.shape)) s.spare s.is_orphaned; step = Attempts has_shifted }
 
 -- the request at an index is attempted, and past the last the poll is answered
 abbrev pub polls_request : Seat → SessionState → ℕ → Option PendingRequest → SessionState

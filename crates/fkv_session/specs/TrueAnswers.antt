@@ -12,7 +12,8 @@ use Rattle.fkv_ops.specs.declared.answers.Reason.{Reason}
 use Rattle.fkv_ops.specs.declared.answers.Reason.TheVariants as reason
 use Rattle.fkv_ops.specs.declared.requests.Occasion.TheVariants.{Call}
 use Rattle.fkv_ops.specs.declared.requests.Seen.{Seen}
-use Rattle.fkv_ops.specs.Reasons.{Loaded, IsReason, IsContended, IsOnDisk, IsIndexFull, HasNoRoom, MustShift, ReadFinds, ReadMisses}
+use Rattle.fkv_ops.specs.Reasons.{Loaded, IsReason, IsContended, IsOnDisk, IsIndexFull, AreBucketsKept, HasNoRoom, IsPastTail, MustShift, ReadFinds, ReadMisses}
+use Rattle.fkv_ops.specs.Bounds.{bounds_of}
 use Rattle.fkv_ops.specs.Requests.{is_read}
 use Rattle.fkv_ops.specs.TryRun as try
 use Rattle.fkv_session.specs.declared.answers.Told.{Told}
@@ -23,7 +24,7 @@ use Rattle.fkv_session.specs.Shares.{HasItsBuckets}
 
 -- the operation of a call as it is tried: at the version that the session goes by
 abbrev pub trial_of : (k : Seat) → HasItsBuckets k → Seen → Op → try.Trial
-trial_of k buckets seen op = record { places = k.places; bits = bits_of k; its_buckets = buckets; room = room_of k; request = request_of op seen.version; seen = seen; occasion = Call }
+trial_of k buckets seen op = record { places = k.places; bits = bits_of k; its_buckets = buckets; room = room_of k; request = request_of op seen.version; seen = seen; occasion = Call (bounds_of k.shape) }
 
 -- The session has refreshed in this call, and its try meets another session that has gone on.
 pub record MustShiftAgain (c : try.Trial) (asked : try.Told) : Type 0 where
@@ -42,10 +43,10 @@ pub record WaitsForSome (c : try.Trial) (asked : try.Told) : Type 0 where
   pub why : Reason
   pub its_cause : WaitsFor c asked why
 
--- the index or the log has no room
+-- the index or the log has no room, or what is left is the polls'
 abbrev pub IsFullFor : try.Trial → try.Told → Fault → Type 0
-IsFullFor c asked fault.IndexFull = IsIndexFull c asked
-IsFullFor c asked fault.LogFull = HasNoRoom asked c.room
+IsFullFor c asked fault.IndexFull = IsIndexFull c asked ⊎ AreBucketsKept c asked
+IsFullFor c asked fault.LogFull = HasNoRoom asked c.room ⊎ IsPastTail c asked
 IsFullFor c asked why = ⊥
 
 -- What an operation is answered behind its asks. Of an update that is done the law of replies says what it is told.

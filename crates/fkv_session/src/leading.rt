@@ -16,7 +16,7 @@ use crate::contexts::Context;
 use crate::sessions::{CatchCause, Sitting};
 use fkv_base::{Fault, Serial, Version};
 use fkv_map::{HistoryEntry, Op, Reply};
-use fkv_ops::{Occasion, Reason, Request, TryAnswer};
+use fkv_ops::{Bounds, Occasion, Reason, Request, TryAnswer};
 use fkv_pending::{PendingRequest, RequestName, Ticket};
 use fkv_plane::{Ask, passed};
 
@@ -60,11 +60,12 @@ impl Context {
         ensures ask { result ≡ session_ask self.old.seat self.new.state }
     {
         let pending = self.request_in_hand();
+        let occasion = Occasion::Call(Bounds::of(&self.shape));
         let (seen, spare, is_orphaned) = (self.seen, self.spare, self.is_orphaned);
         self.step = Sitting::Attempts(has_shifted);
         let ask = self
             .attempt
-            .start(&pending, seen, Occasion::Call, spare, is_orphaned);
+            .start(&pending, seen, occasion, spare, is_orphaned);
         passed(ask, Told::Slept)
     }
 

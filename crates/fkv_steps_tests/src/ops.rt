@@ -6,9 +6,9 @@ use fkv_index::Purpose;
 use fkv_log::{RecordWords, SeenOffsets};
 use fkv_map::{Merge, Op, Reply};
 use fkv_ops::{
-    Append, AppendAnswer, DiskRecord, FoundSlot, HeaderSaid, HeldRecord, Occasion, Reason, Request,
-    Seen, Try, TryAnswer, Walk, WalkAnswer, header_said, law_reasons, told_value, value_of_word,
-    word_of_value,
+    Append, AppendAnswer, Bounds, DiskRecord, FoundSlot, HeaderSaid, HeldRecord, Occasion, Reason,
+    Request, Seen, Try, TryAnswer, Walk, WalkAnswer, header_said, law_reasons, told_value,
+    value_of_word, word_of_value,
 };
 use fkv_plane::{Ask, Places, PlainWords};
 use fkv_words::Header;
@@ -16,6 +16,7 @@ use std::alloc::Global;
 use std::process::Abort;
 use std::test::Fail;
 
+mod bounds;
 mod cases;
 mod latches;
 
@@ -126,7 +127,7 @@ const USUAL: Case<'static> = Case {
     is_behind: false,
     has_latch: false,
     held: None,
-    occasion: Occasion::Call,
+    occasion: Occasion::Call(None),
     phase: Phase::Rest,
     read_only: 1,
     head: 1,
@@ -139,7 +140,7 @@ const USUAL: Case<'static> = Case {
     spare: 0,
 };
 
-const CASES: [(&str, &[Case<'static>]); 12] = [
+const CASES: [(&str, &[Case<'static>]); 15] = [
     ("in place", cases::IN_PLACE),
     ("copied", cases::COPIED),
     ("made", cases::MADE),
@@ -152,6 +153,9 @@ const CASES: [(&str, &[Case<'static>]); 12] = [
     ("late at the latch", latches::LATE_AT_LATCH),
     ("shared", latches::SHARED),
     ("kept", latches::KEPT),
+    ("bounded by buckets", bounds::BUCKETS),
+    ("bounded by addresses", bounds::ADDRESSES),
+    ("looking for room", bounds::WAITING),
 ];
 
 fn start(machine: &mut Try, case: &Case<'_>, op: Op, phase: Phase) -> Ask<TryAnswer> {
@@ -294,7 +298,7 @@ fn appends(rt: &impl Abort, plane: &mut PlainWords, shape: &Shape) {
         tag: 3,
     };
     let mut machine = Append::new(Places::of(shape), shape);
-    let mut ask = machine.start(slot, APPENDED);
+    let mut ask = machine.start(slot, APPENDED, None);
     for _ in 0..7 {
         ask = machine.drive(plane.perform(&ask));
     }

@@ -1,6 +1,6 @@
 -- How a new record is appended and published.
-use Rattle.std.proofs.Common.{◌≡◌, ℕ, ◌+◌, ◌*◌, ◌^◌, ◌<◌, refl, ap, ◌∙◌, arith, true, false}
-use Rattle.std.specs.Prelude.{◌==◌, nat_lt, Option}
+use Rattle.std.proofs.Common.{◌≡◌, ℕ, ◌+◌, ◌*◌, ◌^◌, ◌<◌, refl, ap, ◌∙◌, arith, true, false, subst, sym}
+use Rattle.std.specs.Prelude.{◌==◌, nat_lt, Option, None}
 use Rattle.std.proofs.lemmas.Bool.Decides.{nat_tests}
 use Rattle.fkv_map.specs.Keys.{key_of, value_applied, reply_from}
 use Rattle.fkv_marks.specs.Marks.{mark}
@@ -15,7 +15,7 @@ use Rattle.fkv_log.specs.declared.filling.Filling.TheVariants as fill
 use Rattle.fkv_log.specs.declared.reserving.Reserving.{Reserving}
 use Rattle.fkv_log.specs.declared.reserving.Reserving.TheVariants as reserve
 use Rattle.fkv_log.specs.Filling.{fill_ask, fill_next}
-use Rattle.fkv_log.specs.Reserving.{reserve_ask, reserve_next, reserve_next_ask}
+use Rattle.fkv_log.specs.Reserving.{reserve_ask, reserve_next, reserve_next_ask, limit_within}
 use Rattle.fkv_index.specs.declared.publishing.Publishing.TheVariants as publish
 use Rattle.fkv_index.specs.IndexWorld.{new_entry}
 use Rattle.fkv_index.specs.Publishing.{publish_ask, publish_next, publish_next_ask}
@@ -27,14 +27,15 @@ use Rattle.fkv_ops.specs.declared.trying.Trying.TheVariants.{Appends, Ended}
 use Rattle.fkv_ops.specs.Requests.{is_read}
 use Rattle.fkv_ops.specs.Values.{word_of}
 use Rattle.fkv_ops.specs.Appending.{appending_ask, appending_next, reserve_ledto, fill_ledto, publish_ledto}
-use Rattle.fkv_ops.specs.Trying.{TryState, trying_ask, trying_next, append_ledto, words_of, header_of, ends}
+use Rattle.fkv_ops.specs.Trying.{TryState, trying_ask, trying_next, append_ledto, words_of, header_of, ends, ends_so}
 use Rattle.fkv_ops.specs.Walking.{WalkState}
 use Rattle.fkv_session.specs.Sessions.{SessionState}
 use Rattle.fkv_straight.specs.Course.{Course, IsSettled, home_in, request_in, shares}
-use Rattle.fkv_straight.specs.Met.{trying, append_at, IsAtReserve, IsAtFill, IsReserved, IsAtPublish}
+use Rattle.fkv_straight.specs.Met.{trying, append_at, IsAtReserve, IsAtFill, IsReserved, IsAtPublish, limit_of}
 use Rattle.fkv_straight.specs.Standing.{asked, leads, next_try, IsDone, IsWaiting}
 use Rattle.fkv_straight.proofs.Moves.{asks_load, asks_store, asks_cas, led_on, steps, ends_done, ends_waiting}
 use Rattle.fkv_straight.proofs.Tests.{differs, same}
+use Rattle.fkv_ops.specs.Bounds.{bounds_at, tail_bound}
 
 -- ---- its address is reserved
 abbrev pub reserving : Course → WalkState → ℕ → ℕ → Option ℕ → Reserving → TryState
@@ -46,18 +47,25 @@ filling c w place entry old addr step = trying c w (append_at c place entry old 
 abbrev publishing : Course → WalkState → ℕ → ℕ → Option ℕ → ℕ → TryState
 publishing c w place entry old addr = trying c w (append_at c place entry old reserve.AtRest fill.AtRest (publish.SwapsEntry place entry (new_entry addr (home_in c).tag)) (Publishes (record { 0 = addr }))) (Appends (reply_from old c.op))
 
-pub limit_asks : (c : Course) (place entry : ℕ) (old : Option ℕ) (s : SessionState) → IsAtReserve c place entry old reserve.LoadsLimit s → asked c.seat s ≡ Load (shared_place one.Limit)
+pub limit_asks : (c : Course) (place entry : ℕ) (old : Option ℕ) (s : SessionState) → IsAtReserve c place entry old (limit_of c) s → asked c.seat s ≡ Load (shared_place one.Limit)
 unfolding IsAtReserve trying_ask appending_ask reserve_ask passed
-limit_asks c place entry old s at = asks_load c (reserving c at.0 place entry old reserve.LoadsLimit) (shared_place one.Limit) s at.1 refl
+limit_asks c place entry old s at = asks_load c (reserving c at.0 place entry old (limit_of c)) (shared_place one.Limit) s at.1 refl
 
-has_limit : (c : Course) (w : WalkState) (place entry : ℕ) (old : Option ℕ) (limit : ℕ) → next_try c (reserving c w place entry old reserve.LoadsLimit) limit ≡ reserving c w place entry old (reserve.LoadsTail limit)
+has_limit : (c : Course) (w : WalkState) (place entry : ℕ) (old : Option ℕ) (found : ℕ)
+    → next_try c (reserving c w place entry old (limit_of c)) found ≡ reserving c w place entry old (reserve.LoadsTail (limit_within (tail_bound (bounds_at c.occasion)) found))
 unfolding trying_next append_ledto appending_ask appending_next reserve_ledto reserve_ask reserve_next reserve_next_ask passed
-has_limit c w place entry old limit = refl
+has_limit c w place entry old found = refl
 
-pub limit_comes : (c : Course) (place entry : ℕ) (old : Option ℕ) (limit : ℕ) (s u : SessionState) → IsAtReserve c place entry old reserve.LoadsLimit s → u ≡ leads c.seat s limit → IsAtReserve c place entry old (reserve.LoadsTail limit) u
+limit_loaded : (c : Course) (place entry : ℕ) (old : Option ℕ) (found : ℕ) (s u : SessionState) → IsAtReserve c place entry old (limit_of c) s → u ≡ leads c.seat s found
+    → IsAtReserve c place entry old (reserve.LoadsTail (limit_within (tail_bound (bounds_at c.occasion)) found)) u
 unfolding IsAtReserve trying_ask appending_ask reserve_ask passed
-limit_comes c place entry old limit s u at e =
-    (at.0, steps c (reserving c at.0 place entry old reserve.LoadsLimit) (reserving c at.0 place entry old (reserve.LoadsTail limit)) limit s u at.1 e (has_limit c at.0 place entry old limit) refl refl)
+limit_loaded c place entry old found s u at e =
+    let after = reserving c at.0 place entry old (reserve.LoadsTail (limit_within (tail_bound (bounds_at c.occasion)) found)) in
+    (at.0, steps c (reserving c at.0 place entry old (limit_of c)) after found s u at.1 e (has_limit c at.0 place entry old found) refl refl)
+
+pub limit_comes : (c : Course) (place entry : ℕ) (old : Option ℕ) (found limit : ℕ) (s u : SessionState) → IsAtReserve c place entry old (limit_of c) s → u ≡ leads c.seat s found → limit ≡ limit_within (tail_bound (bounds_at c.occasion)) found
+    → IsAtReserve c place entry old (reserve.LoadsTail limit) u
+limit_comes c place entry old found limit s u at e its = subst (λ (n : ℕ). IsAtReserve c place entry old (reserve.LoadsTail n) u) (sym its) (limit_loaded c place entry old found s u at e)
 
 pub tail_asks : (c : Course) (place entry : ℕ) (old : Option ℕ) (limit : ℕ) (s : SessionState) → IsAtReserve c place entry old (reserve.LoadsTail limit) s → asked c.seat s ≡ Load (shared_place one.Tail)
 unfolding IsAtReserve trying_ask appending_ask reserve_ask passed
@@ -91,25 +99,25 @@ take_comes c place entry old tail found s u at e won above fits = (
 )
 
 -- another session was quicker
-take_fails : (c : Course) (w : WalkState) (place entry : ℕ) (old : Option ℕ) (tail found : ℕ) → shares c ≡ false → (found == tail) ≡ false → (next_try c (reserving c w place entry old (reserve.TakesTail tail)) found).step ≡ Ended (tried.Wait reason.Contended)
-unfolding trying_next append_ledto appending_ask appending_next reserve_ledto reserve_ask reserve_next reserve_next_ask ends passed
-take_fails c w place entry old tail found calm lost = rw (lost, calm) refl
+take_fails : (c : Course) (w : WalkState) (place entry : ℕ) (old : Option ℕ) (tail found : ℕ) → bounds_at c.occasion ≡ None → shares c ≡ false → (found == tail) ≡ false → (next_try c (reserving c w place entry old (reserve.TakesTail tail)) found).step ≡ Ended (tried.Wait reason.Contended)
+unfolding trying_next append_ledto appending_ask appending_next reserve_ledto reserve_ask reserve_next reserve_next_ask ends ends_so passed
+take_fails c w place entry old tail found none calm lost = rw (lost, none, calm) refl
 
-take_leaves : (c : Course) (w : WalkState) (place entry : ℕ) (old : Option ℕ) (tail found : ℕ) → shares c ≡ false → (found == tail) ≡ false → (next_try c (reserving c w place entry old (reserve.TakesTail tail)) found).spare ≡ c.lasts.spare
-unfolding trying_next append_ledto appending_ask appending_next reserve_ledto reserve_ask reserve_next reserve_next_ask ends passed
-take_leaves c w place entry old tail found calm lost = rw (lost, calm) refl
+take_leaves : (c : Course) (w : WalkState) (place entry : ℕ) (old : Option ℕ) (tail found : ℕ) → bounds_at c.occasion ≡ None → shares c ≡ false → (found == tail) ≡ false → (next_try c (reserving c w place entry old (reserve.TakesTail tail)) found).spare ≡ c.lasts.spare
+unfolding trying_next append_ledto appending_ask appending_next reserve_ledto reserve_ask reserve_next reserve_next_ask ends ends_so passed
+take_leaves c w place entry old tail found none calm lost = rw (lost, none, calm) refl
 
-take_free : (c : Course) (w : WalkState) (place entry : ℕ) (old : Option ℕ) (tail found : ℕ) → shares c ≡ false → (found == tail) ≡ false → (next_try c (reserving c w place entry old (reserve.TakesTail tail)) found).has_shared ≡ false
-unfolding trying_next append_ledto appending_ask appending_next reserve_ledto reserve_ask reserve_next reserve_next_ask ends passed
-take_free c w place entry old tail found calm lost = rw (lost, calm) refl
+take_free : (c : Course) (w : WalkState) (place entry : ℕ) (old : Option ℕ) (tail found : ℕ) → bounds_at c.occasion ≡ None → shares c ≡ false → (found == tail) ≡ false → (next_try c (reserving c w place entry old (reserve.TakesTail tail)) found).has_shared ≡ false
+unfolding trying_next append_ledto appending_ask appending_next reserve_ledto reserve_ask reserve_next reserve_next_ask ends ends_so passed
+take_free c w place entry old tail found none calm lost = rw (lost, none, calm) refl
 
 pub take_lost : (c : Course) (place entry : ℕ) (old : Option ℕ) (tail found : ℕ) (s u : SessionState) → IsSettled c → shares c ≡ false → is_read c.op ≡ false → IsAtReserve c place entry old (reserve.TakesTail tail) s → u ≡ leads c.seat s found → ¬ (found ≡ tail)
-    → IsWaiting c u
+    → bounds_at c.occasion ≡ None → IsWaiting c u
 unfolding IsAtReserve
-take_lost c place entry old tail found s u settled calm updates at e lost =
+take_lost c place entry old tail found s u settled calm updates at e lost none =
     let t = reserving c at.0 place entry old (reserve.TakesTail tail) in
     let no = differs found tail lost in
-    ends_waiting c (next_try c t found) u settled (led_on c t found s u at.1 e) (take_fails c at.0 place entry old tail found calm no) (take_leaves c at.0 place entry old tail found calm no) (take_free c at.0 place entry old tail found calm no) updates
+    ends_waiting c (next_try c t found) u settled (led_on c t found s u at.1 e) (take_fails c at.0 place entry old tail found none calm no) (take_leaves c at.0 place entry old tail found none calm no) (take_free c at.0 place entry old tail found none calm no) updates
 
 -- ---- its words are stored
 pub value_asks : (c : Course) (place entry : ℕ) (old : Option ℕ) (addr : ℕ) (s : SessionState) → IsReserved c place entry old addr s → asked c.seat s ≡ Store (record_place c.seat.places addr rec.Value) (word_of (value_applied old c.op))
@@ -176,11 +184,11 @@ unfolding IsAtPublish trying_ask appending_ask publish_ask passed
 publish_asks c place entry old addr s at = asks_cas c (publishing c at.0 place entry old addr) place entry (new_entry addr (home_in c).tag) s at.1 refl
 
 published : (c : Course) (w : WalkState) (place entry : ℕ) (old : Option ℕ) (addr : ℕ) → shares c ≡ false → (entry == entry) ≡ true → (next_try c (publishing c w place entry old addr) entry).step ≡ Ended (tried.Done (reply_from old c.op))
-unfolding trying_next append_ledto appending_ask appending_next publish_ledto publish_ask publish_next publish_next_ask ends passed
+unfolding trying_next append_ledto appending_ask appending_next publish_ledto publish_ask publish_next publish_next_ask ends ends_so passed
 published c w place entry old addr calm won = rw (won, calm) refl
 
 publish_spares : (c : Course) (w : WalkState) (place entry : ℕ) (old : Option ℕ) (addr : ℕ) → shares c ≡ false → (entry == entry) ≡ true → (next_try c (publishing c w place entry old addr) entry).spare ≡ c.lasts.spare
-unfolding trying_next append_ledto appending_ask appending_next publish_ledto publish_ask publish_next publish_next_ask ends passed
+unfolding trying_next append_ledto appending_ask appending_next publish_ledto publish_ask publish_next publish_next_ask ends ends_so passed
 publish_spares c w place entry old addr calm won = rw (won, calm) refl
 
 pub publish_ends : (c : Course) (place entry : ℕ) (old : Option ℕ) (addr found : ℕ) (s u : SessionState) → IsSettled c → shares c ≡ false → IsAtPublish c place entry old addr s → is_read c.op ≡ false → found ≡ entry → u ≡ leads c.seat s found → IsDone c (reply_from old c.op) u

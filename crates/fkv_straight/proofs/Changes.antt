@@ -26,7 +26,7 @@ use Rattle.fkv_ops.specs.HeaderWords.{header_said}
 use Rattle.fkv_ops.specs.Requests.{is_read, is_blind}
 use Rattle.fkv_ops.specs.Values.{value_of, word_of}
 use Rattle.fkv_ops.specs.Appending.{append_rested}
-use Rattle.fkv_ops.specs.Trying.{TryState, trying_ask, trying_next, walk_ledto, current_ledto, ends, takes_effect, is_above, is_next_marked}
+use Rattle.fkv_ops.specs.Trying.{TryState, trying_ask, trying_next, walk_ledto, current_ledto, ends, ends_so, takes_effect, is_above, is_next_marked}
 use Rattle.fkv_ops.specs.Walking.{WalkState, first_met, walking_ask, walking_next, load_ledto, value_ledto, walking_on}
 use Rattle.fkv_session.specs.Sessions.{Seat, SessionState}
 use Rattle.fkv_straight.specs.declared.going.Going.{Going}
@@ -37,6 +37,7 @@ use Rattle.fkv_straight.specs.Standing.{asked, leads, IsLed, next_try, IsDone, I
 use Rattle.fkv_straight.proofs.Moves.{asks_load, asks_swap, asks_cas, led_on, stays, steps, ends_done, ends_waiting}
 use Rattle.fkv_straight.proofs.Tests.{differs, same, here}
 use Rattle.fkv_straight.proofs.Walks.{past}
+use Rattle.fkv_ops.specs.Bounds.{bounds_at}
 
 -- what the table tests of the record that an update has met
 pub record MetBy (c : Course) (r : Record) : Type 0 where
@@ -91,7 +92,7 @@ abbrev at_record : Course → Trail → Record → WalkState
 at_record c trail r = walking c (past trail (record { 0 = r.mark })) r.place r.entry (load.HasKey (record { 0 = r.addr }) r.header (key_of c.op).0) (HasFound (record { 0 = r.addr }) (record { 0 = r.mark }))
 
 -- ---- by one Swap
-turns_to_swap : (c : Course) (trail : Trail) (r : Record) → IsTrail trail r.entry r.addr → MetBy c r → MayChange c r → is_blind c.op ≡ true
+turns_to_swap : (c : Course) (trail : Trail) (r : Record) → IsTrail c trail r.entry r.addr → MetBy c r → MayChange c r → is_blind c.op ≡ true
     → next_try c (meeting c trail r.place r.entry r.addr (load.LoadsKey (record { 0 = r.addr }) r.header)) (key_of c.op).0 ≡ trying c (at_record c trail r) append_rested (SwapsValue (record { 0 = r.addr }))
 unfolding trying_next walk_ledto walking_ask walking_next load_ledto load_ask load_next load_next_ask passed
 turns_to_swap c trail r walked met may blind = rw (met.said, met.below, met.mine, met.stays trail walked, met.updates, met.above, may.mutable, may.own, blind) refl
@@ -111,7 +112,7 @@ unfolding IsAtSwap HasChanged trying_next
 swap_changes c addr reply s u at e = (at.0, SwapsValue (record { 0 = addr }), led_on c (trying c at.0 append_rested (SwapsValue (record { 0 = addr }))) reply s u at.1 e)
 
 -- ---- by a load and a Cas
-turns_to_load : (c : Course) (trail : Trail) (r : Record) → IsTrail trail r.entry r.addr → MetBy c r → MayChange c r → is_blind c.op ≡ false
+turns_to_load : (c : Course) (trail : Trail) (r : Record) → IsTrail c trail r.entry r.addr → MetBy c r → MayChange c r → is_blind c.op ≡ false
     → next_try c (meeting c trail r.place r.entry r.addr (load.LoadsKey (record { 0 = r.addr }) r.header)) (key_of c.op).0 ≡ holding c (past trail (record { 0 = r.mark })) r (LoadsCurrent (record { 0 = r.addr }))
 unfolding trying_next walk_ledto walking_ask walking_next load_ledto load_ask load_next load_next_ask load_on walking_on passed
 turns_to_load c trail r walked met may seeing = rw (met.said, met.below, met.mine, met.stays trail walked, met.updates, met.above, may.mutable, may.own, seeing) refl
@@ -169,11 +170,11 @@ change_loses c addr old found s u at lost e =
 
 -- ---- with no latch the update has ended then
 ended_calm : (c : Course) (w : WalkState) (step : Trying) (its : Reply) → shares c ≡ false → (takes_effect c.seat.places (trying c w append_rested step) its).step ≡ Ended (tried.Done its)
-unfolding ends
+unfolding ends ends_so
 ended_calm c w step its calm = rw calm refl
 
 spare_calm : (c : Course) (w : WalkState) (step : Trying) (its : Reply) → shares c ≡ false → (takes_effect c.seat.places (trying c w append_rested step) its).spare ≡ c.lasts.spare
-unfolding ends
+unfolding ends ends_so
 spare_calm c w step its calm = rw calm refl
 
 pub changed_done : (c : Course) (its : Reply) (s : SessionState) → IsSettled c → shares c ≡ false → is_read c.op ≡ false → HasChanged c its s → IsDone c its s
@@ -181,19 +182,19 @@ unfolding HasChanged
 changed_done c its s settled calm updates at =
     ends_done c (takes_effect c.seat.places (trying c at.0 append_rested at.1) its) its s settled at.2 (ended_calm c at.0 at.1 its calm) (spare_calm c at.0 at.1 its calm) updates
 
-ended_lost : (c : Course) (w : WalkState) (step : Trying) → shares c ≡ false → (ends c.seat.places (trying c w append_rested step) (tried.Wait reason.Contended)).step ≡ Ended (tried.Wait reason.Contended)
-unfolding ends
-ended_lost c w step calm = rw calm refl
+ended_lost : (c : Course) (w : WalkState) (step : Trying) → bounds_at c.occasion ≡ None → shares c ≡ false → (ends c.seat.places (trying c w append_rested step) (tried.Wait reason.Contended)).step ≡ Ended (tried.Wait reason.Contended)
+unfolding ends ends_so
+ended_lost c w step none calm = rw (none, calm) refl
 
-spare_lost : (c : Course) (w : WalkState) (step : Trying) → shares c ≡ false → (ends c.seat.places (trying c w append_rested step) (tried.Wait reason.Contended)).spare ≡ c.lasts.spare
-unfolding ends
-spare_lost c w step calm = rw calm refl
+spare_lost : (c : Course) (w : WalkState) (step : Trying) → bounds_at c.occasion ≡ None → shares c ≡ false → (ends c.seat.places (trying c w append_rested step) (tried.Wait reason.Contended)).spare ≡ c.lasts.spare
+unfolding ends ends_so
+spare_lost c w step none calm = rw (none, calm) refl
 
-free_lost : (c : Course) (w : WalkState) (step : Trying) → shares c ≡ false → (ends c.seat.places (trying c w append_rested step) (tried.Wait reason.Contended)).has_shared ≡ false
-unfolding ends
-free_lost c w step calm = rw calm refl
+free_lost : (c : Course) (w : WalkState) (step : Trying) → bounds_at c.occasion ≡ None → shares c ≡ false → (ends c.seat.places (trying c w append_rested step) (tried.Wait reason.Contended)).has_shared ≡ false
+unfolding ends ends_so
+free_lost c w step none calm = rw (none, calm) refl
 
-pub lost_waits : (c : Course) (s : SessionState) → IsSettled c → shares c ≡ false → is_read c.op ≡ false → HasLost c s → IsWaiting c s
+pub lost_waits : (c : Course) (s : SessionState) → IsSettled c → shares c ≡ false → is_read c.op ≡ false → HasLost c s → bounds_at c.occasion ≡ None → IsWaiting c s
 unfolding HasLost
-lost_waits c s settled calm updates at =
-    ends_waiting c (ends c.seat.places (trying c at.0 append_rested at.1) (tried.Wait reason.Contended)) s settled at.2 (ended_lost c at.0 at.1 calm) (spare_lost c at.0 at.1 calm) (free_lost c at.0 at.1 calm) updates
+lost_waits c s settled calm updates at none =
+    ends_waiting c (ends c.seat.places (trying c at.0 append_rested at.1) (tried.Wait reason.Contended)) s settled at.2 (ended_lost c at.0 at.1 none calm) (spare_lost c at.0 at.1 none calm) (free_lost c at.0 at.1 none calm) updates

@@ -1,5 +1,5 @@
 -- How an update comes to a new record: by a copy of the one that was met, at the chain's end, or where the chain leaves memory.
-use Rattle.std.proofs.Common.{◌≡◌, ℕ, ◌<◌, ◌≤◌, refl, sym, ◌∙◌, subst, arith, true, false}
+use Rattle.std.proofs.Common.{◌≡◌, ℕ, ◌<◌, ◌≤◌, refl, sym, ◌∙◌, subst, arith, true, false, Bool}
 use Rattle.std.specs.Prelude.{◌==◌, ◌&&◌, not, nat_lt, nat_le, None}
 use Rattle.std.proofs.lemmas.Bool.Decides.{nat_tests}
 use Rattle.fkv_map.specs.declared.operations.Op.{Op}
@@ -12,7 +12,6 @@ use Rattle.fkv_plane.specs.Passing.{passed}
 use Rattle.fkv_plane.specs.Places.{record_place, shared_place}
 use Rattle.fkv_log.specs.declared.loading.Loading.{Loading}
 use Rattle.fkv_log.specs.declared.loading.Loading.TheVariants as load
-use Rattle.fkv_log.specs.declared.reserving.Reserving.TheVariants as reserve
 use Rattle.fkv_log.specs.Loading.{load_ask, load_next, load_next_ask, load_on}
 use Rattle.fkv_log.specs.Reserving.{reserve_ask}
 use Rattle.fkv_ops.specs.declared.trying.OldValue.TheVariants.{InMemory}
@@ -22,7 +21,7 @@ use Rattle.fkv_ops.specs.declared.walking.WalkAnswer.{WalkAnswer}
 use Rattle.fkv_ops.specs.declared.walking.WalkAnswer.TheVariants as walked
 use Rattle.fkv_ops.specs.declared.walking.Walking.{Walking}
 use Rattle.fkv_ops.specs.declared.walking.Walking.TheVariants as walk
-use Rattle.fkv_ops.specs.Requests.{is_read, is_blind}
+use Rattle.fkv_ops.specs.Requests.{is_read, is_blind, purpose_at}
 use Rattle.fkv_ops.specs.Values.{value_of}
 use Rattle.fkv_ops.specs.Appending.{appending_ask}
 use Rattle.fkv_ops.specs.Trying.{TryState, trying_ask, trying_next, walk_ledto, old_ledto, copies, copies_from, appends, is_moving_on, is_marked}
@@ -30,17 +29,19 @@ use Rattle.fkv_ops.specs.Walking.{WalkState, reached, walking_ask, walking_next,
 use Rattle.fkv_session.specs.Sessions.{Seat, SessionState}
 use Rattle.fkv_straight.specs.declared.going.Going.{Going}
 use Rattle.fkv_straight.specs.declared.searching.Record.{Record}
-use Rattle.fkv_straight.specs.Course.{Course, head_in, request_in, shares, Goes}
-use Rattle.fkv_straight.specs.Met.{Trail, IsTrail, meeting, holding, finding, walking, judged, HasKey, IsMet, IsReached, IsAtSafe, HasSafe, IsCopied, IsAtOld, IsAtReserve}
+use Rattle.fkv_straight.specs.Course.{Course, head_in, request_in, shares, Goes, counts}
+use Rattle.fkv_straight.specs.Met.{Trail, IsTrail, meeting, holding, finding, walking, judged, HasKey, IsMet, IsReached, IsAtSafe, HasSafe, IsCopied, IsAtOld, IsAtReserve, limit_of, finding_at}
 use Rattle.fkv_straight.specs.Standing.{asked, leads, IsLed, next_try}
 use Rattle.fkv_straight.proofs.Appends.{reserving}
 use Rattle.fkv_straight.proofs.Changes.{MetBy, has_value}
 use Rattle.fkv_straight.proofs.Moves.{asks_load, led_on, stays, steps}
 use Rattle.fkv_straight.proofs.Tests.{and_false}
 use Rattle.fkv_straight.proofs.Walks.{past}
+use Rattle.fkv_index.specs.Finding.{is_beyond, is_made, linking_for}
+use Rattle.fkv_index.specs.declared.finding.FindStep.TheVariants.{AtRest}
 
 -- ---- a record of another version, that the session could change
-turns_to_copy : (c : Course) (trail : Trail) (r : Record) → IsTrail trail r.entry r.addr → MetBy c r → nat_le c.lasts.seen.offsets.read_only.0 r.addr ≡ true → (r.mark == mark (request_in c).version.0) ≡ false → is_moving_on c.lasts.seen.phase ≡ false
+turns_to_copy : (c : Course) (trail : Trail) (r : Record) → IsTrail c trail r.entry r.addr → MetBy c r → nat_le c.lasts.seen.offsets.read_only.0 r.addr ≡ true → (r.mark == mark (request_in c).version.0) ≡ false → is_moving_on c.lasts.seen.phase ≡ false
     → next_try c (meeting c trail r.place r.entry r.addr (load.LoadsKey (record { 0 = r.addr }) r.header)) (key_of c.op).0 ≡ copies_from (finding c (past trail (record { 0 = r.mark })) r Walks) InMemory
 unfolding trying_next walk_ledto walking_ask walking_next load_ledto load_ask load_next load_next_ask copies passed
 turns_to_copy c trail r walked met mutable other still = rw (met.said, met.below, met.mine, met.stays trail walked, met.updates, met.above, mutable, other, still) refl
@@ -52,7 +53,7 @@ later_copied c r s met by mutable other still =
     (past has.0 (record { 0 = r.mark }), Walks, subst (λ (t : TryState). IsLed c t s) (turns_to_copy c has.0 r has.1 by mutable other still) has.2)
 
 -- ---- a record below the read-only offset: the safe one is loaded
-turns_to_safe : (c : Course) (trail : Trail) (r : Record) → IsTrail trail r.entry r.addr → MetBy c r → nat_le c.lasts.seen.offsets.read_only.0 r.addr ≡ false
+turns_to_safe : (c : Course) (trail : Trail) (r : Record) → IsTrail c trail r.entry r.addr → MetBy c r → nat_le c.lasts.seen.offsets.read_only.0 r.addr ≡ false
     → next_try c (meeting c trail r.place r.entry r.addr (load.LoadsKey (record { 0 = r.addr }) r.header)) (key_of c.op).0
     ≡ finding c (past trail (record { 0 = r.mark })) r (LoadsSafe (record { 0 = r.addr }) (record { 0 = r.mark }))
 unfolding trying_next walk_ledto walking_ask walking_next load_ledto load_ask load_next load_next_ask passed
@@ -101,15 +102,15 @@ own_copied c r safe s has below own =
 
 -- ---- the copy's old value
 copies_blindly : (c : Course) (trail : Trail) (r : Record) (step : Trying) → is_blind c.op ≡ true
-    → copies_from (finding c trail r step) InMemory ≡ reserving c (walking c trail r.place r.entry (load.HasKey (record { 0 = r.addr }) r.header (key_of c.op).0) (walk.HasFound (record { 0 = r.addr }) (record { 0 = r.mark }))) r.place r.entry None reserve.LoadsLimit
+    → copies_from (finding c trail r step) InMemory ≡ reserving c (walking c trail r.place r.entry (load.HasKey (record { 0 = r.addr }) r.header (key_of c.op).0) (walk.HasFound (record { 0 = r.addr }) (record { 0 = r.mark }))) r.place r.entry None (limit_of c)
 unfolding copies_from appends
 copies_blindly c trail r step blind = rw blind refl
 
-pub copied_reserves : (c : Course) (r : Record) (s : SessionState) → IsCopied c r s → is_blind c.op ≡ true → IsAtReserve c r.place r.entry None reserve.LoadsLimit s
+pub copied_reserves : (c : Course) (r : Record) (s : SessionState) → IsCopied c r s → is_blind c.op ≡ true → IsAtReserve c r.place r.entry None (limit_of c) s
 unfolding IsCopied IsAtReserve trying_ask appending_ask reserve_ask passed
 copied_reserves c r s at blind =
     let w = walking c at.0 r.place r.entry (load.HasKey (record { 0 = r.addr }) r.header (key_of c.op).0) (walk.HasFound (record { 0 = r.addr }) (record { 0 = r.mark })) in
-    (w, stays c (reserving c w r.place r.entry None reserve.LoadsLimit) s (subst (λ (t : TryState). IsLed c t s) (copies_blindly c at.0 r at.1 blind) at.2) refl refl)
+    (w, stays c (reserving c w r.place r.entry None (limit_of c)) s (subst (λ (t : TryState). IsLed c t s) (copies_blindly c at.0 r at.1 blind) at.2) refl refl)
 
 copies_seeing : (c : Course) (trail : Trail) (r : Record) (step : Trying) → is_blind c.op ≡ false → copies_from (finding c trail r step) InMemory ≡ holding c trail r LoadsOld
 unfolding copies_from walking_on load_on
@@ -123,44 +124,56 @@ pub old_asks : (c : Course) (r : Record) (s : SessionState) → IsAtOld c r s �
 unfolding IsAtOld trying_ask walking_ask load_ask passed
 old_asks c r s at = asks_load c (holding c at.0 r LoadsOld) (record_place c.seat.places r.addr rec.Value) s at.1 refl
 
-turns_to_append : (c : Course) (trail : Trail) (r : Record) (old : ℕ) → next_try c (holding c trail r LoadsOld) old ≡ reserving c (has_value c trail r old) r.place r.entry (value_of old) reserve.LoadsLimit
+turns_to_append : (c : Course) (trail : Trail) (r : Record) (old : ℕ) → next_try c (holding c trail r LoadsOld) old ≡ reserving c (has_value c trail r old) r.place r.entry (value_of old) (limit_of c)
 unfolding trying_next walking_ask walking_next load_ask load_next load_next_ask value_ledto old_ledto appends passed
 turns_to_append c trail r old = refl
 
-pub old_comes : (c : Course) (r : Record) (old : ℕ) (s u : SessionState) → IsAtOld c r s → u ≡ leads c.seat s old → IsAtReserve c r.place r.entry (value_of old) reserve.LoadsLimit u
+pub old_comes : (c : Course) (r : Record) (old : ℕ) (s u : SessionState) → IsAtOld c r s → u ≡ leads c.seat s old → IsAtReserve c r.place r.entry (value_of old) (limit_of c) u
 unfolding IsAtOld IsAtReserve trying_ask appending_ask reserve_ask passed
 old_comes c r old s u at e =
-    (has_value c at.0 r old, steps c (holding c at.0 r LoadsOld) (reserving c (has_value c at.0 r old) r.place r.entry (value_of old) reserve.LoadsLimit) old s u at.1 e (turns_to_append c at.0 r old) refl refl)
+    (has_value c at.0 r old, steps c (holding c at.0 r LoadsOld) (reserving c (has_value c at.0 r old) r.place r.entry (value_of old) (limit_of c)) old s u at.1 e (turns_to_append c at.0 r old) refl refl)
 
 -- ---- the chain's end
 abbrev ended_at : Course → Trail → ℕ → ℕ → Loading → WalkAnswer → WalkState
 ended_at c trail place entry loading its = walking c trail place entry loading (walk.Ended its)
 
-ends_nowhere : (c : Course) (trail : Trail) (place entry : ℕ) (loading : Loading) (step : Walking) → shares c ≡ false → is_read c.op ≡ false → is_moving_on c.lasts.seen.phase ≡ false
-    → judged c (reached c.seat.places (walking c trail place entry loading step) 0) ≡ reserving c (ended_at c trail place entry loading walked.Nowhere) place entry None reserve.LoadsLimit
-unfolding walk_ledto walking_ask copies copies_from appends
-ends_nowhere c trail place entry loading step calm updates still = rw (calm, updates, still) refl
+none_counted : (c : Course) (trail : Trail) (entry addr : ℕ) → IsTrail c trail entry addr → (counts c && entry == 0 && is_beyond c.seat.places (finding_at c trail.base trail.links AtRest)) ≡ false
+none_counted c trail entry addr its = by (counts c) (entry == 0) (nat_lt trail.links c.seat.places.overflow) refl refl refl
+  where
+    made : Bool
+    made = is_made (linking_for (purpose_at c.occasion c.op))
 
-pub nowhere_reserves : (c : Course) (place entry : ℕ) (s : SessionState) → IsReached c place entry 0 s → shares c ≡ false → is_read c.op ≡ false → is_moving_on c.lasts.seen.phase ≡ false → IsAtReserve c place entry None reserve.LoadsLimit s
+    by : (a b d : Bool) → counts c ≡ a → (entry == 0) ≡ b → nat_lt trail.links c.seat.places.overflow ≡ d → (a && b && (d && not made)) ≡ false
+    by false b d x y z = refl
+    by true false d x y z = refl
+    by true true false x y z = refl
+    by true true true x y z = absurd (let h = its.its_own x (grind (arith, nat_tests, y)) in let l : trail.links < c.seat.places.overflow = grind (arith, nat_tests, z) in omega (arith, h, l))
+
+ends_nowhere : (c : Course) (trail : Trail) (place entry : ℕ) (loading : Loading) (step : Walking) → (counts c && entry == 0 && is_beyond c.seat.places (finding_at c trail.base trail.links AtRest)) ≡ false → shares c ≡ false → is_read c.op ≡ false → is_moving_on c.lasts.seen.phase ≡ false
+    → judged c (reached c.seat.places (walking c trail place entry loading step) 0) ≡ reserving c (ended_at c trail place entry loading walked.Nowhere) place entry None (limit_of c)
+unfolding walk_ledto walking_ask copies copies_from appends
+ends_nowhere c trail place entry loading step own calm updates still = rw (calm, own, updates, still) refl
+
+pub nowhere_reserves : (c : Course) (place entry : ℕ) (s : SessionState) → IsReached c place entry 0 s → shares c ≡ false → is_read c.op ≡ false → is_moving_on c.lasts.seen.phase ≡ false → IsAtReserve c place entry None (limit_of c) s
 unfolding IsReached IsAtReserve trying_ask appending_ask reserve_ask passed
 nowhere_reserves c place entry s at calm updates still =
     let w = ended_at c at.0 place entry at.2 walked.Nowhere in
-    (w, stays c (reserving c w place entry None reserve.LoadsLimit) s (subst (λ (t : TryState). IsLed c t s) (ends_nowhere c at.0 place entry at.2 at.3 calm updates still) at.4) refl refl)
+    (w, stays c (reserving c w place entry None (limit_of c)) s (subst (λ (t : TryState). IsLed c t s) (ends_nowhere c at.0 place entry at.2 at.3 (none_counted c at.0 entry 0 at.1) calm updates still) at.4) refl refl)
 
 -- ---- the chain leaves memory, and the new value doesn't depend on the old one
 leaves_memory : (c : Course) (trail : Trail) (place entry addr : ℕ) (loading : Loading) (step : Walking) → (addr == 0) ≡ false → nat_lt addr (head_in c) ≡ true → shares c ≡ false → is_read c.op ≡ false → is_blind c.op ≡ true
     → is_moving_on c.lasts.seen.phase ≡ false
-    → judged c (reached c.seat.places (walking c trail place entry loading step) addr) ≡ reserving c (ended_at c trail place entry loading (walked.OnDisk (record { 0 = addr }))) place entry None reserve.LoadsLimit
+    → judged c (reached c.seat.places (walking c trail place entry loading step) addr) ≡ reserving c (ended_at c trail place entry loading (walked.OnDisk (record { 0 = addr }))) place entry None (limit_of c)
 unfolding walk_ledto walking_ask copies copies_from appends
 leaves_memory c trail place entry addr loading step some low calm updates blind still = rw (some, low, calm, updates, blind, still) refl
 
 pub disk_reserves : (c : Course) (place entry addr : ℕ) (s : SessionState) → IsReached c place entry addr s → 0 < addr → addr < head_in c → shares c ≡ false → is_read c.op ≡ false → is_blind c.op ≡ true → is_moving_on c.lasts.seen.phase ≡ false
-    → IsAtReserve c place entry None reserve.LoadsLimit s
+    → IsAtReserve c place entry None (limit_of c) s
 unfolding IsReached IsAtReserve trying_ask appending_ask reserve_ask passed
 disk_reserves c place entry addr s at some low calm updates blind still =
     let w = ended_at c at.0 place entry at.2 (walked.OnDisk (record { 0 = addr })) in (
       w,
-      stays c (reserving c w place entry None reserve.LoadsLimit) s
+      stays c (reserving c w place entry None (limit_of c)) s
           (subst (λ (t : TryState). IsLed c t s) (leaves_memory c at.0 place entry addr at.2 at.3 (grind (arith, nat_tests)) (grind (arith, nat_tests)) calm updates blind still) at.4) refl refl,
     )
 

@@ -1,6 +1,6 @@
 -- How the machine has caught up behind a call that went straight to its end.
 use Rattle.std.proofs.Common.{◌≡◌, ℕ, ◌+◌, ◌<◌, refl, sym, ap, ◌∙◌, subst, arith, true, false, List, [], ◌∷◌, ◌++◌, length}
-use Rattle.std.specs.Prelude.{Option, Some, None, IfSome, IfNone}
+use Rattle.std.specs.Prelude.{Option, Some, None, IfSome, IfNone, is_some}
 use Rattle.std.proofs.lemmas.Bool.Decides.{nat_tests}
 use Rattle.std.proofs.lemmas.List.{length_push}
 use Rattle.fkv_base.specs.Limits.{max_pending}
@@ -19,10 +19,12 @@ use Rattle.fkv_session.specs.declared.sessions.Sitting.TheVariants.{Idle}
 use Rattle.fkv_session.specs.Alike.{Lasting, StandAlike, lasting}
 use Rattle.fkv_session.specs.Sessions.{Seat, SessionState, Sitter, session_ask, session_begun, is_busy, is_full, request_of, update_waiting}
 use Rattle.fkv_straight.specs.declared.going.Going.{Going}
-use Rattle.fkv_straight.specs.Course.{course_of, next_name, GoesBy}
+use Rattle.fkv_straight.specs.Course.{course_of, next_name, GoesBy, Goes}
 use Rattle.fkv_straight.specs.Standing.{begins, IsEnded, IsWaiting, IsCaughtUp}
 use Rattle.fkv_straight.proofs.Goings.{goes_on_by}
 use Rattle.fkv_straight.proofs.Moves.{asks_none}
+use Rattle.fkv_ops.specs.Bounds.{bounds_of, tail_bound}
+use Rattle.fkv_ops.specs.declared.bounds.Bounds.{Bounds}
 
 -- a call that has ended is in hand no more
 ended_idle : (s : SessionState) (its : Told) → s.step ≡ Idle its → is_busy s.step ≡ false
@@ -75,13 +77,20 @@ update_asks k m u l serial reply alike e done =
     ap (λ (s : Serial). Done (told.Done s reply)) (serial_is serial (l.serial + 1) (e ∙ ap (λ (n : ℕ). n + 1) (serial_lasts m ∙ ap (λ (x : Lasting). x.serial) alike)))
     ∙ sym (asks_none k u (told.Done (record { 0 = l.serial + 1 }) reply) done.ended)
 
--- the same of an update that waits, if the machine had room for it
-pub waiting_ended : (k : Seat) (m n : Sitter) (s u : SessionState) (op : Op) (r : Option Told) → is_read op ≡ false → lasting m.state ≡ lasting s
-    → IfSome r (λ (its : Told). (its ≡ told.Pending (record { 0 = m.state.serial + 1 }) reason.Contended) × (length m.state.requests + 1 < max_pending) × (n ≡ record m { state = update_waiting m.state op })) → IsWaiting (course_of k s op (call.Op op)) u
+-- a store whose calls have no bound
+bounds_none : (b : Option Bounds) → is_some (tail_bound b) ≡ false → b ≡ None
+bounds_none None h = refl
+bounds_none (Some bounds) h = absurd (cc h)
+
+-- the same of an update that waits, if the machine had room for it, and calls have no bound
+pub waiting_ended : (k : Seat) (m n : Sitter) (s u : SessionState) (op : Op) (g : Going) (r : Option Told) → Goes (course_of k s op (call.Op op)) k op g → is_read op ≡ false → lasting m.state ≡ lasting s
+    → IfSome r (λ (its : Told). (its ≡ told.Pending (record { 0 = m.state.serial + 1 }) reason.Contended) × (length m.state.requests + 1 < max_pending) × (n ≡ record m { state = update_waiting m.state op }))
+    → IfSome r (λ (its : Told). is_some g.bound ≡ false) → (bounds_of k.shape ≡ None → IsWaiting (course_of k s op (call.Op op)) u)
     → IfSome r (λ (its : Told). (Done its ≡ session_ask k u) × IsCaughtUp n.state u)
-waiting_ended k m n s u op (Some its) updates alike h waits =
-    (waiting_asks k m.state s u op its alike h.0 waits, waiting_caught_up m.state n.state u k s op updates alike (ap (λ (x : Sitter). x.state) h.2) waits)
-waiting_ended k m n s u op None updates alike h waits = tt
+waiting_ended k m n s u op g (Some its) goes updates alike h none waits =
+    let so = waits (bounds_none (bounds_of k.shape) (ap (λ (o : Option ℕ). is_some o) goes.its_bound ∙ none)) in
+    (waiting_asks k m.state s u op its alike h.0 so, waiting_caught_up m.state n.state u k s op updates alike (ap (λ (x : Sitter). x.state) h.2) so)
+waiting_ended k m n s u op g None goes updates alike h none waits = tt
 
 pub waiting_seat : (m n : Sitter) (op : Op) (r : Option Told)
     → IfSome r (λ (its : Told). (its ≡ told.Pending (record { 0 = m.state.serial + 1 }) reason.Contended) × (length m.state.requests + 1 < max_pending) × (n ≡ record m { state = update_waiting m.state op })) → IfNone r (n ≡ m) → n.seat ≡ m.seat

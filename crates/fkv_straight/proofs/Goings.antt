@@ -27,6 +27,8 @@ use Rattle.fkv_straight.specs.Memory.{is_in_memory}
 use Rattle.fkv_straight.specs.Met.{IsInMemory, latch_in}
 use Rattle.fkv_straight.specs.Standing.{asked, leads}
 use Rattle.fkv_straight.proofs.Tests.{and_false}
+use Rattle.fkv_log.specs.Reserving.{limit_within}
+use Rattle.fkv_ops.specs.Bounds.{bounds_at, tail_bound}
 
 -- the seat of a line is that of the course
 pub asks_at : (c : Course) (q : Seat) (s : SessionState) (ask : Ask Told) → c.seat ≡ q → asked c.seat s ≡ ask → asked q s ≡ ask
@@ -79,6 +81,10 @@ place_asks c k op g place at q s ask goes same e h = asks_at c q s (ask at) (goe
 
 pub leads_on : (c : Course) (k : Seat) (op : Op) (g : Going) (q : Seat) (s u : SessionState) (reply : ℕ) → Goes c k op g → q ≡ k → u ≡ leads q s reply → u ≡ leads c.seat s reply
 leads_on c k op g q s u reply goes same e = leads_at c q s u reply (goes.its_seat ∙ sym same) e
+
+-- the limit that counts for a course
+pub limit_is : (c : Course) (k : Seat) (op : Op) (g : Going) (found limit : ℕ) → Goes c k op g → limit ≡ limit_within g.bound found → limit ≡ limit_within (tail_bound (bounds_at c.occasion)) found
+limit_is c k op g found limit goes e = e ∙ ap (λ (o : Option ℕ). limit_within o found) (sym goes.its_bound)
 
 pub updates_in : (c : Course) (k : Seat) (op : Op) (g : Going) (b : Bool) → Goes c k op g → is_read op ≡ b → is_read c.op ≡ b
 updates_in c k op g b goes e = ap (λ (x : Op). is_read x) goes.its_op ∙ e
@@ -142,6 +148,7 @@ goes_on_by m n s g e seen awake spare room by =
       its_mark = by.its_mark;
       moves_on = ap (λ (x : Seen). is_moving_on x.phase) seen ∙ by.moves_on;
       prepares = ap (λ (x : Seen). is_prepare x.phase) seen ∙ by.prepares;
+      its_bound = by.its_bound;
       awake = awake ∙ by.awake;
       room = room;
       spare_fits = subst (λ (x : ℕ). x ≤ g.places.overflow) (sym spare) by.spare_fits;

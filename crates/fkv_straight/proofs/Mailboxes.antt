@@ -20,7 +20,7 @@ use Rattle.fkv_ops.specs.declared.walking.Walking.TheVariants as walk
 use Rattle.fkv_ops.specs.Appending.{append_rested}
 use Rattle.fkv_ops.specs.HeaderWords.{header_said}
 use Rattle.fkv_ops.specs.Requests.{is_read}
-use Rattle.fkv_ops.specs.Trying.{TryState, told_value, trying_ask, walk_ledto, ends}
+use Rattle.fkv_ops.specs.Trying.{TryState, told_value, trying_ask, walk_ledto, ends, ends_so}
 use Rattle.fkv_ops.specs.Values.{value_of}
 use Rattle.fkv_ops.specs.Walking.{reached, walking_ask}
 use Rattle.fkv_pending.specs.declared.attempting.Attempting.TheVariants.{Ended as AtEnd}
@@ -46,7 +46,9 @@ use Rattle.fkv_straight.specs.Course.{Course, head_in, shares}
 use Rattle.fkv_straight.specs.Mailbox.{HasTaken, IsAsking, IsSought, Looks, Puts, PutsOn, looking, polling, putting, putting_on}
 use Rattle.fkv_straight.specs.Met.{IsReached, Trail, judged, trying, walking}
 use Rattle.fkv_straight.specs.Standing.{IsEnded, IsLed, asked, begins, leads, led_attempt, resumed, sitting}
-use Rattle.fkv_straight.proofs.Tests.{differs}
+use Rattle.fkv_straight.proofs.Tests.{and_false, differs}
+use Rattle.fkv_ops.specs.Bounds.{bounds_at, has_bounds}
+use Rattle.fkv_ops.specs.declared.bounds.Bounds.{Bounds}
 
 -- ---- the chain leaves memory: the try ends, and the attempt loads the state of the mailbox
 abbrev awaiting : Course → Trail → ℕ → ℕ → Loading → ℕ → TryState
@@ -54,8 +56,8 @@ awaiting c trail place entry loading addr = trying c (walking c trail place entr
 
 leaves_memory : (c : Course) (trail : Trail) (place entry addr : ℕ) (loading : Loading) (step : Walking) → (addr == 0) ≡ false → nat_lt addr (head_in c) ≡ true → shares c ≡ false → is_read c.op ≡ true
     → judged c (reached c.seat.places (walking c trail place entry loading step) addr) ≡ awaiting c trail place entry loading addr
-unfolding walk_ledto walking_ask ends
-leaves_memory c trail place entry addr loading step some low calm reads = rw (some, low, calm, reads) refl
+unfolding walk_ledto walking_ask ends ends_so
+leaves_memory c trail place entry addr loading step some low calm reads = rw (some, low, calm, reads, and_false (has_bounds (bounds_at c.occasion))) refl
 
 attempt_puts : (c : Course) (trail : Trail) (place entry addr : ℕ) (loading : Loading) → shares c ≡ false
     → led_attempt c (awaiting c trail place entry loading addr)
@@ -63,11 +65,11 @@ attempt_puts : (c : Course) (trail : Trail) (place entry addr : ℕ) (loading : 
 unfolding trying_ask try_ledto with_latch with_held with_sought
 attempt_puts c trail place entry addr loading calm = rw calm refl
 
-session_puts : (c : Course) (asks : ℕ) (t : TryState) (sought : DiskRecord) → c.occasion ≡ AtCall → resumed c asks (putting c t sought (LoadsState (Put sought.addr))) ≡ sitting c asks (putting c t sought (LoadsState (Put sought.addr)))
+session_puts : {bounds : Option Bounds} (c : Course) (asks : ℕ) (t : TryState) (sought : DiskRecord) → c.occasion ≡ AtCall bounds → resumed c asks (putting c t sought (LoadsState (Put sought.addr))) ≡ sitting c asks (putting c t sought (LoadsState (Put sought.addr)))
 unfolding attempting_ask attempt_ledto mail_ask passed
 session_puts c asks t sought calls = rw calls refl
 
-pub sought_puts : (c : Course) (sought : DiskRecord) (s : SessionState) → c.occasion ≡ AtCall → IsSought c sought s → shares c ≡ false → is_read c.op ≡ true → Puts c sought (LoadsState (Put sought.addr)) s
+pub sought_puts : {bounds : Option Bounds} (c : Course) (sought : DiskRecord) (s : SessionState) → c.occasion ≡ AtCall bounds → IsSought c sought s → shares c ≡ false → is_read c.op ≡ true → Puts c sought (LoadsState (Put sought.addr)) s
 unfolding IsReached IsLed Puts
 sought_puts c sought s calls at calm reads =
     let way = at.3 in
@@ -78,19 +80,19 @@ sought_puts c sought s calls at calm reads =
     (t, led.0, led.1 ∙ (ap (λ (a : AttemptState). resumed c led.0 a) (attempt_puts c way.0 at.0 sought.entry sought.addr.0 way.2 calm) ∙ session_puts c led.0 t sought calls))
 
 -- ---- it puts the address there if the mailbox is empty, and waits
-put_asks : (c : Course) (sought : DiskRecord) (m : Mailing) (s : SessionState) → c.occasion ≡ AtCall → Puts c sought m s → asked c.seat s ≡ passed (passed (mail_ask c.seat.number m) tried.Shift) told.Slept
+put_asks : {bounds : Option Bounds} (c : Course) (sought : DiskRecord) (m : Mailing) (s : SessionState) → c.occasion ≡ AtCall bounds → Puts c sought m s → asked c.seat s ≡ passed (passed (mail_ask c.seat.number m) tried.Shift) told.Slept
 unfolding Puts asked sitting_ask attempting_ask
 put_asks c sought m s calls at = rw (at.2, calls) refl
 
-pub state_asks : (c : Course) (sought : DiskRecord) (s : SessionState) → c.occasion ≡ AtCall → Puts c sought (LoadsState (Put sought.addr)) s → asked c.seat s ≡ Load (session_place c.seat.number own.MailState)
+pub state_asks : {bounds : Option Bounds} (c : Course) (sought : DiskRecord) (s : SessionState) → c.occasion ≡ AtCall bounds → Puts c sought (LoadsState (Put sought.addr)) s → asked c.seat s ≡ Load (session_place c.seat.number own.MailState)
 unfolding mail_ask passed
 state_asks c sought s calls at = put_asks c sought (LoadsState (Put sought.addr)) s calls at
 
-pub address_asks : (c : Course) (sought : DiskRecord) (s : SessionState) → c.occasion ≡ AtCall → Puts c sought (StoresAddress sought.addr) s → asked c.seat s ≡ Store (session_place c.seat.number own.MailAddress) sought.addr.0
+pub address_asks : {bounds : Option Bounds} (c : Course) (sought : DiskRecord) (s : SessionState) → c.occasion ≡ AtCall bounds → Puts c sought (StoresAddress sought.addr) s → asked c.seat s ≡ Store (session_place c.seat.number own.MailAddress) sought.addr.0
 unfolding mail_ask passed
 address_asks c sought s calls at = put_asks c sought (StoresAddress sought.addr) s calls at
 
-pub asked_asks : (c : Course) (sought : DiskRecord) (s : SessionState) → c.occasion ≡ AtCall → Puts c sought StoresAsked s → asked c.seat s ≡ Store (session_place c.seat.number own.MailState) 1
+pub asked_asks : {bounds : Option Bounds} (c : Course) (sought : DiskRecord) (s : SessionState) → c.occasion ≡ AtCall bounds → Puts c sought StoresAsked s → asked c.seat s ≡ Store (session_place c.seat.number own.MailState) 1
 unfolding mail_ask passed
 asked_asks c sought s calls at = put_asks c sought StoresAsked s calls at
 
@@ -98,24 +100,24 @@ asked_asks c sought s calls at = put_asks c sought StoresAsked s calls at
 abbrev counted : Course → ℕ → AttemptState → ℕ
 counted c asks a = asks_after asks (is_word_ask (session_ask c.seat (sitting c asks a)))
 
-pub found_empty : (c : Course) (sought : DiskRecord) (found : ℕ) (s u : SessionState) → c.occasion ≡ AtCall → Puts c sought (LoadsState (Put sought.addr)) s → u ≡ leads c.seat s found → found ≡ 0 → Puts c sought (StoresAddress sought.addr) u
+pub found_empty : {bounds : Option Bounds} (c : Course) (sought : DiskRecord) (found : ℕ) (s u : SessionState) → c.occasion ≡ AtCall bounds → Puts c sought (LoadsState (Put sought.addr)) s → u ≡ leads c.seat s found → found ≡ 0 → Puts c sought (StoresAddress sought.addr) u
 unfolding Puts leads sitting_next attempt_ledto attempting_next put_ledto attempting_ask mail_next mail_ask passed
 found_empty c sought found s u calls at e empty =
     let is : (found == 0) ≡ true = grind (arith, nat_tests, empty) in
     (at.0, counted c at.1 (putting c at.0 sought (LoadsState (Put sought.addr))), e ∙ rw (at.2, calls, is) refl)
 
-pub found_occupied : (c : Course) (sought : DiskRecord) (found : ℕ) (s u : SessionState) → c.occasion ≡ AtCall → is_read c.op ≡ true → Puts c sought (LoadsState (Put sought.addr)) s → u ≡ leads c.seat s found → ¬ (found ≡ 0) → IsAsking c sought false u
+pub found_occupied : {bounds : Option Bounds} (c : Course) (sought : DiskRecord) (found : ℕ) (s u : SessionState) → c.occasion ≡ AtCall bounds → is_read c.op ≡ true → Puts c sought (LoadsState (Put sought.addr)) s → u ≡ leads c.seat s found → ¬ (found ≡ 0) → IsAsking c sought false u
 unfolding Puts leads sitting_next attempt_ledto attempting_next put_ledto attempting_ask mail_next mail_ask passed accepts lasting
 found_occupied c sought found s u calls reads at e some = let not : (found == 0) ≡ false = differs found 0 some in record {
   ended = rw (e, at.2, calls, not, reads) refl;
   lasts = rw (e, at.2, calls, not, reads) refl;
 }
 
-pub address_stored : (c : Course) (sought : DiskRecord) (reply : ℕ) (s u : SessionState) → c.occasion ≡ AtCall → Puts c sought (StoresAddress sought.addr) s → u ≡ leads c.seat s reply → Puts c sought StoresAsked u
+pub address_stored : {bounds : Option Bounds} (c : Course) (sought : DiskRecord) (reply : ℕ) (s u : SessionState) → c.occasion ≡ AtCall bounds → Puts c sought (StoresAddress sought.addr) s → u ≡ leads c.seat s reply → Puts c sought StoresAsked u
 unfolding Puts leads sitting_next attempt_ledto attempting_next put_ledto attempting_ask mail_next mail_ask passed
 address_stored c sought reply s u calls at e = (at.0, counted c at.1 (putting c at.0 sought (StoresAddress sought.addr)), e ∙ rw (at.2, calls) refl)
 
-pub asked_stored : (c : Course) (sought : DiskRecord) (reply : ℕ) (s u : SessionState) → c.occasion ≡ AtCall → is_read c.op ≡ true → Puts c sought StoresAsked s → u ≡ leads c.seat s reply → IsAsking c sought true u
+pub asked_stored : {bounds : Option Bounds} (c : Course) (sought : DiskRecord) (reply : ℕ) (s u : SessionState) → c.occasion ≡ AtCall bounds → is_read c.op ≡ true → Puts c sought StoresAsked s → u ≡ leads c.seat s reply → IsAsking c sought true u
 unfolding Puts leads sitting_next attempt_ledto attempting_next put_ledto attempting_ask mail_next mail_ask passed with_asked accepts lasting
 asked_stored c sought reply s u calls reads at e = record {
   ended = rw (e, at.2, calls, reads) refl;

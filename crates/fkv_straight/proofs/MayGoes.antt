@@ -13,6 +13,7 @@ use Rattle.fkv_map.specs.Map.{is_reserved}
 use Rattle.fkv_marks.specs.Marks.{mark}
 use Rattle.fkv_plane.specs.declared.places.Places.{Places}
 use Rattle.fkv_ops.specs.declared.requests.Occasion.TheVariants.{Call as AtCall}
+use Rattle.fkv_ops.specs.Bounds.{bounds_of}
 use Rattle.fkv_ops.specs.Requests.{is_read}
 use Rattle.fkv_session.specs.Alike.{Lasting, lasting}
 use Rattle.fkv_session.specs.Sessions.{Seat, SessionState, refusal_of, is_full, version_within}
@@ -35,6 +36,7 @@ goes_call k s op g by = record {
   its_mark = ap mark (ap (λ (v : ℕ). version_within v) by.version ∙ version_same g.version by.some_version by.version_fits) ∙ by.its_mark;
   moves_on = by.moves_on;
   prepares = by.prepares;
+  its_bound = by.its_bound;
   spare_fits = subst (λ (p : Places). s.spare ≤ p.overflow) (sym by.places) by.spare_fits;
   settled = record {
     own = ap (λ (v : ℕ). version_within v) by.version ∙ (version_same g.version by.some_version by.version_fits ∙ sym by.version);
@@ -62,7 +64,7 @@ goes_for_read k s op key g reads by = subst (λ (o : Op). MayGo k s o g) (sym re
 
 -- ---- a session of which the same lasts may make it too, and begins it so
 abbrev course_by : Seat → Lasting → Op → Course
-course_by k l op = record { seat = k; lasts = l; op = op; occasion = AtCall; name = next_name l op; hand = op }
+course_by k l op = record { seat = k; lasts = l; op = op; occasion = AtCall (bounds_of k.shape); name = next_name l op; hand = op }
 
 abbrev refusal_by : Lasting → Op → Option Fault
 refusal_by l op = if not l.is_awake then Some fault.Asleep else if is_reserved op then Some fault.ValueReserved else if is_full l.requests then Some fault.PendingFull else if not (is_read op) && (l.serial == last_serial) then Some fault.SerialsSpent else None

@@ -1,6 +1,6 @@
 -- How a session goes on whose try is led on by a reply.
 use Rattle.std.proofs.Common.{◌≡◌, ℕ, ◌+◌, refl, sym, ap, ◌∙◌, subst, arith, true, false, [], ◌∷◌, ◌++◌}
-use Rattle.std.specs.Prelude.{None, nat_lt}
+use Rattle.std.specs.Prelude.{None, nat_lt, Option}
 use Rattle.std.proofs.lemmas.Bool.Decides.{nat_tests}
 use Rattle.fkv_base.specs.declared.numbers.Value.{Value}
 use Rattle.fkv_map.specs.declared.operations.Reply.{Reply}
@@ -26,11 +26,12 @@ use Rattle.fkv_session.specs.Sessions.{Seat, SessionState, sitting_ask, sitting_
 use Rattle.fkv_straight.specs.Course.{Course, pending_in, request_in, IsLone, IsSettled}
 use Rattle.fkv_straight.specs.Standing.{asked, leads, attempt_leads, attempting, sitting, led_attempt, resumed, Tries, IsLed, next_try, IsEnded, IsDone, IsWaiting, waiting_lasts, waiting_told}
 use Rattle.fkv_straight.proofs.Tests.{or_false}
+use Rattle.fkv_ops.specs.declared.bounds.Bounds.{Bounds}
 
 -- ---- the session asks what its try asks
 asks_when : (c : Course) (t : TryState) (s : SessionState) (its : Occasion) → c.occasion ≡ its → Tries c t s → asked c.seat s ≡ passed (passed (try_ask c.seat.places t) tried.Shift) told.Slept
 unfolding Tries asked sitting_ask attempting_ask
-asks_when c t s AtCall when at = rw (at.1, when) refl
+asks_when c t s (AtCall bounds) when at = rw (at.1, when) refl
 asks_when c t s AtPoll when at = rw (at.1, when) refl
 
 asks_passed : (c : Course) (t : TryState) (s : SessionState) → Tries c t s → asked c.seat s ≡ passed (passed (try_ask c.seat.places t) tried.Shift) told.Slept
@@ -59,7 +60,7 @@ asks_add c t place number s at e = asks_passed c t s at ∙ ap (λ (x : Ask TryA
 -- ---- a reply leads the try, and the session by where the try is then
 moves : (c : Course) (t : TryState) (reply : ℕ) (s : SessionState) (its : Occasion) → c.occasion ≡ its → Tries c t s → IsLed c (next_try c t reply) (leads c.seat s reply)
 unfolding Tries IsLed leads sitting_next attempting_next
-moves c t reply s AtCall when at = (asks_after at.0 (is_word_ask (session_ask c.seat (sitting c at.0 (attempting c t)))), rw (at.1, when) refl)
+moves c t reply s (AtCall bounds) when at = (asks_after at.0 (is_word_ask (session_ask c.seat (sitting c at.0 (attempting c t)))), rw (at.1, when) refl)
 moves c t reply s AtPoll when at = (asks_after at.0 (is_word_ask (session_ask c.seat (sitting c at.0 (attempting c t)))), rw (at.1, when) refl)
 
 pub led_on : (c : Course) (t : TryState) (reply : ℕ) (s u : SessionState) → Tries c t s → u ≡ leads c.seat s reply → IsLed c (next_try c t reply) u
@@ -80,12 +81,12 @@ attempt_stays c t (Done its) e word none = absurd (cc word)
 
 leads_on : (its : Occasion) (k : Seat) (s : SessionState) (ask : Ask TryAnswer) → is_word_ask ask ≡ true → attempt_leads its k s ask ≡ s
 unfolding attempt_ledto poll_ledto
-leads_on AtCall k s (Load place) word = refl
-leads_on AtCall k s (Store place new) word = refl
-leads_on AtCall k s (Swap place new) word = refl
-leads_on AtCall k s (Cas place old new) word = refl
-leads_on AtCall k s (Add place number) word = refl
-leads_on AtCall k s (Max place number) word = refl
+leads_on (AtCall bounds) k s (Load place) word = refl
+leads_on (AtCall bounds) k s (Store place new) word = refl
+leads_on (AtCall bounds) k s (Swap place new) word = refl
+leads_on (AtCall bounds) k s (Cas place old new) word = refl
+leads_on (AtCall bounds) k s (Add place number) word = refl
+leads_on (AtCall bounds) k s (Max place number) word = refl
 leads_on AtPoll k s (Load place) word = refl
 leads_on AtPoll k s (Store place new) word = refl
 leads_on AtPoll k s (Swap place new) word = refl
@@ -148,7 +149,7 @@ stands_so c t s led word = (led.0, led.1 ∙ (ap (λ (a : AttemptState). resumed
 
 asks_so : (c : Course) (t : TryState) (s : SessionState) (asks : ℕ) (its : Occasion) → c.occasion ≡ its → s ≡ told_effect c asks t → asked c.seat s ≡ passed (passed (try_ask c.seat.places t) tried.Shift) told.Slept
 unfolding asked sitting_ask attempting_ask
-asks_so c t s asks AtCall when e = rw (e, when) refl
+asks_so c t s asks (AtCall bounds) when e = rw (e, when) refl
 asks_so c t s asks AtPoll when e = rw (e, when) refl
 
 pub asks_behind : (c : Course) (t : TryState) (place number : ℕ) (s : SessionState) → IsLed c t s → try_ask c.seat.places t ≡ Add place number → asked c.seat s ≡ Add place number
@@ -159,7 +160,7 @@ asks_behind c t place number s led e =
 
 moves_so : (c : Course) (t : TryState) (reply : ℕ) (s : SessionState) (asks : ℕ) (its : Occasion) → c.occasion ≡ its → s ≡ told_effect c asks t → IsLed c (next_try c t reply) (leads c.seat s reply)
 unfolding IsLed leads sitting_next attempting_next
-moves_so c t reply s asks AtCall when e = (asks_after asks (is_word_ask (session_ask c.seat (told_effect c asks t))), rw (e, when) refl)
+moves_so c t reply s asks (AtCall bounds) when e = (asks_after asks (is_word_ask (session_ask c.seat (told_effect c asks t))), rw (e, when) refl)
 moves_so c t reply s asks AtPoll when e = (asks_after asks (is_word_ask (session_ask c.seat (told_effect c asks t))), rw (e, when) refl)
 
 pub led_behind : (c : Course) (t : TryState) (reply : ℕ) (s u : SessionState) → IsLed c t s → is_word_ask (try_ask c.seat.places t) ≡ true → u ≡ leads c.seat s reply → IsLed c (next_try c t reply) u
@@ -168,14 +169,14 @@ led_behind c t reply s u led word e =
     subst (IsLed c (next_try c t reply)) (sym e) (moves_so c t reply s so.0 c.occasion refl so.1)
 
 -- ---- where the try ends the call is answered
-pub ends_found : (c : Course) (t : TryState) (value : Value) (s : SessionState) → c.occasion ≡ AtCall → IsLed c t s → t.step ≡ Ended (tried.Found value) → t.spare ≡ c.lasts.spare → IsEnded c.lasts (told.Found value) s
+pub ends_found : {bounds : Option Bounds} (c : Course) (t : TryState) (value : Value) (s : SessionState) → c.occasion ≡ AtCall bounds → IsLed c t s → t.step ≡ Ended (tried.Found value) → t.spare ≡ c.lasts.spare → IsEnded c.lasts (told.Found value) s
 unfolding IsLed lasting trying_ask try_ledto attempt_ledto attempting_ask passed with_latch
 ends_found c t value s calls led ends spare = record {
   ended = rw led.1 (rw (calls, ends) refl);
   lasts = rw led.1 (rw (calls, ends, spare, or_false c.lasts.is_orphaned) refl);
 }
 
-pub ends_absent : (c : Course) (t : TryState) (s : SessionState) → c.occasion ≡ AtCall → IsLed c t s → t.step ≡ Ended tried.Absent → t.spare ≡ c.lasts.spare → IsEnded c.lasts told.Absent s
+pub ends_absent : {bounds : Option Bounds} (c : Course) (t : TryState) (s : SessionState) → c.occasion ≡ AtCall bounds → IsLed c t s → t.step ≡ Ended tried.Absent → t.spare ≡ c.lasts.spare → IsEnded c.lasts told.Absent s
 unfolding IsLed lasting trying_ask try_ledto attempt_ledto attempting_ask passed with_latch
 ends_absent c t s calls led ends spare = record {
   ended = rw led.1 (rw (calls, ends) refl);
@@ -190,11 +191,11 @@ attempt_waits : (c : Course) (t : TryState) → t.step ≡ Ended (tried.Wait rea
 unfolding trying_ask try_ledto with_latch
 attempt_waits c t ends spare free = rw (ends, spare, free) refl
 
-told_waits : (c : Course) (asks : ℕ) (t : TryState) → c.occasion ≡ AtCall → is_read c.op ≡ false → (resumed c asks (waited c t)).step ≡ Idle (told.Pending (record { 0 = c.lasts.serial + 1 }) reason.Contended)
+told_waits : {bounds : Option Bounds} (c : Course) (asks : ℕ) (t : TryState) → c.occasion ≡ AtCall bounds → is_read c.op ≡ false → (resumed c asks (waited c t)).step ≡ Idle (told.Pending (record { 0 = c.lasts.serial + 1 }) reason.Contended)
 unfolding attempt_ledto attempting_ask accepts
 told_waits c asks t calls updates = rw (calls, updates) refl
 
-lasts_waiting : (c : Course) (asks : ℕ) (t : TryState) → c.occasion ≡ AtCall → is_read c.op ≡ false → lasting (resumed c asks (waited c t)) ≡ record c.lasts { serial = c.lasts.serial + 1; requests = c.lasts.requests ++ pending_in c ∷ [] }
+lasts_waiting : {bounds : Option Bounds} (c : Course) (asks : ℕ) (t : TryState) → c.occasion ≡ AtCall bounds → is_read c.op ≡ false → lasting (resumed c asks (waited c t)) ≡ record c.lasts { serial = c.lasts.serial + 1; requests = c.lasts.requests ++ pending_in c ∷ [] }
 unfolding lasting attempt_ledto attempting_ask accepts
 lasts_waiting c asks t calls updates = rw (calls, updates) refl
 
@@ -207,7 +208,7 @@ unfolding lasting poll_ledto keeps_request polls_at attempting_ask
 lasts_polled c asks t polls lone = rw (polls, lone.waits) refl
 
 waits_when : (c : Course) (asks : ℕ) (t : TryState) (when : Occasion) → c.occasion ≡ when → IsSettled c → is_read c.op ≡ false → IsEnded (waiting_lasts when c) (waiting_told when c) (resumed c asks (waited c t))
-waits_when c asks t AtCall calls settled updates = record { ended = told_waits c asks t calls updates; lasts = lasts_waiting c asks t calls updates }
+waits_when c asks t (AtCall bounds) calls settled updates = record { ended = told_waits c asks t calls updates; lasts = lasts_waiting c asks t calls updates }
 waits_when c asks t AtPoll polls settled updates = record { ended = told_polled c asks t polls (settled.lone polls); lasts = lasts_polled c asks t polls (settled.lone polls) }
 
 pub ends_waiting : (c : Course) (t : TryState) (s : SessionState) → IsSettled c → IsLed c t s → t.step ≡ Ended (tried.Wait reason.Contended) → t.spare ≡ c.lasts.spare → t.has_shared ≡ false → is_read c.op ≡ false → IsWaiting c s
@@ -220,7 +221,7 @@ ends_waiting c t s settled led ends spare free updates =
 is_owed_not : (version seen : ℕ) → version ≡ seen → nat_lt version seen ≡ false
 is_owed_not version seen e = grind (arith, nat_tests)
 
-done_call : (c : Course) (t : TryState) (its : Reply) (s : SessionState) → c.occasion ≡ AtCall → IsLed c t s → t.step ≡ Ended (tried.Done its) → t.spare ≡ c.lasts.spare → is_read c.op ≡ false → IsDone c its s
+done_call : {bounds : Option Bounds} (c : Course) (t : TryState) (its : Reply) (s : SessionState) → c.occasion ≡ AtCall bounds → IsLed c t s → t.step ≡ Ended (tried.Done its) → t.spare ≡ c.lasts.spare → is_read c.op ≡ false → IsDone c its s
 unfolding IsLed lasting trying_ask try_ledto attempt_ledto attempting_ask passed with_latch
 done_call c t its s calls led ends spare updates = record {
   ended = rw led.1 (rw (calls, ends, updates) refl);
@@ -239,7 +240,7 @@ pub ends_done : (c : Course) (t : TryState) (its : Reply) (s : SessionState) →
 ends_done c t its s settled led ends spare updates = by c.occasion refl
   where
     by : (when : Occasion) → c.occasion ≡ when → IsDone c its s
-    by AtCall calls = done_call c t its s calls led ends spare updates
+    by (AtCall bounds) calls = done_call c t its s calls led ends spare updates
     by AtPoll polls = done_poll c t its s polls (settled.lone polls) (is_owed_not (request_in c).version.0 c.lasts.seen.version.0 settled.own) led ends spare updates
 
 -- what a session asks whose call has ended

@@ -81,6 +81,7 @@ may_poll k s l g its by only plain calm none updates =
         its_mark = ap mark (ap (λ (v : ℕ). version_within v) by.version ∙ version_same g.version by.some_version by.version_fits) ∙ by.its_mark;
         moves_on = by.moves_on;
         prepares = by.prepares;
+        its_bound = refl;
         spare_fits = subst (λ (p : Places). s.spare ≤ p.overflow) (sym by.places) by.spare_fits;
         settled = record {
           own = ap (λ (v : ℕ). version_within v) by.version ∙ (version_same g.version by.some_version by.version_fits ∙ sym by.version);
@@ -122,6 +123,7 @@ goes_hand k l op one other g goes = record {
   its_mark = goes.its_mark;
   moves_on = goes.moves_on;
   prepares = goes.prepares;
+  its_bound = goes.its_bound;
   spare_fits = goes.spare_fits;
   settled = record { own = goes.settled.own; lone = λ polls. record { waits = (goes.settled.lone polls).waits; none_told = (goes.settled.lone polls).none_told } };
 }
@@ -144,7 +146,7 @@ first_in s = refl
 
 pub poll_alike : (k q : Seat) (r s : SessionState) (l : Lone) (g : Going) → MayPoll k r l g → k ≡ q → lasting r ≡ lasting s → MayPoll q s l g
 poll_alike k q r s l g may same alike = record {
-  goes = goes_poll k q r s l.op g may.goes same alike;
+  goes = goes_poll k q r s l.op (record g { bound = None }) may.goes same alike;
   awake = sym (is_awake_in s) ∙ (ap (λ (x : Lasting). x.is_awake) (sym alike) ∙ (is_awake_in r ∙ may.awake));
   no_orphan = sym (is_orphaned_in s) ∙ (ap (λ (x : Lasting). x.is_orphaned) (sym alike) ∙ (is_orphaned_in r ∙ may.no_orphan));
   updates = may.updates;

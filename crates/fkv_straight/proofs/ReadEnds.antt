@@ -1,6 +1,6 @@
 -- How a read ends.
-use Rattle.std.proofs.Common.{◌≡◌, ℕ, refl, subst, arith, true, false}
-use Rattle.std.specs.Prelude.{◌==◌, nat_lt}
+use Rattle.std.proofs.Common.{◌≡◌, ℕ, refl, subst, arith, Bool, true, false}
+use Rattle.std.specs.Prelude.{◌==◌, nat_lt, Option}
 use Rattle.std.proofs.lemmas.Bool.Decides.{nat_tests}
 use Rattle.fkv_map.specs.Keys.{key_of}
 use Rattle.fkv_map.specs.Map.{absent_word}
@@ -18,7 +18,7 @@ use Rattle.fkv_ops.specs.declared.trying.Trying.TheVariants.{LoadsAnswer, Ended}
 use Rattle.fkv_ops.specs.declared.walking.Walking.{Walking}
 use Rattle.fkv_ops.specs.HeaderWords.{header_said}
 use Rattle.fkv_ops.specs.Requests.{is_read}
-use Rattle.fkv_ops.specs.Trying.{TryState, trying_ask, trying_next, walk_ledto, answer_ledto, ends}
+use Rattle.fkv_ops.specs.Trying.{TryState, trying_ask, trying_next, walk_ledto, answer_ledto, ends, ends_so}
 use Rattle.fkv_ops.specs.Walking.{reached, walking_ask, walking_next, load_ledto, value_ledto, walking_on}
 use Rattle.fkv_session.specs.declared.answers.Told.TheVariants as told
 use Rattle.fkv_session.specs.Sessions.{SessionState}
@@ -29,6 +29,7 @@ use Rattle.fkv_straight.specs.Standing.{asked, leads, IsLed, next_try, IsEnded}
 use Rattle.fkv_straight.proofs.Moves.{asks_load, led_on, stays, ends_found, ends_absent}
 use Rattle.fkv_straight.proofs.Tests.{same}
 use Rattle.fkv_straight.proofs.Walks.{past}
+use Rattle.fkv_ops.specs.declared.bounds.Bounds.{Bounds}
 
 -- ---- the record was met: its value is loaded
 reads_on : (c : Course) (trail : Trail) (r : Record) → header_said r.header ≡ Says (record { 0 = r.previous }) (record { 0 = r.mark }) → nat_lt r.previous r.addr ≡ true → ((key_of c.op).0 == (key_of c.op).0) ≡ true
@@ -55,24 +56,28 @@ answer_asks c r s met calm reads =
 
 -- ---- the value has come
 finds : (c : Course) (trail : Trail) (r : Record) (value : ℕ) → shares c ≡ false → (value == absent_word) ≡ false → (next_try c (holding c trail r LoadsAnswer) value).step ≡ Ended (tried.Found (record { 0 = value }))
-unfolding trying_next walking_ask walking_next load_ask load_next load_next_ask value_ledto answer_ledto ends passed
+unfolding trying_next walking_ask walking_next load_ask load_next load_next_ask value_ledto answer_ledto ends ends_so passed
 finds c trail r value calm some = rw (some, calm) refl
 
 finds_none : (c : Course) (trail : Trail) (r : Record) (value : ℕ) → shares c ≡ false → (value == absent_word) ≡ true → (next_try c (holding c trail r LoadsAnswer) value).step ≡ Ended tried.Absent
-unfolding trying_next walking_ask walking_next load_ask load_next load_next_ask value_ledto answer_ledto ends passed
+unfolding trying_next walking_ask walking_next load_ask load_next load_next_ask value_ledto answer_ledto ends ends_so passed
 finds_none c trail r value calm none = rw (none, calm) refl
 
-spares : (c : Course) (trail : Trail) (r : Record) (value : ℕ) → shares c ≡ false → (next_try c (holding c trail r LoadsAnswer) value).spare ≡ c.lasts.spare
-unfolding trying_next walking_ask walking_next load_ask load_next load_next_ask value_ledto answer_ledto ends passed
-spares c trail r value calm = rw calm refl
+spares_by : (c : Course) (trail : Trail) (r : Record) (value : ℕ) (b : Bool) → (value == absent_word) ≡ b → shares c ≡ false → (next_try c (holding c trail r LoadsAnswer) value).spare ≡ c.lasts.spare
+unfolding trying_next walking_ask walking_next load_ask load_next load_next_ask value_ledto answer_ledto ends ends_so passed
+spares_by c trail r value true e calm = rw (e, calm) refl
+spares_by c trail r value false e calm = rw (e, calm) refl
 
-pub found_ends : (c : Course) (r : Record) (value : ℕ) (s u : SessionState) → c.occasion ≡ AtCall → IsMet c r s → shares c ≡ false → is_read c.op ≡ true → u ≡ leads c.seat s value → ¬ (value ≡ absent_word) → IsEnded c.lasts (told.Found (record { 0 = value })) u
+spares : (c : Course) (trail : Trail) (r : Record) (value : ℕ) → shares c ≡ false → (next_try c (holding c trail r LoadsAnswer) value).spare ≡ c.lasts.spare
+spares c trail r value calm = spares_by c trail r value (value == absent_word) refl calm
+
+pub found_ends : {bounds : Option Bounds} (c : Course) (r : Record) (value : ℕ) (s u : SessionState) → c.occasion ≡ AtCall bounds → IsMet c r s → shares c ≡ false → is_read c.op ≡ true → u ≡ leads c.seat s value → ¬ (value ≡ absent_word) → IsEnded c.lasts (told.Found (record { 0 = value })) u
 unfolding IsAtAnswer
 found_ends c r value s u calls met calm reads e some =
     let at = met_answers c r s met calm reads in
     ends_found c (next_try c (holding c at.0 r LoadsAnswer) value) (record { 0 = value }) u calls (led_on c (holding c at.0 r LoadsAnswer) value s u at.1 e) (finds c at.0 r value calm (grind (arith, nat_tests))) (spares c at.0 r value calm)
 
-pub absent_ends : (c : Course) (r : Record) (value : ℕ) (s u : SessionState) → c.occasion ≡ AtCall → IsMet c r s → shares c ≡ false → is_read c.op ≡ true → u ≡ leads c.seat s value → value ≡ absent_word → IsEnded c.lasts told.Absent u
+pub absent_ends : {bounds : Option Bounds} (c : Course) (r : Record) (value : ℕ) (s u : SessionState) → c.occasion ≡ AtCall bounds → IsMet c r s → shares c ≡ false → is_read c.op ≡ true → u ≡ leads c.seat s value → value ≡ absent_word → IsEnded c.lasts told.Absent u
 unfolding IsAtAnswer
 absent_ends c r value s u calls met calm reads e none =
     let at = met_answers c r s met calm reads in
@@ -81,15 +86,15 @@ absent_ends c r value s u calls met calm reads e none =
 -- ---- the chain ends
 ends_chain : (c : Course) (trail : Trail) (place entry : ℕ) (loading : Loading) (step : Walking) → shares c ≡ false → is_read c.op ≡ true
     → (judged c (reached c.seat.places (walking c trail place entry loading step) 0)).step ≡ Ended tried.Absent
-unfolding walk_ledto walking_ask ends
+unfolding walk_ledto walking_ask ends ends_so
 ends_chain c trail place entry loading step calm reads = rw (calm, reads) refl
 
 chain_spares : (c : Course) (trail : Trail) (place entry : ℕ) (loading : Loading) (step : Walking) → shares c ≡ false → is_read c.op ≡ true
     → (judged c (reached c.seat.places (walking c trail place entry loading step) 0)).spare ≡ c.lasts.spare
-unfolding walk_ledto walking_ask ends
+unfolding walk_ledto walking_ask ends ends_so
 chain_spares c trail place entry loading step calm reads = rw (calm, reads) refl
 
-pub nowhere_ends : (c : Course) (place entry : ℕ) (s : SessionState) → c.occasion ≡ AtCall → IsReached c place entry 0 s → shares c ≡ false → is_read c.op ≡ true → IsEnded c.lasts told.Absent s
+pub nowhere_ends : {bounds : Option Bounds} (c : Course) (place entry : ℕ) (s : SessionState) → c.occasion ≡ AtCall bounds → IsReached c place entry 0 s → shares c ≡ false → is_read c.op ≡ true → IsEnded c.lasts told.Absent s
 unfolding IsReached
 nowhere_ends c place entry s calls at calm reads =
     ends_absent c (judged c (reached c.seat.places (walking c at.0 place entry at.2 at.3) 0)) s calls at.4 (ends_chain c at.0 place entry at.2 at.3 calm reads) (chain_spares c at.0 place entry at.2 at.3 calm reads)

@@ -1,6 +1,6 @@
 -- How the slot of a home is sought.
 use Rattle.std.proofs.Common.{◌≡◌, ℕ, ◌+◌, ◌-◌, ◌/◌, ◌^◌, ◌<◌, ◌≤◌, ◌⊎◌, inl, inr, refl, sym, ap, ◌∙◌, subst, arith, Bool, true, false}
-use Rattle.std.specs.Prelude.{◌==◌, ◌&&◌, not, nat_lt, nat_le, None}
+use Rattle.std.specs.Prelude.{◌==◌, ◌&&◌, not, nat_lt, nat_le, None, Option, Some, is_some}
 use Rattle.std.proofs.lemmas.Bool.Decides.{nat_tests}
 use Rattle.fkv_base.specs.declared.numbers.Key.{Key}
 use Rattle.fkv_map.specs.declared.operations.Call.{Call}
@@ -23,12 +23,14 @@ use Rattle.fkv_ops.specs.Walking.{reached, walking_ask, walking_next, find_ledto
 use Rattle.fkv_session.specs.Alike.{lasting}
 use Rattle.fkv_session.specs.Sessions.{Seat, SessionState, op_begun, attempts, refusal_of}
 use Rattle.fkv_straight.specs.declared.going.Going.{Going}
-use Rattle.fkv_straight.specs.Course.{Course, course_of, home_in, shares, Goes}
+use Rattle.fkv_straight.specs.Course.{Course, course_of, home_in, shares, Goes, counts}
 use Rattle.fkv_straight.specs.Met.{IsTrail, seeking, walking, judged, Begins, IsAtFirst, IsAtSlot, HasSlot, IsAtLink, HasLink, IsReached}
 use Rattle.fkv_straight.specs.Standing.{asked, leads, begins, Tries, IsLed, next_try}
 use Rattle.fkv_straight.proofs.Goings.{spare_same, bucket_is, home_is}
 use Rattle.fkv_straight.proofs.Moves.{asks_load, led_on, stays}
 use Rattle.fkv_straight.proofs.Tests.{same}
+use Rattle.fkv_ops.specs.Bounds.{bounds_at, tail_bound, has_bounds}
+use Rattle.fkv_ops.specs.declared.bounds.Bounds.{Bounds}
 
 -- ---- a call begins with its share of the latch, or at the first slot of its home's bucket
 begins_by : (k : Seat) (s : SessionState) (op : Op) (b : Bool) → (is_prepare s.seen.phase && not (is_read op)) ≡ b → refusal_of s op ≡ None → spare_of k.places s.spare ≡ s.spare → Begins (course_of k s op (call.Op op)) (call.Op op) s
@@ -116,28 +118,32 @@ finds_empty : (c : Course) (base links slot : ℕ)
 unfolding trying_next walking_next find_ledto find_led slot_word
 finds_empty c base links slot = refl
 
+-- an update that has bounds comes to an empty slot of its first bucket alone
+abbrev pub OwnSlot : Course → ℕ → ℕ → Type 0
+OwnSlot c links entry = counts c ≡ true → entry ≡ 0 → c.seat.places.overflow ≤ links
+
 -- no record was met yet
-fresh_at : (base links entry : ℕ) → IsTrail (record { base = base; links = links; first = None }) entry (entry_addr entry)
-fresh_at base links entry = record { falls = omega arith; fresh = λ e. refl }
+fresh_at : (c : Course) (base links entry : ℕ) → OwnSlot c links entry → IsTrail c (record { base = base; links = links; first = None }) entry (entry_addr entry)
+fresh_at c base links entry own = record { falls = omega arith; fresh = λ e. refl; its_own = own }
 
 pub entry_found : (c : Course) (base links slot word : ℕ) (s : SessionState) → HasSlot c base links slot word s → is_entry word ≡ true → (word == 0) ≡ false → (entry_tag word == (home_in c).tag) ≡ true
     → IsReached c (base + slot) word (entry_addr word) s
 unfolding HasSlot IsReached
 entry_found c base links slot word s has its some mine =
-    (record { base = base; links = links; first = None }, fresh_at base links word, load.AtRest, Finds, subst (λ (t : TryState). IsLed c t s) (finds_entry c base links slot word its some mine) has)
+    (record { base = base; links = links; first = None }, fresh_at c base links word (λ counted none. absurd (let e : true ≡ false = subst (λ (n : ℕ). (n == 0) ≡ false) none some in cc e)), load.AtRest, Finds, subst (λ (t : TryState). IsLed c t s) (finds_entry c base links slot word its some mine) has)
 
-empty_slot : (c : Course) (base links slot : ℕ) (s : SessionState) → HasSlot c base links slot 0 s → IsReached c (base + slot) 0 (entry_addr 0) s
+empty_slot : (c : Course) (base links slot : ℕ) (s : SessionState) → OwnSlot c links 0 → HasSlot c base links slot 0 s → IsReached c (base + slot) 0 (entry_addr 0) s
 unfolding HasSlot IsReached
-empty_slot c base links slot s has =
-    (record { base = base; links = links; first = None }, fresh_at base links 0, load.AtRest, Finds, subst (λ (t : TryState). IsLed c t s) (finds_empty c base links slot) has)
+empty_slot c base links slot s own has =
+    (record { base = base; links = links; first = None }, fresh_at c base links 0 own, load.AtRest, Finds, subst (λ (t : TryState). IsLed c t s) (finds_empty c base links slot) has)
 
-pub empty_found : (c : Course) (base links slot word : ℕ) (s : SessionState) → HasSlot c base links slot word s → word ≡ 0 → IsReached c (base + slot) word (entry_addr word) s
-empty_found c base links slot word s has none =
-    subst (λ (n : ℕ). IsReached c (base + slot) n (entry_addr n) s) (sym none) (empty_slot c base links slot s (subst (λ (n : ℕ). HasSlot c base links slot n s) none has))
+pub empty_found : (c : Course) (base links slot word : ℕ) (s : SessionState) → OwnSlot c links word → HasSlot c base links slot word s → word ≡ 0 → IsReached c (base + slot) word (entry_addr word) s
+empty_found c base links slot word s own has none =
+    subst (λ (n : ℕ). IsReached c (base + slot) n (entry_addr n) s) (sym none) (empty_slot c base links slot s (λ counted same. own counted none) (subst (λ (n : ℕ). HasSlot c base links slot n s) none has))
 
 -- ---- the tests, by the numbers that the call goes by
-pub is_some : (word : ℕ) → ¬ (word ≡ 0) → (word == 0) ≡ false
-is_some word h = grind (arith, nat_tests, h)
+some_word : (word : ℕ) → ¬ (word ≡ 0) → (word == 0) ≡ false
+some_word word h = grind (arith, nat_tests, h)
 
 pub is_other : (c : Course) (k : Seat) (op : Op) (g : Going) (h : Home) (key : Key) (word : ℕ) → Goes c k op g → key ≡ key_of op → h ≡ home_of g.bits key → ¬ (word / 2 ^ 48 ≡ h.tag) → (entry_tag word == (home_in c).tag) ≡ false
 is_other c k op g h key word goes its e other =
@@ -157,13 +163,43 @@ mine_tag : (c : Course) (k : Seat) (op : Op) (g : Going) (tag word : ℕ) → Go
 mine_tag c k op g tag word goes its mine = is_mine c k op g (home_of g.bits (key_of op)) (key_of op) word goes refl refl (mine ∙ its)
 
 some_entry : (word : ℕ) → is_entry word ≡ true → (word == 0) ≡ false
-some_entry word its = is_some word (λ none. absurd (let e : false ≡ true = subst (λ (n : ℕ). is_entry n ≡ true) none its in cc e))
+some_entry word its = some_word word (λ none. absurd (let e : false ≡ true = subst (λ (n : ℕ). is_entry n ≡ true) none its in cc e))
+
+-- a search that the machine isn't to count behind
+some_bound : (b : Option Bounds) → has_bounds b ≡ true → is_some (tail_bound b) ≡ true
+some_bound None h = absurd (cc h)
+some_bound (Some bounds) h = refl
+
+counts_so : (b reads : Bool) → (b && not reads) ≡ true → (reads ≡ false) × (b ≡ true)
+counts_so true false h = (refl, refl)
+counts_so true true h = absurd (cc h)
+counts_so false reads h = absurd (cc h)
+
+zero_of : (word links : ℕ) (bounded reads : Bool) → (word == 0 && not (links == 0) && bounded && not reads) ≡ false → word ≡ 0 → bounded ≡ true → reads ≡ false → links ≡ 0
+zero_of word links bounded reads h none has updates = by (links == 0) refl
+  where
+    by : (b : Bool) → (links == 0) ≡ b → links ≡ 0
+    by true e = grind (arith, nat_tests, e)
+    by false e =
+        let zero : (word == 0) ≡ true = grind (arith, nat_tests, none) in
+        let all : (word == 0 && not (links == 0) && bounded && not reads) ≡ true = rw (zero, e, has, updates) refl in
+        absurd (let clash : true ≡ false = sym all ∙ h in cc clash)
+
+none_behind : (mine its links : ℕ) → mine ≡ its → links ≡ 0 → mine ≤ its - links
+none_behind mine its links same first = omega (arith, same, first)
+
+pub owns : (c : Course) (k : Seat) (op : Op) (g : Going) (links word : ℕ) → Goes c k op g → (word == 0 && not (links == 0) && is_some g.bound && not (is_read op)) ≡ false → OwnSlot c (g.places.overflow - links) word
+owns c k op g links word goes h = λ counted none.
+    let so = counts_so (has_bounds (bounds_at c.occasion)) (is_read c.op) counted in
+    let has : is_some g.bound ≡ true = ap (λ (o : Option ℕ). is_some o) (sym goes.its_bound) ∙ some_bound (bounds_at c.occasion) so.1 in
+    let updates : is_read op ≡ false = ap (λ (o : Op). is_read o) (sym goes.its_op) ∙ so.0 in
+    none_behind c.seat.places.overflow g.places.overflow links (ap (λ (p : Places). p.overflow) goes.its_places) (zero_of word links (is_some g.bound) (is_read op) h none has updates)
 
 -- where the search ends at a slot, and where it goes on behind it
-pub ends_here : (c : Course) (k : Seat) (op : Op) (g : Going) (tag base links slot word : ℕ) (s : SessionState) → Goes c k op g → tag ≡ (home_of g.bits (key_of op)).tag → HasSlot c base links slot word s
+pub ends_here : (c : Course) (k : Seat) (op : Op) (g : Going) (tag base links slot word : ℕ) (s : SessionState) → Goes c k op g → tag ≡ (home_of g.bits (key_of op)).tag → OwnSlot c links word → HasSlot c base links slot word s
     → (word ≡ 0) ⊎ ((is_entry word ≡ true) × (word / 2 ^ 48 ≡ tag)) → IsReached c (base + slot) word (entry_addr word) s
-ends_here c k op g tag base links slot word s goes its has (inl none) = empty_found c base links slot word s has none
-ends_here c k op g tag base links slot word s goes its has (inr (entry, mine)) = entry_found c base links slot word s has entry (some_entry word entry) (mine_tag c k op g tag word goes its mine)
+ends_here c k op g tag base links slot word s goes its own has (inl none) = empty_found c base links slot word s own has none
+ends_here c k op g tag base links slot word s goes its own has (inr (entry, mine)) = entry_found c base links slot word s has entry (some_entry word entry) (mine_tag c k op g tag word goes its mine)
 
 pub other_passed : (c : Course) (k : Seat) (op : Op) (g : Going) (tag base links slot word : ℕ) (s : SessionState) → Goes c k op g → tag ≡ (home_of g.bits (key_of op)).tag → HasSlot c base links slot word s
     → (is_entry word ≡ true) × ¬ (word / 2 ^ 48 ≡ tag) → slot < 6 → IsAtSlot c base links (slot + 1) s

@@ -13,7 +13,7 @@ use Rattle.fkv_ops.specs.declared.trying.Trying.{Trying}
 use Rattle.fkv_ops.specs.declared.trying.Trying.TheVariants.{Ended}
 use Rattle.fkv_ops.specs.Appending.{append_rested}
 use Rattle.fkv_ops.specs.Requests.{is_read}
-use Rattle.fkv_ops.specs.Trying.{TryState, trying_ask, try_ask, trying_next, is_next_marked, shared_ledto, shared_dropped, ends, takes_effect}
+use Rattle.fkv_ops.specs.Trying.{TryState, trying_ask, try_ask, trying_next, is_next_marked, shared_ledto, shared_dropped, ends, ends_so, takes_effect}
 use Rattle.fkv_ops.specs.Walking.{WalkState, walking_ask}
 use Rattle.fkv_session.specs.Sessions.{SessionState, is_word_ask}
 use Rattle.fkv_straight.specs.Course.{Course, IsSettled, request_in, shares}
@@ -46,15 +46,15 @@ abbrev changed : Course → WalkState → Trying → Reply → TryState
 changed c w step its = takes_effect c.seat.places (trying c w append_rested step) its
 
 drops : (c : Course) (w : WalkState) (step : Trying) (its : Reply) → shares c ≡ true → try_ask c.seat.places (changed c w step its) ≡ Add (latch_in c) (2 ^ 64 - 2 ^ 48)
-unfolding ends trying_ask latch_ask passed
+unfolding ends ends_so trying_ask latch_ask passed
 drops c w step its shared = rw shared refl
 
 dropped : (c : Course) (w : WalkState) (step : Trying) (its : Reply) (word : ℕ) → shares c ≡ true → (next_try c (changed c w step its) word).step ≡ Ended (tried.Done its)
-unfolding ends trying_next shared_dropped latch_next latch_next_ask
+unfolding ends ends_so trying_next shared_dropped latch_next latch_next_ask
 dropped c w step its word shared = rw shared refl
 
 dropped_spare : (c : Course) (w : WalkState) (step : Trying) (its : Reply) (word : ℕ) → shares c ≡ true → (next_try c (changed c w step its) word).spare ≡ c.lasts.spare
-unfolding ends trying_next shared_dropped latch_next latch_next_ask
+unfolding ends ends_so trying_next shared_dropped latch_next latch_next_ask
 dropped_spare c w step its word shared = rw shared refl
 
 pub drop_asks : (c : Course) (its : Reply) (s : SessionState) → shares c ≡ true → HasChanged c its s → asked c.seat s ≡ Add (latch_in c) (2 ^ 64 - 2 ^ 48)

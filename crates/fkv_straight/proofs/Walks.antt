@@ -74,10 +74,11 @@ unfolding trying_next walking_next load_ledto load_ask load_next load_next_ask
 passes_record c trail place entry addr header key previous version said below other = rw (said, below, other) refl
 
 -- the record before it isn't the first one
-trail_on : (trail : Trail) (version : Version) (entry addr next : ℕ) → IsTrail trail entry addr → next < addr → IsTrail (past trail version) entry next
-trail_on trail version entry addr next its below = record {
+trail_on : (c : Course) (trail : Trail) (version : Version) (entry addr next : ℕ) → IsTrail c trail entry addr → next < addr → IsTrail c (past trail version) entry next
+trail_on c trail version entry addr next its below = record {
   falls = (let h = its.falls in omega (arith, h, below));
   fresh = λ e. absurd (let h = its.falls in omega (arith, h, below, e));
+  its_own = its.its_own;
 }
 
 pub key_passed : (c : Course) (place entry addr header key : ℕ) (previous : Addr) (version : Version) (s : SessionState) → HasKey c place entry addr header key s → header_said header ≡ Says previous version → previous.0 < addr
@@ -85,7 +86,7 @@ pub key_passed : (c : Course) (place entry addr header key : ℕ) (previous : Ad
 unfolding HasKey IsReached
 key_passed c place entry addr header key previous version s has said below other = (
   past has.0 version,
-  trail_on has.0 version entry addr previous.0 has.1 below,
+  trail_on c has.0 version entry addr previous.0 has.1 below,
   load.HasKey (record { 0 = addr }) header key,
   Meets (record { 0 = addr }),
   subst (λ (t : TryState). IsLed c t s) (passes_record c has.0 place entry addr header key previous version said (grind (arith, nat_tests)) (grind (arith, nat_tests))) has.2,

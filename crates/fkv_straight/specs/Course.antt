@@ -11,6 +11,7 @@ use Rattle.fkv_index.specs.Slots.{home_of}
 use Rattle.fkv_ops.specs.declared.requests.Occasion.{Occasion}
 use Rattle.fkv_ops.specs.declared.requests.Occasion.TheVariants.{Call as AtCall, Poll as AtPoll}
 use Rattle.fkv_ops.specs.declared.requests.Request.{Request}
+use Rattle.fkv_ops.specs.Bounds.{bounds_at, bounds_of, has_bounds, tail_bound}
 use Rattle.fkv_ops.specs.Requests.{is_read}
 use Rattle.fkv_ops.specs.Trying.{is_prepare, is_moving_on}
 use Rattle.fkv_pending.specs.declared.pending_requests.PendingRequest.{PendingRequest}
@@ -43,10 +44,10 @@ abbrev pub lasts_in : Call → SessionState → Lasting
 lasts_in Poll s = record (lasting s) { finished = [] }
 lasts_in its s = lasting s
 
--- when an operation is tried in it
-abbrev pub occasion_of : Call → Occasion
-occasion_of Poll = AtPoll
-occasion_of its = AtCall
+-- when an operation is tried in it: a call goes by the bounds of its store
+abbrev pub occasion_of : Seat → Call → Occasion
+occasion_of k Poll = AtPoll
+occasion_of k its = AtCall (bounds_of k.shape)
 
 -- in a poll the session has its last operation in hand still
 abbrev pub hand_of : Call → SessionState → Op → Op
@@ -60,7 +61,7 @@ name_in its s op = next_name (lasting s) op
 
 -- the course of an operation in a call of its own, or in a poll
 abbrev pub course_of : Seat → SessionState → Op → Call → Course
-course_of k s op its = record { seat = k; lasts = lasts_in its s; op = op; occasion = occasion_of its; name = name_in its s op; hand = hand_of its s op }
+course_of k s op its = record { seat = k; lasts = lasts_in its s; op = op; occasion = occasion_of k its; name = name_in its s op; hand = hand_of its s op }
 
 abbrev pub home_in : Course → Home
 home_in c = home_of (bits_of c.seat) (key_of c.op)
@@ -89,6 +90,10 @@ pub record IsSettled (c : Course) : Type 0 where
 abbrev pub shares : Course → Bool
 shares c = is_prepare c.lasts.seen.phase && not (is_read c.op)
 
+-- an update that has bounds
+abbrev pub counts : Course → Bool
+counts c = has_bounds (bounds_at c.occasion) && not (is_read c.op)
+
 -- The numbers that a straight call goes by are those of its course. The operation is one of the session's version, in a poll it alone waits, and the
 -- session's spare bucket is one that there is.
 pub record Goes (c : Course) (k : Seat) (op : Op) (g : Going) : Type 0 where
@@ -102,6 +107,7 @@ pub record Goes (c : Course) (k : Seat) (op : Op) (g : Going) : Type 0 where
   pub its_mark : mark (request_in c).version.0 ≡ g.mark
   pub moves_on : is_moving_on c.lasts.seen.phase ≡ g.is_moving_on
   pub prepares : is_prepare c.lasts.seen.phase ≡ g.is_preparing
+  pub its_bound : tail_bound (bounds_at c.occasion) ≡ g.bound
   pub spare_fits : c.lasts.spare ≤ c.seat.places.overflow
   pub settled : IsSettled c
 
@@ -118,6 +124,7 @@ pub record GoesBy (k : Seat) (s : SessionState) (g : Going) : Type 0 where
   pub its_mark : mark g.version ≡ g.mark
   pub moves_on : is_moving_on s.seen.phase ≡ g.is_moving_on
   pub prepares : is_prepare s.seen.phase ≡ g.is_preparing
+  pub its_bound : tail_bound (bounds_of k.shape) ≡ g.bound
   pub awake : s.is_awake ≡ true
   pub room : is_full s.requests ≡ false
   pub spare_fits : s.spare ≤ g.places.overflow

@@ -1,7 +1,8 @@
 -- What the hot part of a call has left to do.
-use Rattle.std.specs.Prelude.{◌≡◌, ◌≤◌, ⊤, ℕ, true, false}
+use Rattle.std.specs.Prelude.{◌≡◌, ◌≤◌, ⊤, ℕ, true, false, None}
 use Rattle.fkv_map.specs.declared.operations.Call.TheVariants as call
 use Rattle.fkv_map.specs.declared.operations.Op.{Op}
+use Rattle.fkv_ops.specs.Bounds.{bounds_at}
 use Rattle.fkv_ops.specs.Requests.{is_read}
 use Rattle.fkv_session.specs.Alike.{lasting}
 use Rattle.fkv_session.specs.Sessions.{Seat, SessionState}
@@ -12,11 +13,12 @@ use Rattle.fkv_straight.specs.Mailbox.{IsSought}
 use Rattle.fkv_straight.specs.Met.{HasMet}
 use Rattle.fkv_straight.specs.Standing.{IsWaiting}
 
--- An update has met this, and no step was made since; a read goes on at this record of the device; an update has lost to another session; or nothing is said.
+-- An update has met this, and no step was made since; a read goes on at this record of the device; an update has lost to another session, and waits if it has no bounds; or
+-- nothing is said.
 abbrev pub IsDue : Course → Due → SessionState → Type 0
 IsDue c (Met its) s = (is_read c.op ≡ false) × (shares c ≡ false) × HasMet c its s
 IsDue c (OnDisk sought) s = (is_read c.op ≡ true) × IsSought c sought s
-IsDue c Lost s = (is_read c.op ≡ false) × IsWaiting c s
+IsDue c Lost s = (is_read c.op ≡ false) × (bounds_at c.occasion ≡ None → IsWaiting c s)
 IsDue c Unusual s = ⊤
 
 -- behind a search there is room for the replies of all that may follow

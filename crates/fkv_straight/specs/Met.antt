@@ -36,8 +36,9 @@ use Rattle.fkv_ops.specs.declared.trying.Trying.{Trying}
 use Rattle.fkv_ops.specs.declared.trying.Trying.TheVariants.{TakesShared, Walks, LoadsSafe, SwapsValue, LoadsCurrent, ChangesValue, LoadsAnswer, LoadsOld, Appends}
 use Rattle.fkv_ops.specs.declared.walking.Walking.{Walking}
 use Rattle.fkv_ops.specs.declared.walking.Walking.TheVariants.{Finds, Meets, HasFound, LoadsValue}
+use Rattle.fkv_ops.specs.Bounds.{bounds_at, tail_bound}
 use Rattle.fkv_ops.specs.HeaderWords.{header_said}
-use Rattle.fkv_ops.specs.Requests.{is_read, purpose_of}
+use Rattle.fkv_ops.specs.Requests.{is_read, purpose_at}
 use Rattle.fkv_ops.specs.Walking.{WalkState, first_met, reached, walk_ask, walk_rested}
 use Rattle.fkv_ops.specs.Appending.{AppendState, append_rested}
 use Rattle.fkv_ops.specs.Trying.{TryState, words_of, walk_ledto, copies_from, ends, takes_effect, is_above, is_next_marked}
@@ -48,7 +49,7 @@ use Rattle.fkv_straight.specs.declared.searching.Met.TheVariants.{Found, Nowhere
 use Rattle.fkv_straight.specs.declared.searching.Record.{Record}
 use Rattle.fkv_straight.specs.declared.going.Going.{Going}
 use Rattle.fkv_straight.specs.declared.going.Lone.{Lone}
-use Rattle.fkv_straight.specs.Course.{Course, course_of, first_name, home_in, head_in, request_in, shares, Goes}
+use Rattle.fkv_straight.specs.Course.{Course, course_of, counts, first_name, home_in, head_in, request_in, shares, Goes}
 use Rattle.fkv_straight.specs.Memory.{is_in_memory}
 use Rattle.fkv_straight.specs.Standing.{Tries, IsLed, attempting, begins, next_try, sitting}
 
@@ -63,7 +64,7 @@ trying c walk a step = record { request = request_in c; seen = c.lasts.seen; occ
 -- ---- along the bucket
 -- the search among the slots from this place on, which may still follow so many links
 abbrev pub finding_at : Course → ℕ → ℕ → FindStep → Finding
-finding_at c base links step = record { home = home_in c; base = base; links = links; linking = linking_for (purpose_of c.op); spare = c.lasts.spare; step = step }
+finding_at c base links step = record { home = home_in c; base = base; links = links; linking = linking_for (purpose_at c.occasion c.op); spare = c.lasts.spare; step = step }
 
 abbrev pub seeking : Course → ℕ → ℕ → FindStep → TryState
 seeking c base links step =
@@ -94,9 +95,9 @@ pub record MayGo (k : Seat) (s : SessionState) (op : Op) (g : Going) : Type 0 wh
   pub allowed : refusal_of s op ≡ None
   pub serial_left : is_read op ≡ false → s.serial < last_serial
 
--- So may a poll in which this update alone waits. No record is on its way that nobody waits for, and the session isn't in prepare.
+-- So may a poll in which this update alone waits, and it has no bound. No record is on its way that nobody waits for, and the session isn't in prepare.
 pub record MayPoll (k : Seat) (s : SessionState) (l : Lone) (g : Going) : Type 0 where
-  pub goes : Goes (course_of k s l.op call.Poll) k l.op g
+  pub goes : Goes (course_of k s l.op call.Poll) k l.op (record g { bound = None })
   pub awake : s.is_awake ≡ true
   pub no_orphan : s.is_orphaned ≡ false
   pub updates : is_read l.op ≡ false
@@ -127,10 +128,12 @@ pub record Trail : Type 0 where
   pub links : ℕ
   pub first : Option Version
 
--- The chain was walked to this address from the slot's entry. Addresses fall along it, and at the first record no version was met before.
-pub record IsTrail (trail : Trail) (entry addr : ℕ) : Type 0 where
+-- The chain was walked to this address from the slot's entry. Addresses fall along it, and at the first record no version was met before. An
+-- update that has bounds comes to no empty slot of an overflow bucket.
+pub record IsTrail (c : Course) (trail : Trail) (entry addr : ℕ) : Type 0 where
   pub falls : addr ≤ entry_addr entry
   pub fresh : addr ≡ entry_addr entry → trail.first ≡ None
+  pub its_own : counts c ≡ true → entry ≡ 0 → c.seat.places.overflow ≤ trail.links
 
 abbrev pub walking : Course → Trail → ℕ → ℕ → Loading → Walking → WalkState
 walking c trail place entry loading step =
@@ -145,17 +148,17 @@ judged c walk = walk_ledto c.seat.places (trying c walk append_rested Walks) (wa
 
 -- The walk from the entry at this place has come to an address, which isn't judged yet.
 unfoldable pub IsReached : Course → ℕ → ℕ → ℕ → SessionState → Type 0
-IsReached c place entry addr s = (trail : Trail) × IsTrail trail entry addr × (loading : Loading) × (step : Walking) × IsLed c (judged c (reached c.seat.places (walking c trail place entry loading step) addr)) s
+IsReached c place entry addr s = (trail : Trail) × IsTrail c trail entry addr × (loading : Loading) × (step : Walking) × IsLed c (judged c (reached c.seat.places (walking c trail place entry loading step) addr)) s
 
 -- the header of the record is loaded, then its key, and then both have come and aren't judged yet
 unfoldable pub IsAtHeader : Course → ℕ → ℕ → ℕ → SessionState → Type 0
-IsAtHeader c place entry addr s = (trail : Trail) × IsTrail trail entry addr × Tries c (meeting c trail place entry addr (load.LoadsHeader (record { 0 = addr }))) s
+IsAtHeader c place entry addr s = (trail : Trail) × IsTrail c trail entry addr × Tries c (meeting c trail place entry addr (load.LoadsHeader (record { 0 = addr }))) s
 
 unfoldable pub IsAtKey : Course → ℕ → ℕ → ℕ → ℕ → SessionState → Type 0
-IsAtKey c place entry addr header s = (trail : Trail) × IsTrail trail entry addr × Tries c (meeting c trail place entry addr (load.LoadsKey (record { 0 = addr }) header)) s
+IsAtKey c place entry addr header s = (trail : Trail) × IsTrail c trail entry addr × Tries c (meeting c trail place entry addr (load.LoadsKey (record { 0 = addr }) header)) s
 
 unfoldable pub HasKey : Course → ℕ → ℕ → ℕ → ℕ → ℕ → SessionState → Type 0
-HasKey c place entry addr header key s = (trail : Trail) × IsTrail trail entry addr × IsLed c (next_try c (meeting c trail place entry addr (load.LoadsKey (record { 0 = addr }) header)) key) s
+HasKey c place entry addr header key s = (trail : Trail) × IsTrail c trail entry addr × IsLed c (next_try c (meeting c trail place entry addr (load.LoadsKey (record { 0 = addr }) header)) key) s
 
 -- the record of the operation's key was met in memory
 pub record IsMet (c : Course) (r : Record) (s : SessionState) : Type 0 where
@@ -167,7 +170,7 @@ pub record IsMet (c : Course) (r : Record) (s : SessionState) : Type 0 where
 
 -- by whatever trail it was met, the update stays at its version: in prepare the chain's first record is of no later one, or its mark doesn't tell
 abbrev pub IsUnshifted : Course → Record → Type 0
-IsUnshifted c r = (trail : Trail) → IsTrail trail r.entry r.addr → (shares c && not (is_next_marked (request_in c).version) && is_above (first_met trail.first (record { 0 = r.mark })) (request_in c).version) ≡ false
+IsUnshifted c r = (trail : Trail) → IsTrail c trail r.entry r.addr → (shares c && not (is_next_marked (request_in c).version) && is_above (first_met trail.first (record { 0 = r.mark })) (request_in c).version) ≡ false
 
 -- what a search has met: its key's record; the chain's end; or where the chain leaves memory
 abbrev pub HasMet : Course → Met → SessionState → Type 0
@@ -227,6 +230,10 @@ append_at c place entry old reserving filling publishing step =
 
 abbrev pub Appending_at : Course → AppendState → Option ℕ → SessionState → Type 0
 Appending_at c a old s = (walk : WalkState) × Tries c (trying c walk a (Appends (reply_from old c.op))) s
+
+-- the limit is loaded, which counts up to the call's bound
+abbrev pub limit_of : Course → Reserving
+limit_of c = reserve.LoadsLimit (tail_bound (bounds_at c.occasion))
 
 -- its address is reserved, it is written, and its entry is published
 unfoldable pub IsAtReserve : Course → ℕ → ℕ → Option ℕ → Reserving → SessionState → Type 0

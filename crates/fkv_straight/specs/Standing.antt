@@ -9,6 +9,7 @@ use Rattle.fkv_ops.specs.declared.answers.TryAnswer.{TryAnswer}
 use Rattle.fkv_ops.specs.declared.answers.TryAnswer.TheVariants as tried
 use Rattle.fkv_ops.specs.declared.requests.Occasion.{Occasion}
 use Rattle.fkv_ops.specs.declared.requests.Occasion.TheVariants.{Call as AtCall, Poll as AtPoll}
+use Rattle.fkv_ops.specs.Bounds.{bounds_at}
 use Rattle.fkv_ops.specs.Trying.{TryState, try_ask, try_next}
 use Rattle.fkv_pending.specs.declared.attempting.Attempting.TheVariants.{Tries as AtTry}
 use Rattle.fkv_pending.specs.declared.mailing.MailAnswer.TheVariants.{NotReady}
@@ -50,11 +51,11 @@ attempting c t = record { pending = pending_in c; seen = c.lasts.seen; occasion 
 
 -- a call attempts its operation, which is in hand then, and a poll the request that waits first
 abbrev pub sits : Occasion → Sitting
-sits AtCall = Attempts false
+sits (AtCall bounds) = Attempts false
 sits AtPoll = Polls 0
 
 abbrev pub hand_in : Occasion → Course → Op
-hand_in AtCall c = c.op
+hand_in (AtCall bounds) c = c.op
 hand_in AtPoll c = c.hand
 
 -- the session whose attempt stands so
@@ -84,7 +85,7 @@ sitting c asks a =
 
 -- where the session goes by what the attempt asks
 abbrev pub attempt_leads : Occasion → Seat → SessionState → Ask TryAnswer → SessionState
-attempt_leads AtCall k s ask = attempt_ledto s false ask
+attempt_leads (AtCall bounds) k s ask = attempt_ledto s false ask
 attempt_leads AtPoll k s ask = poll_ledto k s 0 ask
 
 -- the session whose try a reply has led so: the attempt goes by what the try asks then, and the session by what the attempt asks
@@ -116,11 +117,11 @@ pub record IsEnded (l : Lasting) (its : Told) (s : SessionState) : Type 0 where
 
 -- what lasts behind an update that was done, and what the session is told: a call takes the next serial, and behind a poll no request waits
 abbrev pub done_lasts : Occasion → Course → Reply → Lasting
-done_lasts AtCall c its = record c.lasts { serial = c.lasts.serial + 1 }
+done_lasts (AtCall bounds) c its = record c.lasts { serial = c.lasts.serial + 1 }
 done_lasts AtPoll c its = record c.lasts { requests = []; finished = finished_of c.name (tried.Done its) ∷ [] }
 
 abbrev pub done_told : Occasion → Course → Reply → Told
-done_told AtCall c its = told.Done (record { 0 = c.lasts.serial + 1 }) its
+done_told (AtCall bounds) c its = told.Done (record { 0 = c.lasts.serial + 1 }) its
 done_told AtPoll c its = told.Polled 0
 
 abbrev pub IsDone : Course → Reply → SessionState → Type 0
@@ -128,18 +129,18 @@ IsDone c its s = IsEnded (done_lasts c.occasion c its) (done_told c.occasion c i
 
 -- Another session was quicker: a call takes the next serial, and its update waits. In a poll it goes on waiting.
 abbrev pub waiting_lasts : Occasion → Course → Lasting
-waiting_lasts AtCall c = record c.lasts { serial = c.lasts.serial + 1; requests = c.lasts.requests ++ pending_in c ∷ [] }
+waiting_lasts (AtCall bounds) c = record c.lasts { serial = c.lasts.serial + 1; requests = c.lasts.requests ++ pending_in c ∷ [] }
 waiting_lasts AtPoll c = c.lasts
 
 abbrev pub waiting_told : Occasion → Course → Told
-waiting_told AtCall c = told.Pending (record { 0 = c.lasts.serial + 1 }) reason.Contended
+waiting_told (AtCall bounds) c = told.Pending (record { 0 = c.lasts.serial + 1 }) reason.Contended
 waiting_told AtPoll c = told.Polled 1
 
 abbrev pub IsWaiting : Course → SessionState → Type 0
 IsWaiting c s = IsEnded (waiting_lasts c.occasion c) (waiting_told c.occasion c) s
 
--- what an update comes to. Of one that is unusual nothing is said
+-- What an update comes to. One that has bounds doesn't wait before the machine has looked for room. Of one that is unusual nothing is said.
 abbrev pub ComesTo : Course → Outcome → SessionState → Type 0
 ComesTo c (Done its) s = IsDone c its s
-ComesTo c Contended s = IsWaiting c s
+ComesTo c Contended s = bounds_at c.occasion ≡ None → IsWaiting c s
 ComesTo c Unusual s = ⊤

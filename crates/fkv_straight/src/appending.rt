@@ -2,13 +2,13 @@
 ghost use Rattle.std.specs.Prelude.{◌≡◌, ◌<◌, ◌≤◌, ◌+◌, ◌*◌, ◌^◌, ℕ, false, IfNone, Some};
 ghost use Rattle.fkv_map.specs.declared.operations.Call.{Call};
 ghost use Rattle.fkv_map.specs.Keys.{as_number};
-ghost use Rattle.fkv_log.specs.declared.reserving.Reserving.TheVariants.{LoadsLimit, LoadsTail};
+ghost use Rattle.fkv_log.specs.declared.reserving.Reserving.TheVariants.{LoadsTail};
 ghost use Rattle.fkv_index.specs.Slots.{entry_addr};
 ghost use Rattle.fkv_index.specs.IndexWorld.{new_entry};
 ghost use Rattle.fkv_ops.specs.Requests.{is_read};
 ghost use Rattle.fkv_session.specs.Sessions.{};
 ghost use Rattle.fkv_straight.specs.Course.{Course, home_in, Goes};
-ghost use Rattle.fkv_straight.specs.Met.{HasMet, IsAtReserve, IsReserved, IsAtPublish};
+ghost use Rattle.fkv_straight.specs.Met.{HasMet, IsAtReserve, IsReserved, IsAtPublish, limit_of};
 ghost use Rattle.fkv_straight.specs.Standing.{ComesTo};
 ghost use Rattle.fkv_straight.specs.declared.appending.Reserved.TheVariants.{Lost, Taken};
 ghost use Rattle.fkv_straight.specs.declared.outcomes.Outcome.TheVariants.{Contended};
@@ -21,6 +21,7 @@ use crate::searching::Slot;
 use crate::words::{addr_of, is_blind};
 use fkv_base::{Addr, Value};
 use fkv_index::home_of;
+use fkv_log::limit_within;
 use fkv_map::Op;
 use fkv_ops::word_of_value;
 use fkv_plane::{RecordWord, SharedWord};
@@ -153,10 +154,10 @@ fn take_by_steps<L: Line>(
     }
 }
 
-/// Reserves an address at the tail, above that of the slot's entry.
+/// Reserves an address at the tail, above that of the slot's entry. A call takes none from its bound on.
 #[inline(always)]
 fn reserve<L: Line>(line: &mut L, going: &Going, op: Op, slot: Slot, old: Option<Value>) -> Reserved
-    requires at { (c : Course) × Goes c (L.seat line.old) op going.now × IsAtReserve c slot.place slot.entry (as_number old) LoadsLimit (L.stands line.old) }
+    requires at { (c : Course) × Goes c (L.seat line.old) op going.now × IsAtReserve c slot.place slot.entry (as_number old) (limit_of c) (L.stands line.old) }
     requires room { L.kept line.old ≤ 50 }
     requires updates { is_read op ≡ false }
     requires calm { going.now.is_preparing ≡ false }
@@ -164,13 +165,14 @@ fn reserve<L: Line>(line: &mut L, going: &Going, op: Op, slot: Slot, old: Option
     ensures led { (start : L) (call : Call) → L.led start call line.old → L.led start call line.new }
     ensures kept { L.kept line.new ≤ 53 }
     ensures addr { (addr : ℕ) → result ≡ Taken addr → addr < 2 ^ 48 }
-    ensures fills { (c : Course) → Goes c (L.seat line.old) op going.now → IsAtReserve c slot.place slot.entry (as_number old) LoadsLimit (L.stands line.old)
+    ensures fills { (c : Course) → Goes c (L.seat line.old) op going.now → IsAtReserve c slot.place slot.entry (as_number old) (limit_of c) (L.stands line.old)
         → (addr : ℕ) → result ≡ Taken addr → IsReserved c slot.place slot.entry (as_number old) addr (L.stands line.new) }
-    ensures waits { (c : Course) → Goes c (L.seat line.old) op going.now → IsAtReserve c slot.place slot.entry (as_number old) LoadsLimit (L.stands line.old)
+    ensures waits { (c : Course) → Goes c (L.seat line.old) op going.now → IsAtReserve c slot.place slot.entry (as_number old) (limit_of c) (L.stands line.old)
         → result ≡ Lost → ComesTo c Contended (L.stands line.new) }
 {
     let limit_place = SharedWord::Limit.place();
-    let limit = line.load(limit_place);
+    let loaded = line.load(limit_place);
+    let limit = limit_within(going.bound, loaded);
     let taken = take_at_once(line, going, op, slot, old, limit);
     match taken {
         Some(addr) => Reserved::Taken(addr),
@@ -211,13 +213,13 @@ pub(crate) fn append<L: Line>(
     slot: Slot,
     old: Option<Value>,
 ) -> Outcome
-    requires at { (c : Course) × Goes c (L.seat line.old) op going.now × IsAtReserve c slot.place slot.entry (as_number old) LoadsLimit (L.stands line.old) }
+    requires at { (c : Course) × Goes c (L.seat line.old) op going.now × IsAtReserve c slot.place slot.entry (as_number old) (limit_of c) (L.stands line.old) }
     requires room { L.kept line.old ≤ 50 }
     requires updates { is_read op ≡ false }
     requires calm { going.now.is_preparing ≡ false }
     ensures seat { L.seat line.new ≡ L.seat line.old }
     ensures led { (start : L) (call : Call) → L.led start call line.old → L.led start call line.new }
-    ensures done { (c : Course) → Goes c (L.seat line.old) op going.now → IsAtReserve c slot.place slot.entry (as_number old) LoadsLimit (L.stands line.old)
+    ensures done { (c : Course) → Goes c (L.seat line.old) op going.now → IsAtReserve c slot.place slot.entry (as_number old) (limit_of c) (L.stands line.old)
         → ComesTo c result (L.stands line.new) }
 {
     let reserved = reserve(line, going, op, slot, old);

@@ -1,5 +1,5 @@
 //! A call of an operation, straight.
-ghost use Rattle.std.specs.Prelude.{◌≡◌, ◌<◌, ◌+◌, IfSome, IfNone, false, length};
+ghost use Rattle.std.specs.Prelude.{◌≡◌, ◌<◌, ◌+◌, IfSome, IfNone, false, is_some, length};
 ghost use Rattle.fkv_base.specs.Limits.{last_serial, max_pending};
 ghost use Rattle.fkv_map.specs.declared.operations.Call.TheVariants as call;
 ghost use Rattle.fkv_plane.specs.declared.asks.Ask.TheVariants.{Done};
@@ -22,15 +22,18 @@ use fkv_map::{Call, Op};
 use fkv_ops::Reason;
 use fkv_session::{Session, Told};
 
-/// Adds the update to the machine's requests that wait. None where the list would be full then: a session with a full list makes no straight call.
+/// Adds the update to the machine's requests that wait. None where the list would be full then: a session with a full list makes no straight call. None
+/// too where calls have bounds: the machine looks for room first.
 #[inline(never)]
-pub(crate) fn wait(machine: &mut Session, op: Op) -> Option<Told>
+pub(crate) fn wait(machine: &mut Session, going: &Going, op: Op) -> Option<Told>
     requires left { machine.old.state.serial < last_serial }
     ensures waits { IfSome result (λ told. (told ≡ Pending (record { 0 = machine.old.state.serial + 1 }) Contended)
         × (length machine.old.state.requests + 1 < max_pending) × (machine.new ≡ record machine.old { state = update_waiting machine.old.state op })) }
+    ensures unbounded { IfSome result (λ told. is_some going.now.bound ≡ false) }
     ensures full { IfNone result (machine.new ≡ machine.old) }
 {
-    if machine.pending() >= MAX_PENDING - 1 {
+    let bounded = going.is_bounded();
+    if bounded || machine.pending() >= MAX_PENDING - 1 {
         return None;
     }
     let serial = machine.take_pending(op);
@@ -66,7 +69,7 @@ pub(crate) fn go_by<L: Line>(
                     let serial = machine.take_serial();
                     Some(Told::Done(serial, reply))
                 }
-                Outcome::Contended => wait(machine, op),
+                Outcome::Contended => wait(machine, going, op),
                 Outcome::Unusual => None,
             }
         }

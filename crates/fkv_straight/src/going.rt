@@ -2,11 +2,13 @@
 ghost use Rattle.std.specs.Prelude.{◌≡◌, ◌%◌, ◌^◌, ◌<◌, ℕ};
 ghost use Rattle.std.specs.Int.Bits.{bit_and};
 ghost use Rattle.fkv_plane.specs.Places.{bucket_place, frames_start};
+ghost use Rattle.fkv_ops.specs.Bounds.{bounds_of, tail_bound};
 
 use crate::words::{is_moving_on, is_preparing, is_read, past_shared};
-use fkv_base::{Addr, Serial, Version};
+use fkv_base::{Addr, Serial, Shape, Version};
 use fkv_map::Op;
 use fkv_marks::mark;
+use fkv_ops::Bounds;
 use fkv_pending::RequestName;
 use fkv_plane::{Places, RecordWord};
 use fkv_session::Session;
@@ -33,6 +35,8 @@ pub struct Going {
     pub is_moving_on: bool,
     /// Whether updates share the latch of their bucket.
     pub is_preparing: bool,
+    /// The first address that no call of the store takes, where there is one. An update that would wait is the machine's then.
+    pub bound: Option<u64>,
     pub ghost buckets: { places.buckets ≡ 2 ^ bits },
     pub ghost mark_fits: { mark < 2 ^ 13 },
     pub ghost starts: { frames ≡ frames_start places },
@@ -50,11 +54,21 @@ pub(crate) struct Lone {
     pub serial: Serial,
 }
 
+/// The first address that no call of a store of this shape takes, where there is one.
+fn bound_of(shape: &Shape) -> Option<u64>
+    ensures { result ≡ tail_bound (bounds_of shape.now) }
+{
+    let bounds = Bounds::of(shape);
+    bounds.map(|its| its.tail)
+}
+
 impl Going {
-    ghost use Rattle.std.specs.Prelude.{IfSome, true};
+    ghost use Rattle.std.specs.Prelude.{IfSome, None, true, is_some};
     ghost use Rattle.fkv_straight.specs.Met.{MayGo, MayPoll};
     ghost use Rattle.fkv_plane.specs.Places.{record_place};
-    ghost use Rattle.fkv_straight.specs.Course.{GoesBy};
+    ghost use Rattle.fkv_map.specs.declared.operations.Op.{Op};
+    ghost use Rattle.fkv_session.specs.Sessions.{Seat};
+    ghost use Rattle.fkv_straight.specs.Course.{Course, Goes, GoesBy};
     ghost use Rattle.fkv_straight.specs.Memory.{is_in_memory};
 
     /// What the straight calls of the session go by, if it may make any: it is awake and has room for a request, and version and spare
@@ -84,6 +98,7 @@ impl Going {
         let own = mark(seen.version);
         let moves_on = is_moving_on(seen.phase);
         let prepares = is_preparing(seen.phase);
+        let bound = bound_of(&shape);
         let first_bucket = places.bucket(0, 0);
         let frames = places.record(Addr(0), RecordWord::Header);
         Some(Going {
@@ -98,6 +113,7 @@ impl Going {
             mark: own.0,
             is_moving_on: moves_on,
             is_preparing: prepares,
+            bound,
         })
     }
 
@@ -158,6 +174,24 @@ impl Going {
             return None;
         }
         Some(Lone { op, serial })
+    }
+
+    /// What a poll goes by: it has no bound.
+    pub(crate) fn in_poll(&self) -> Going
+        ensures goes { (c : Course) (k : Seat) (op : Op) → Goes c k op (record self.now { bound = None }) → Goes c k op result }
+        ensures calm { result.is_preparing ≡ self.now.is_preparing }
+    {
+        let mut polling = *self;
+        polling.bound = None;
+        polling
+    }
+
+    /// Whether a call has a bound.
+    #[inline]
+    pub(crate) fn is_bounded(&self) -> bool
+        ensures { result ≡ is_some self.now.bound }
+    {
+        self.bound.is_some()
     }
 
     /// The place of a word of the record at this address.

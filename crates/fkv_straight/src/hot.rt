@@ -33,7 +33,7 @@ pub enum Due {
     Met(Met),
     /// Its read's chain leaves memory at this record.
     OnDisk(DiskRecord),
-    /// Another session was quicker, so its update has to wait.
+    /// Another session was quicker, so its update has to wait, if there is room for it then.
     Lost,
     /// It has met something unusual: the machine goes on.
     Unusual,
@@ -141,12 +141,12 @@ pub(crate) fn go_due<L: Line>(
                     let serial = machine.take_serial();
                     Some(Told::Done(serial, reply))
                 }
-                Outcome::Contended => wait(machine, op),
+                Outcome::Contended => wait(machine, going, op),
                 Outcome::Unusual => None,
             }
         }
         Due::OnDisk(sought) => ask_for(line, machine, op, sought),
-        Due::Lost => wait(machine, op),
+        Due::Lost => wait(machine, going, op),
         Due::Unusual => None,
     }
 }

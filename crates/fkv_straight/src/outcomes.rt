@@ -7,7 +7,7 @@ use fkv_map::Reply;
 pub(crate) enum Outcome {
     /// It is done, and told this.
     Done(Reply),
-    /// Another session was quicker, so it has to wait.
+    /// Another session was quicker, so it has to wait, if there is room for it then.
     Contended,
     /// It has met something unusual, or another session was quicker and more is left to do: the machine goes on.
     Unusual,

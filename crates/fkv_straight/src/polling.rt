@@ -36,7 +36,8 @@ pub(crate) fn poll_by<L: Line>(
     ensures ended { IfSome result (λ told. (Done told ≡ session_ask (L.seat line.old) (L.stands line.new)) × IsCaughtUp machine.new.state (L.stands line.new)) }
     ensures stopped { IfNone result (machine.new ≡ machine.old) }
 {
-    let straight = update(line, going, its.op, Call::Poll);
+    let polling = going.in_poll();
+    let straight = update(line, &polling, its.op, Call::Poll);
     match straight {
         Outcome::Done(reply) => {
             machine.take_polled(its.serial, reply);

@@ -1,7 +1,8 @@
 //! A read, straight.
-ghost use Rattle.std.specs.Prelude.{◌≡◌, ◌≤◌, IfSome, IfNone, IfOk, IfErr, true, false};
+ghost use Rattle.std.specs.Prelude.{◌≡◌, ◌≤◌, Option, IfSome, IfNone, IfOk, IfErr, true, false};
 ghost use Rattle.fkv_map.specs.declared.operations.Call.TheVariants as call;
 ghost use Rattle.fkv_map.specs.declared.operations.Call.{Call};
+ghost use Rattle.fkv_ops.specs.declared.bounds.Bounds.{Bounds};
 ghost use Rattle.fkv_ops.specs.declared.requests.Occasion.TheVariants as occasion;
 ghost use Rattle.fkv_ops.specs.Requests.{is_read};
 ghost use Rattle.fkv_plane.specs.declared.asks.Ask.TheVariants.{Done};
@@ -35,7 +36,7 @@ pub(crate) fn tell<L: Line>(
     requires reads { is_read op ≡ true }
     ensures seat { L.seat line.new ≡ L.seat line.old }
     ensures led { (start : L) (call : Call) → L.led start call line.old → L.led start call line.new }
-    ensures ended { (c : Course) → Goes c (L.seat line.old) op going.now → c.occasion ≡ occasion.Call → HasMet c met (L.stands line.old)
+    ensures ended { (c : Course) → Goes c (L.seat line.old) op going.now → (bounds : Option Bounds) → c.occasion ≡ occasion.Call bounds → HasMet c met (L.stands line.old)
         → IfOk result (λ its. IsEnded c.lasts its (L.stands line.new)) }
     ensures left { (c : Course) → HasMet c met (L.stands line.old) → IfErr result (λ sought. IsSought c sought (L.stands line.new)) }
     ensures kept { IfErr result (λ sought. L.kept line.new ≤ 48) }

@@ -1,9 +1,10 @@
 //! The search along bucket and chain, which all straight calls share.
-ghost use Rattle.std.specs.Prelude.{◌≡◌, ◌⊎◌, ◌<◌, ◌≤◌, ◌+◌, ◌-◌, ◌/◌, ◌^◌, ℕ, IfSome, false, true};
+ghost use Rattle.std.specs.Prelude.{◌≡◌, ◌==◌, ◌&&◌, not, ◌⊎◌, ◌<◌, ◌≤◌, ◌+◌, ◌-◌, ◌/◌, ◌^◌, ℕ, IfSome, false, is_some, true};
 ghost use Rattle.fkv_map.specs.declared.operations.Call.{Call};
 ghost use Rattle.fkv_map.specs.Keys.{key_of};
 ghost use Rattle.fkv_plane.specs.Places.{bucket_place};
 ghost use Rattle.fkv_index.specs.Slots.{entry_addr, home_of, is_entry};
+ghost use Rattle.fkv_ops.specs.Requests.{is_read};
 ghost use Rattle.fkv_session.specs.Sessions.{Seat, SessionState, is_busy};
 ghost use Rattle.fkv_straight.specs.Course.{Course, course_of, shares, Goes};
 ghost use Rattle.fkv_straight.specs.Memory.{is_in_memory};
@@ -17,7 +18,7 @@ ghost use Rattle.fkv_straight.specs.Standing.{};
 
 use crate::going::Going;
 use crate::lines::Line;
-use crate::words::{addr_of, header_said, is_entry, past_shared};
+use crate::words::{addr_of, header_said, is_entry, is_read, past_shared};
 use fkv_base::Addr;
 use fkv_map::{Call, Op};
 use fkv_ops::HeaderSaid;
@@ -101,8 +102,17 @@ enum Sought {
     At(Slot),
     /// Each slot has an entry of another tag.
     Passed,
-    /// A word is none that a slot may have.
-    Spoiled,
+    /// A word is none that a slot may have, or the machine has to count.
+    Unusual,
+}
+
+/// Whether a search that ends at this word is the machine's: an update's that has a bound and is at an empty slot behind its first bucket. The machine
+/// counts the taken buckets then.
+#[inline(always)]
+fn is_counted(going: &Going, op: Op, word: u64, passed: usize) -> bool
+    ensures { result ≡ word == 0 && not (passed == 0) && is_some going.now.bound && not (is_read op) }
+{
+    word == 0 && passed != 0 && going.is_bounded() && !is_read(op)
 }
 
 /// Searches the seven slots of a bucket, of which the first has this word. So many buckets were passed before it.
@@ -114,9 +124,9 @@ fn seek_in<L: Line>(
     tag: u64,
     base: usize,
     first: u64,
-    _passed: usize,
+    passed: usize,
 ) -> Sought
-    requires at { (c : Course) × Goes c (L.seat line.old) op going.now × HasSlot c base (going.now.places.overflow - _passed) 0 first (L.stands line.old) }
+    requires at { (c : Course) × Goes c (L.seat line.old) op going.now × HasSlot c base (going.now.places.overflow - passed) 0 first (L.stands line.old) }
     requires tag { tag ≡ (home_of going.now.bits (key_of op)).tag }
     requires fits { base + 8 ≤ 2 ^ 62 }
     requires room { L.kept line.old ≤ 57 }
@@ -124,34 +134,45 @@ fn seek_in<L: Line>(
     ensures led { (start : L) (call : Call) → L.led start call line.old → L.led start call line.new }
     ensures kept { L.kept line.new ≤ L.kept line.old + 6 }
     ensures found { (its : Slot) → result ≡ At its → (c : Course) → Goes c (L.seat line.old) op going.now
-        → HasSlot c base (going.now.places.overflow - _passed) 0 first (L.stands line.old)
+        → HasSlot c base (going.now.places.overflow - passed) 0 first (L.stands line.old)
         → IsReached c its.place its.entry (entry_addr its.entry) (L.stands line.new) }
     ensures passed { result ≡ Passed → (c : Course) → Goes c (L.seat line.old) op going.now
-        → HasSlot c base (going.now.places.overflow - _passed) 0 first (L.stands line.old)
-        → IsAtLink c base (going.now.places.overflow - _passed) (L.stands line.new) }
+        → HasSlot c base (going.now.places.overflow - passed) 0 first (L.stands line.old)
+        → IsAtLink c base (going.now.places.overflow - passed) (L.stands line.new) }
 {
     let mut word = first;
     'slots: for slot in 0..6 {
         let judged = judge(word, tag);
         match judged {
             Judged::Here => {
+                let counted = is_counted(going, op, word, passed);
+                if counted {
+                    return Sought::Unusual;
+                }
                 return Sought::At(Slot {
                     place: base + slot,
                     entry: word,
                 });
             }
-            Judged::Spoiled => return Sought::Spoiled,
+            Judged::Spoiled => return Sought::Unusual,
             Judged::Other => {}
         }
         word = line.load(base + slot + 1);
     }
     let judged = judge(word, tag);
     match judged {
-        Judged::Here => Sought::At(Slot {
-            place: base + 6,
-            entry: word,
-        }),
-        Judged::Spoiled => Sought::Spoiled,
+        Judged::Here => {
+            let counted = is_counted(going, op, word, passed);
+            if counted {
+                Sought::Unusual
+            } else {
+                Sought::At(Slot {
+                    place: base + 6,
+                    entry: word,
+                })
+            }
+        }
+        Judged::Spoiled => Sought::Unusual,
         Judged::Other => Sought::Passed,
     }
 }
@@ -184,7 +205,7 @@ fn seek_on<L: Line>(line: &mut L, going: &Going, op: Op, tag: u64, first: usize)
         let sought = seek_in(line, going, op, tag, base, word, links + 1);
         match sought {
             Sought::At(slot) => return Some(slot),
-            Sought::Spoiled => return None,
+            Sought::Unusual => return None,
             Sought::Passed => {}
         }
     }
@@ -208,7 +229,7 @@ fn seek<L: Line>(line: &mut L, going: &Going, op: Op, first: usize, found: u64) 
     let sought = seek_in(line, going, op, start.tag, first, found, 0);
     match sought {
         Sought::At(slot) => Some(slot),
-        Sought::Spoiled => None,
+        Sought::Unusual => None,
         Sought::Passed => seek_on(line, going, op, start.tag, first),
     }
 }

@@ -1,3 +1,4 @@
+mod ByDevice
 pub mod Called
 pub mod KeeperCalled
 pub mod KeeperCommits

@@ -40,7 +40,7 @@ pub use Rattle.fkv_table.specs.Raises.{raising}
 pub use Rattle.fkv_table.specs.Seating.{HasDeskInHand, MaySit, rising, sitting}
 pub use Rattle.fkv_table.specs.Sits.{IsAsked, IsIdleEmpty, RepliedIn, Rests, Settled, StandsIn, Went}
 pub use Rattle.fkv_table.specs.Starts.{EachAt, HasSeat, IsFresh, rest_view}
-pub use Rattle.fkv_table.specs.Turns.{IsTurnAsked, asks_device}
+pub use Rattle.fkv_table.specs.Turns.{IsCounted, IsTurnAsked, asks_device, ended_by_device, over_by_device, told_by_device}
 pub use Rattle.fkv_table.specs.declared.happenings.Happening.{Happening}
 pub use Rattle.fkv_table.specs.declared.happenings.Happening.TheVariants.{Calls, Commits, KeeperMoves, Turns}
 pub use Rattle.law_world.specs.Below.fkv_world.Opened.{IsOpenedWorld}

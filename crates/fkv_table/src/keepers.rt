@@ -125,6 +125,7 @@ pub(crate) fn begin_turn<D: Device>(
     ensures seat { (seat.new.table_id ≡ seat.old.table_id) × (seat.new.id ≡ seat.old.id) }
     ensures noted { said.IsNoted (said.opening_of D.seen) words.now.key seat.old.me said.Turns seat.new.me }
     ensures keeping { said.IsKeeping (said.opening_of D.seen) words.now.key seat.new.me machine.new }
+    ensures by_device { said.ended_by_device machine.new.state.step ≡ false }
 {
     machine.begin_turn();
     note::<D, Turning>(words, seat);
@@ -242,6 +243,7 @@ fn step<D: Device>(
     ensures went { said.HasGoneOn seat.old.me.0.seen seat.new.me.0.seen }
     ensures calls { (said.led (said.plane (said.opening_of D.seen)) (said.opening_of D.seen words.now.key) seat.new.me.0.seen).past.calls ≡
         (said.led (said.plane (said.opening_of D.seen)) (said.opening_of D.seen words.now.key) seat.old.me.0.seen).past.calls }
+    ensures by_device { said.ended_by_device machine.new.state.step ≡ said.ended_by_device machine.old.state.step }
     ensures fewer { said.keeper_asks_left machine.new.shape machine.new.places machine.new.state < said.keeper_asks_left machine.old.shape machine.old.places
         machine.old.state }
     ensures beginning { said.IsBeginning machine.old.state.step → said.IsBeginning machine.new.state.step }
@@ -268,6 +270,7 @@ fn load_word<D: Device>(
     ensures went { said.HasGoneOn seat.old.me.0.seen seat.new.me.0.seen }
     ensures calls { (said.led (said.plane (said.opening_of D.seen)) (said.opening_of D.seen words.now.key) seat.new.me.0.seen).past.calls ≡
         (said.led (said.plane (said.opening_of D.seen)) (said.opening_of D.seen words.now.key) seat.old.me.0.seen).past.calls }
+    ensures by_device { said.ended_by_device machine.new.state.step ≡ said.ended_by_device machine.old.state.step }
     ensures fewer { said.keeper_asks_left machine.new.shape machine.new.places machine.new.state < said.keeper_asks_left machine.old.shape machine.old.places
         machine.old.state }
     ensures beginning { said.IsBeginning machine.old.state.step → said.IsBeginning machine.new.state.step }
@@ -286,6 +289,7 @@ fn load_words<D: Device>(words: &Words<D>, seat: &mut Place<D>, machine: &mut fk
     ensures went { said.HasGoneOn seat.old.me.0.seen seat.new.me.0.seen }
     ensures calls { (said.led (said.plane (said.opening_of D.seen)) (said.opening_of D.seen words.now.key) seat.new.me.0.seen).past.calls ≡
         (said.led (said.plane (said.opening_of D.seen)) (said.opening_of D.seen words.now.key) seat.old.me.0.seen).past.calls }
+    ensures by_device { said.ended_by_device machine.new.state.step ≡ said.ended_by_device machine.old.state.step }
     ensures left { said.keeper_asks_left machine.new.shape machine.new.places machine.new.state ≤ said.keeper_asks_left machine.old.shape machine.old.places
         machine.old.state }
     ensures over { said.keeper_word_due machine.new.places machine.new.state ≡ None }
@@ -299,7 +303,8 @@ fn load_words<D: Device>(words: &Words<D>, seat: &mut Place<D>, machine: &mut fk
     }
 }
 
-/// Makes the call of the device that the machine asks for, and adds that to the list.
+/// Makes the call of the device that the machine asks for, and adds that to the list. It ends the turn with `Device` only if the device itself has
+/// counted a failure, and does so where the device refuses the call.
 pub(crate) fn call_device<D: Device>(
     words: &Words<D>,
     seat: &mut Place<D>,
@@ -319,6 +324,7 @@ pub(crate) fn call_device<D: Device>(
     ensures moments { said.AtEachMoment D.moment D.left_since d.old d.new (said.IsLeftWithin (said.opening_of D.seen) words.now.key seat.old.me.0.seen
         seat.new.me.0.seen) }
     ensures due { D.expects d.new ≡ said.kinds_by (said.keeper_due machine.old) (D.expects d.old) }
+    ensures counted { said.IsCounted 1 (said.ended_by_device machine.new.state.step) (D.failed d.old) (D.failed d.new) (D.refuses d.old) (D.refuses d.new) }
     ensures fewer { said.keeper_asks_left machine.new.shape machine.new.places machine.new.state < said.keeper_asks_left machine.old.shape machine.old.places
         machine.old.state }
 {
@@ -342,6 +348,7 @@ pub(crate) fn word_steps<D: Device>(
     ensures went { said.HasGoneOn seat.old.me.0.seen seat.new.me.0.seen }
     ensures calls { (said.led (said.plane (said.opening_of D.seen)) (said.opening_of D.seen words.now.key) seat.new.me.0.seen).past.calls ≡
         (said.led (said.plane (said.opening_of D.seen)) (said.opening_of D.seen words.now.key) seat.old.me.0.seen).past.calls }
+    ensures by_device { said.ended_by_device machine.new.state.step ≡ said.ended_by_device machine.old.state.step }
     ensures told { said.keeper_ask machine.new.shape machine.new.places machine.new.state ≡ said.Done result }
     ensures left { said.keeper_asks_left machine.new.shape machine.new.places machine.new.state ≤ said.keeper_asks_left machine.old.shape machine.old.places
         machine.old.state }

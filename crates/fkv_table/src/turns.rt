@@ -1,5 +1,5 @@
 //! A turn of the keeper, whole or in pieces.
-ghost use Rattle.std.specs.Prelude.{◌≡◌, ◌<◌, ◌≤◌, true, false};
+ghost use Rattle.std.specs.Prelude.{◌≡◌, ◌<◌, ◌≤◌, ℕ, true, false};
 ghost use Rattle.fkv_table.specs.Said as said;
 
 use crate::keepers::{Keeper, KeeperPass, begin_turn, call_device, word_steps};
@@ -27,6 +27,7 @@ impl Keeper {
             pass.new.seat.me self.new.machine }
         ensures kept { said.HasKept said.Turns pass.old.seat.me.0.seen pass.new.seat.me.0.seen }
         ensures device { said.LeavesDevice (said.opening_of D.seen) table.now.table.shared.key pass.old.seat.me.0.seen pass.new.seat.me.0.seen }
+        ensures by_device { said.ended_by_device self.new.machine.state.step ≡ false }
     {
         begin_turn(&table.table.shared, &mut pass.seat, &mut self.machine);
     }
@@ -40,6 +41,7 @@ impl Keeper {
         ensures went { said.HasGoneOn pass.old.seat.me.0.seen pass.new.seat.me.0.seen }
         ensures device { said.LeavesDevice (said.opening_of D.seen) table.now.table.shared.key pass.old.seat.me.0.seen pass.new.seat.me.0.seen }
         ensures told { said.IsTurnAsked self.new.machine result }
+        ensures by_device { said.over_by_device result ≡ said.ended_by_device self.old.machine.state.step }
         ensures left { said.keeper_asks_left self.new.machine.shape self.new.machine.places self.new.machine.state ≤ said.keeper_asks_left
             self.old.machine.shape self.old.machine.places self.old.machine.state }
     {
@@ -68,8 +70,9 @@ impl Keeper {
         self.machine.device_ask()
     }
 
-    /// Makes the one call of the device that `device_ask` tells. Where it fails the turn is over, with `Device`. The device is the one that the
-    /// store was opened from, and it is honest. What a crash leaves in the middle of the call is what the life's calls may leave, with it or without it.
+    /// Makes the one call of the device that `device_ask` tells. Where it fails the turn is over, with `Device`. It is over so only if the device itself
+    /// has counted a failure in this call. The device is the one that the store was opened from, and it is honest. What a crash leaves in the middle of
+    /// the call is what the life's calls may leave, with it or without it.
     pub fn device_step<D: Device>(&mut self, table: &Table<D>, pass: &mut KeeperPass<D>, d: &mut D)
         requires at_work { said.IsKeeperAtWork (said.opening_of D.seen) table.now.table.shared.key table.now.table.shared.table_id pass.old.seat.table_id
             pass.old.seat.me self.old.machine }
@@ -84,6 +87,8 @@ impl Keeper {
         ensures moments { said.AtEachMoment D.moment D.left_since d.old d.new (said.IsLeftWithin (said.opening_of D.seen) table.now.table.shared.key
             pass.old.seat.me.0.seen pass.new.seat.me.0.seen) }
         ensures due { D.expects d.new ≡ said.kinds_by (said.keeper_due self.old.machine) (D.expects d.old) }
+        ensures counted { said.IsCounted 1 (said.ended_by_device self.new.machine.state.step) (D.failed d.old) (D.failed d.new) (D.refuses d.old)
+            (D.refuses d.new) }
         ensures fewer { said.keeper_asks_left self.new.machine.shape self.new.machine.places self.new.machine.state < said.keeper_asks_left
             self.old.machine.shape self.old.machine.places self.old.machine.state }
     {
@@ -91,8 +96,9 @@ impl Keeper {
     }
 
     /// Makes a turn to its end, with each call of the device that it needs. Its answers are those of the keeper's machine: it ends early
-    /// with `Broken`, `Device`, `EpochsSpent` or `Memory`. The device is the one that the store was opened from, and it is honest. What a crash
-    /// leaves in the middle of a turn is what the life's calls may leave behind a part of what the turn adds to the list.
+    /// with `Broken`, `Device`, `EpochsSpent` or `Memory`, and with `Device` only if the device itself has counted a failure in a call of it. The device
+    /// is the one that the store was opened from, and it is honest. What a crash leaves in the middle of a turn is what the life's calls may leave
+    /// behind a part of what the turn adds to the list.
     pub fn turn<D: Device>(
         &mut self,
         table: &Table<D>,
@@ -110,6 +116,8 @@ impl Keeper {
         ensures after { said.IsAfterSeen (said.opening_of D.seen) table.now.table.shared.key result.0.seat.me.0.seen (D.seen d.new) (D.may_leave d.new) }
         ensures moments { said.AtEachMoment D.moment D.left_since d.old d.new (said.IsLeftWithin (said.opening_of D.seen) table.now.table.shared.key
             pass.seat.me.0.seen result.0.seat.me.0.seen) }
+        ensures counted { (count : ℕ) × said.IsCounted count (said.told_by_device result.1) (D.failed d.old) (D.failed d.new) (D.refuses d.old)
+            (D.refuses d.new) }
         ensures told { said.IsTurnTold self.new.machine.state.last (said.keeper_ask self.new.machine.shape self.new.machine.places self.new.machine.state)
             result.1 }
     {
@@ -135,6 +143,8 @@ impl Keeper {
         ensures after { said.IsAfterSeen (said.opening_of D.seen) table.now.table.shared.key pass.new.seat.me.0.seen (D.seen d.new) (D.may_leave d.new) }
         ensures moments { said.AtEachMoment D.moment D.left_since d.old d.new (said.IsLeftWithin (said.opening_of D.seen) table.now.table.shared.key
             pass.old.seat.me.0.seen pass.new.seat.me.0.seen) }
+        ensures counted { (count : ℕ) × said.IsCounted count (said.told_by_device result) (D.failed d.old) (D.failed d.new) (D.refuses d.old)
+            (D.refuses d.new) }
         ensures told { said.IsTurnTold self.new.machine.state.last (said.keeper_ask self.new.machine.shape self.new.machine.places self.new.machine.state)
             result }
     {

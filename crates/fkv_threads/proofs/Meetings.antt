@@ -3,12 +3,15 @@ use Rattle.std.proofs.Common.{◌≡◌, ◌⊎◌, inl, inr, ℕ, Bool, true, f
 use Rattle.std.specs.Prelude.{if◌then◌else◌, nat_le}
 use Rattle.atomic_table.specs.Seated.{TableId}
 use Rattle.atomic_table.specs.Table.{Me}
-use Rattle.fkv_map.specs.declared.operations.Call.{Call}
+use Rattle.fkv_base.specs.declared.numbers.Key.{Key}
+use Rattle.fkv_map.specs.declared.operations.Call.TheVariants as call
+use Rattle.fkv_map.specs.declared.operations.Op.TheVariants.{Read}
+use Rattle.fkv_map.specs.declared.operations.Reply.{Reply}
+use Rattle.fkv_opening.specs.declared.opened_store.Opened.{Opened}
 use Rattle.fkv_seats.specs.Rule.{GoesOn, longer}
 use Rattle.fkv_seats.specs.declared.views.Role.{Role}
 use Rattle.fkv_seats.specs.declared.views.Role.TheVariants.{Sits}
 use Rattle.fkv_session.specs.Sessions.{Sitter}
-use Rattle.fkv_session.specs.declared.answers.Answer.{Answer}
 use Rattle.law_threads.specs.Below.fkv_table.Calls.{IsReady}
 use Rattle.law_threads.specs.Below.fkv_table.Desks.{Slot, Knows}
 use Rattle.law_threads.specs.Below.fkv_table.Happening.{Happening}
@@ -16,10 +19,13 @@ use Rattle.law_threads.specs.Below.fkv_table.Meets as met
 use Rattle.law_threads.specs.Below.fkv_table.Meets.{AreTwoReady}
 use Rattle.law_threads.specs.Below.fkv_table.Planes.{plane}
 use Rattle.law_threads.specs.Below.fkv_world.Runs.{World}
-use Rattle.law_threads.specs.Laws.{GoesOnFromWhatWasSeen}
-use Rattle.fkv_threads.specs.Meetings.{HasLearned, IsMeetingOf, ReadsWhatTheOtherSaw}
-use Rattle.fkv_threads.specs.Models.{sitting_of}
-use Rattle.fkv_threads.specs.Runs.{run_of}
+use Rattle.law_threads.specs.Below.fkv_world.World.{Now}
+use Rattle.law_threads.specs.Calls.{CallRun, IsOver, events_of}
+use Rattle.law_threads.specs.Laws.{GoesOnFromWhatWasSeen, IsWithin}
+use Rattle.law_threads.specs.Threads.{IsReadSince}
+use Rattle.fkv_threads.specs.Meetings.{HasLearned, IsMeetingOf, IsRead, ReadsWhatTheOtherSaw}
+use Rattle.fkv_threads.specs.Models.{Sitting, sitting_of}
+use Rattle.fkv_threads.specs.Runs.{IsLawful, run_of}
 use Rattle.fkv_threads.proofs.Shares.{ready_at}
 
 module _ {K : Type 0} (at : K → World) where
@@ -60,10 +66,19 @@ module _ {K : Type 0} (at : K → World) where
     whose = one_of (nat_le (length me.0.seen) (length me'.0.seen)) me.0.seen me'.0.seen;
   }
 
+  -- a read holds what its session had seen at the call, also if a poll answers it
+  read_since : (s s' : Sitting K) (key : Key) (reply : Reply) (o : Opened) (n : Now) (bytes : List ℕ) → IsRead at s key reply s' → IsOver at s.key o n bytes → IsWithin o n bytes (events_of s'.seen) → IsReadSince o n bytes s.seen s'.seen key reply
+  read_since s s' key reply o n bytes (inl its) over within = its.called.in_lives.reads o n bytes over within key reply refl its.told
+  read_since s s' key reply o n bytes (inr its) over within =
+      let asked : CallRun = run_of s.number (call.Op (Read key)) its.answer s.seen its.waits.seen in
+      let poll : CallRun = run_of its.polls.number call.Poll its.told its.polls.seen s'.seen in
+      let law : IsLawful at s.key poll IsWithin = subst (λ (x : K). IsLawful at x poll IsWithin) its.same its.polled.in_lives in
+      law.polled o n bytes asked over its.called.called within within key reply its.finished
+
   -- a read of the one holds what the other had seen
   pub reads_other : GoesOnFromWhatWasSeen at → ReadsWhatTheOtherSaw at
-  reads_other law one other one' other' later after call answer meeting behind called = λ o n bytes over within.
+  reads_other law one other one' other' later after key reply meeting behind read o n bytes over within =
       let on = meeting.first.goes_on in
       let same : meeting.seen ≡ other'.seen = λ i. (sym meeting.second.its i).seen in
       let whole : later.seen ≡ (behind.0 ++ on.between) ++ one.seen = behind.1 ∙ (ap (λ (x : List Happening). behind.0 ++ x) (sym same ∙ on.whole) ∙ sym (append_assoc behind.0 on.between one.seen)) in
-      law.reads o n bytes (run_of later.number call answer later.seen after.seen) one.seen (behind.0 ++ on.between, whole) (called.in_lives.reads o n bytes over within)
+      law.reads o n bytes one.seen later.seen after.seen key reply (behind.0 ++ on.between, whole) (read_since later after key reply o n bytes read over within)

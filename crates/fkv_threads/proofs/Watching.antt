@@ -22,7 +22,7 @@ use Rattle.law_threads.specs.Below.fkv_table.Keeps.{IsAfterSeen, IsKeeperAtWork,
 use Rattle.law_threads.specs.Below.fkv_table.Planes.{plane}
 use Rattle.law_threads.specs.Below.fkv_table.TurnAsk.{TurnAsk}
 use Rattle.law_threads.specs.Below.fkv_table.TurnAsk.TheVariants.{Device, Over}
-use Rattle.law_threads.specs.Below.fkv_table.Turns.{IsTurnAsked, asks_device}
+use Rattle.law_threads.specs.Below.fkv_table.Turns.{IsCounted, IsTurnAsked, asks_device, told_by_device}
 use Rattle.law_threads.specs.Images.{RecoversWithin}
 use Rattle.law_threads.specs.Refusals.{IsInTurn, IsKeeperAt, OfEachRefusal, TellsWhyNoCommit, TellsWhyNoTurn}
 use Rattle.law_threads.specs.Turns.{HasTurned, OfEachTurn, TellsItsFinish}
@@ -150,9 +150,11 @@ module _ {D : Type 0} (device : Ghosts D) where
     pub turn_of : (was : TableId) (k k' : KeeperModel) (me me' : Me Slot (Knows (Opening D))) (medium medium' : D) (in_turn : Bool) (answer : Result Turn Fault) → in_turn ≡ false → IsAtTable device key table k was me medium in_turn → IsKeeperReady (opening device) key table pass me' k' → device.honest medium'
         → IsAfterSeen (opening device) key me'.0.seen (device.seen medium') (device.may_leave medium') → HasKept Turns me.0.seen me'.0.seen
         → AtEachMoment device.moment device.left_since medium medium' (IsLeftWithin (opening device) key me.0.seen me'.0.seen)
-        → IsTurnTold k'.state.last (keeper_ask k'.shape k'.places k'.state) answer → RecoversWithin (opening device) key me.0.seen me'.0.seen → OfEachTurn (opening device) → OfEachRefusal (opening device)
+        → IsTurnTold k'.state.last (keeper_ask k'.shape k'.places k'.state) answer
+        → (count : ℕ) × IsCounted count (told_by_device answer) (device.failed medium) (device.failed medium') (device.refuses medium) (device.refuses medium')
+        → RecoversWithin (opening device) key me.0.seen me'.0.seen → OfEachTurn (opening device) → OfEachRefusal (opening device)
         → IsTurnOf device (watch_of key table k me medium in_turn) answer (watch_of key table k' me' medium' in_turn)
-    turn_of was k k' me me' medium medium' in_turn answer idle here ready honest after kept moments told recovers law refusals = record {
+    turn_of was k k' me me' medium medium' in_turn answer idle here ready honest after kept moments told counted recovers law refusals = record {
       same = record { key = refl; table = refl };
       watching = record { pass = pass; me = me'; its = at_rest k' me' medium' in_turn idle ready honest after; seen = refl };
       over = idle;
@@ -160,6 +162,7 @@ module _ {D : Type 0} (device : Ghosts D) where
       moments = moments;
       recovered = recovers;
       told = told;
+      counted = counted;
       finished = law key me'.0.seen answer its;
       refused = refusals.turns key me.0.seen me'.0.seen answer in_turn_then its;
     }

@@ -22,7 +22,7 @@ use Rattle.law_threads.specs.Below.fkv_table.KeeperCalls.{HasGoneOn, HasKept}
 use Rattle.law_threads.specs.Below.fkv_table.Keeps.{IsLeftWithin, LeavesDevice}
 use Rattle.law_threads.specs.Below.fkv_table.TurnAsk.{TurnAsk}
 use Rattle.law_threads.specs.Below.fkv_table.TurnAsk.TheVariants.{Device, Over}
-use Rattle.law_threads.specs.Below.fkv_table.Turns.{IsTurnAsked}
+use Rattle.law_threads.specs.Below.fkv_table.Turns.{IsCounted, IsTurnAsked, over_by_device, told_by_device}
 use Rattle.law_threads.specs.Images.{RecoversWithin}
 use Rattle.law_threads.specs.Refusals.{TellsWhyNoCommit, TellsWhyNoTurn}
 use Rattle.law_threads.specs.Turns.{TellsItsFinish}
@@ -65,7 +65,7 @@ module _ {D : Type 0} (device : Ghosts D) where
     pub finished : IfOver next (λ answer. TellsItsFinish (opening device) key w'.seen answer)
     pub refused : IfOver next (λ answer. TellsWhyNoTurn (opening device) key w'.seen answer)
 
-  -- A turn has begun, by which the keeper's machine was this, and has gone on so.
+  -- A turn has begun, by which the keeper's machine was this, and has gone on so. No call of the device was made, so it isn't over with `Device`.
   pub record HasBegunTurn (w : Watch (Opening D) D) (next : TurnAsk) (w' : Watch (Opening D) D) : Type 0 where
     pub same : IsSame w w'
     pub medium : w'.device ≡ w.device
@@ -74,6 +74,7 @@ module _ {D : Type 0} (device : Ghosts D) where
     pub left : asks_left w'.machine ≤ asks_left its
     pub kept : HasKept Turns w.seen begun
     pub leaves : LeavesDevice (opening device) w.key w.seen begun
+    pub uncalled : over_by_device next ≡ false
     pub driven : HasDriven w.key begun next w'
 
   -- Where a call of the device is due nothing changes, and else a turn begins.
@@ -82,19 +83,21 @@ module _ {D : Type 0} (device : Ghosts D) where
     pub begins : w.in_turn ≡ false → HasBegunTurn w next w'
 
   -- From this medium on the call of the device was made that was due, and the turn has gone on. An image that a crash leaves in the middle of the call is one that
-  -- the life may leave at some moment of it, and holds a prefix of the life as it was then.
+  -- the life may leave at some moment of it, and holds a prefix of the life as it was then. The turn is over with `Device` only if the device has failed in this very call. It is if
+  -- the device refuses it.
   pub record HasStepped (w : Watch (Opening D) D) (medium : D) (next : TurnAsk) (w' : Watch (Opening D) D) : Type 0 where
     pub same : IsSame w w'
     pub called : List Happening
     pub went : HasGoneOn w.seen called
     pub due : device.expects w'.device ≡ kinds_by (keeper_due w.machine) (device.expects medium)
+    pub counted : IsCounted 1 (over_by_device next) (device.failed medium) (device.failed w'.device) (device.refuses medium) (device.refuses w'.device)
     pub fewer : asks_left w'.machine < asks_left w.machine
     pub moments : AtEachMoment device.moment device.left_since medium w'.device (IsLeftWithin (opening device) w.key w.seen called)
     pub recovered : RecoversWithin (opening device) w.key w.seen called
     pub driven : HasDriven w.key called next w'
 
   -- A whole turn was made. An image that a crash leaves in the middle of it is one that the life may leave at some moment of it, and holds a prefix of the life as it
-  -- was then. A commit that it tells as finished is sealed, and a refusal has its cause.
+  -- was then. A commit that it tells as finished is sealed, and a refusal has its cause. It has ended with `Device` only if the device has failed in a call of it. It has if the device refuses one.
   pub record IsTurnOf (w : Watch (Opening D) D) (answer : Result Turn Fault) (w' : Watch (Opening D) D) : Type 0 where
     pub same : IsSame w w'
     pub watching : IsWatching device w'
@@ -103,6 +106,7 @@ module _ {D : Type 0} (device : Ghosts D) where
     pub moments : AtEachMoment device.moment device.left_since w.device w'.device (IsLeftWithin (opening device) w.key w.seen w'.seen)
     pub recovered : RecoversWithin (opening device) w.key w.seen w'.seen
     pub told : IsTurnTold w'.machine.state.last (keeper_ask w'.machine.shape w'.machine.places w'.machine.state) answer
+    pub counted : (count : ℕ) × IsCounted count (told_by_device answer) (device.failed w.device) (device.failed w'.device) (device.refuses w.device) (device.refuses w'.device)
     pub finished : TellsItsFinish (opening device) w.key w'.seen answer
     pub refused : TellsWhyNoTurn (opening device) w.key w'.seen answer
 

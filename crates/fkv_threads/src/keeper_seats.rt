@@ -63,7 +63,8 @@ impl<D: Device + Drop> KeeperSeat<D> {
     /// it. It holds a prefix of the life as it was then (`recovered`). A commit that the turn tells as finished is sealed, with its number and points. Each
     /// point was fair as the commit was in hand (`finished`). Both are so if fewer than 2^64 - 1 calls of sessions begin. What is said of images also asks that
     /// the life began with one that reaches far. A refusal has its cause: a call of the device has failed, in this turn or before it, the epoch's word that the
-    /// turn has loaded is the last, or no memory was granted for a copy of the index (`refused`).
+    /// turn has loaded is the last, or no memory was granted for a copy of the index (`refused`). It ends with `Device` only if the device itself has counted a
+    /// failure in a call of this turn. Where the device refuses such a call it ends so, and with no other fault (`counted`).
     pub fn turn(&mut self) -> Result<Turn, Fault>
         requires idle { self.old.in_turn ≡ false }
         ensures turned { said.IsTurnOf D.Device self.old result self.new }
@@ -73,8 +74,8 @@ impl<D: Device + Drop> KeeperSeat<D> {
             .make_turn(&self.table, &mut self.pass, &mut self.device)
     }
 
-    /// Begins a turn, and carries it on up to its next call of the device, which isn't made, or to its end. Where a call of the device is due nothing
-    /// changes, and `Device` is answered again.
+    /// Begins a turn, and carries it on up to its next call of the device, which isn't made, or to its end. So it ends with any of the turn's faults but
+    /// `Device`. Where a call of the device is due nothing changes, and `Device` is answered again.
     pub fn drive(&mut self) -> TurnAsk
         ensures driven { said.IsDriven D.Device self.old result self.new }
     {
@@ -95,7 +96,8 @@ impl<D: Device + Drop> KeeperSeat<D> {
         self.keeper.device_ask()
     }
 
-    /// Makes the call of the device that is due, and carries the turn on as `drive` does. Where the call fails the turn is over, with `Device`.
+    /// Makes the call of the device that is due, and carries the turn on as `drive` does. Where the call fails the turn is over, with `Device`. It is over so
+    /// only if the device itself has counted a failure in this very call (`counted`).
     pub fn step(&mut self) -> TurnAsk
         requires due { self.old.in_turn ≡ true }
         ensures stepped { said.HasStepped D.Device self.old self.old.device result self.new }

@@ -19,7 +19,8 @@ pub fn join<D: Device>(table: &Table<D>, first: Pass<D>, second: Pass<D>) -> (Pa
 }
 
 /// If two sessions of one table have met, each later read of the one gives its key's value after some beginning of the history that holds what the other
-/// had seen before. What the other was told as done is among that. So a session reads what another was told done, or something newer.
+/// had seen before. So does one that has to wait, and that a poll answers: its call is behind the meeting. What the other was told as done is among that.
+/// So a session reads what another was told done, or something newer.
 pub fn law_of_meetings<K>()
     ensures { (at : K → said.World) → said.ReadsWhatTheOtherSaw at }
 {

@@ -3,8 +3,9 @@ ghost use Rattle.std.specs.Prelude.{◌≡◌, ◌∷◌, List, true};
 ghost use Rattle.fkv_base.specs.declared.faults.Fault.{Fault};
 ghost use Rattle.fkv_base.specs.declared.shapes.Shape.{Shape};
 ghost use Rattle.fkv_keeper.specs.DrainLaws.{call_told};
-ghost use Rattle.fkv_keeper.specs.Keeping.{KeeperState};
+ghost use Rattle.fkv_keeper.specs.Keeping.{Finality, KeeperModel, KeeperState};
 ghost use Rattle.fkv_keeper.specs.KeeperRun.{IsOpened, KeeperEvent, is_calling, keeper_run};
+ghost use Rattle.fkv_keeper.specs.NewKeepers.{IsNewKeeper};
 ghost use Rattle.fkv_keeper.specs.declared.answers.KeeperTold.TheVariants.{CommitRefused, TurnRefused};
 ghost use Rattle.fkv_keeper.specs.declared.keepers.Keeping.TheVariants.{Ended};
 ghost use Rattle.fkv_plane.specs.declared.places.Places.{Places};
@@ -37,6 +38,13 @@ pub fn law_of_refusals()
 /// device is in a turn.
 pub fn law_of_last_calls()
     ensures { RefusalsHaveCauses }
+{}
+
+/// The keeper of a store that was opened starts each commit by its store's class, whatever happens. So a commit is refused for the versions and the window
+/// of that class alone.
+pub fn law_of_the_class()
+    ensures { (shape : Shape) (p : Places) (last : Finality) (lost : _) (k : KeeperModel) (events : List KeeperEvent) → IsNewKeeper shape last lost k
+        → (keeper_run shape p k.state events).start.asked.class ≡ shape.class }
 {}
 
 /// So it is in each life of a store that was opened, whatever the sessions do, what stands in words and on the device, and which calls fail.

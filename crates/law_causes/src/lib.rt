@@ -3,4 +3,4 @@
 
 mod laws;
 
-pub use laws::{law_of_last_calls, law_of_refusals, law_world_refused};
+pub use laws::{law_of_last_calls, law_of_refusals, law_of_the_class, law_world_refused};

@@ -44,7 +44,7 @@ thread_law in_turn tickets at = record {
   done = λ key o n bytes its over run law. done_so in_turn at key o n bytes its over run law.ordered;
   reads = λ key o n bytes its over run law. reads_so at key its run o n bytes over law.in_time;
   finished = λ key o n bytes its over run law. finished_so at key o n bytes its over run law.ordered;
-  polled = λ key o n bytes asked poll over ran polled law few k value its. polls_so tickets at key asked poll ran polled k value its few o n bytes over law.in_time;
+  polled = λ key o n bytes asked poll over ran polled law few k reply its. polls_so tickets at key asked poll ran polled k reply its few o n bytes over law.in_time;
   history = λ key o n bytes its over run law. record { legal = law.legal; ordered = law.ordered; begins = begins_so at key its run n bytes };
 }
 
@@ -93,7 +93,7 @@ read_sooner m less first last key reply begins its =
 pub goes_on : {K : Type 0} (at : K → World) → GoesOnFromWhatWasSeen at
 goes_on at = record {
   history = λ n bytes less more seen. history_goes_on at n bytes less more seen;
-  reads = λ o n bytes its less seen read key reply called told. read_sooner _ _ _ _ key.0 reply (history_goes_on at n bytes less its.before seen) (read key reply called told);
+  reads = λ o n bytes less more behind key reply seen its. read_sooner _ _ _ _ key.0 reply (history_goes_on at n bytes less more seen) its;
 }
 
 seen_in : {K : Type 0} (at : K → World) (n : Now) (bytes : List ℕ) (less more : List Happening) → IsSeenBy (plane at) less more → AreAllowed (plane at) more → IsSeenIn at n bytes less more

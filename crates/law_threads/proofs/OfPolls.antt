@@ -47,7 +47,7 @@ use Rattle.fkv_table.specs.Planes.{plane}
 use Rattle.fkv_table.proofs.Lives.{led_run}
 use Rattle.law_threads.specs.Calls.{CallRun, HasRun, IsOver, events_of}
 use Rattle.law_threads.specs.Polls.{FinishedIsSeen, HasFinished, IsPolledRead}
-use Rattle.law_threads.specs.Threads.{IsBeginning, history_seen}
+use Rattle.law_threads.specs.Threads.{IsBeginning, IsReadSince, history_seen}
 use Rattle.law_threads.proofs.Course.{Answering, AtOnce, ByStep, InTurn, seen_answered, seen_called}
 use Rattle.law_threads.proofs.Histories.{begins_with, events_both}
 use Rattle.law_threads.proofs.OfDurable.{trace_behind}
@@ -110,12 +110,15 @@ few_before : (later before : List Event) → HasFewCalls (later ++ before) → H
 few_before [] before few = few
 few_before (event ∷ later) before few = few_before later before (before_few event (later ++ before) few)
 
-module _ (in_turn : GivesTicketsInTurn) {K : Type 0} (at : K → World) (key : K) (asked poll : CallRun) (ran : HasRun at key asked) (polled : HasRun at key poll) (k : Key) (value : Option Value) (its : IsPolledRead asked poll k value) (few : HasFewCalls (events_of poll.behind)) where
+module _ (in_turn : GivesTicketsInTurn) {K : Type 0} (at : K → World) (key : K) (asked poll : CallRun) (ran : HasRun at key asked) (polled : HasRun at key poll) (k : Key) (reply : Reply) (its : IsPolledRead asked poll k reply) (few : HasFewCalls (events_of poll.behind)) where
   abbrev number : ℕ
   number = poll.number
 
   abbrev ticket : Ticket
   ticket = its.ticket
+
+  abbrev value : Option Value
+  value = its.value
 
   abbrev trace_at : List Happening → List Traced
   trace_at es = (run (at key) (events_of es)).past.trace
@@ -215,12 +218,13 @@ module _ (in_turn : GivesTicketsInTurn) {K : Type 0} (at : K → World) (key : K
         absurd (subst (IsIn (finished.Read ticket value)) none is_in)
     by_how left list is_in (InTurn step) = by_step left list is_in step
 
-    pub polls_so : IsInTime (opening_map bytes o) (history_seen n bytes asked.before) (history_seen n bytes poll.behind) k.0 (read_reply value)
+    pub polls_so : IsReadSince o n bytes asked.before poll.behind k reply
     polls_so =
         let how = told_polled polled.answered.its polled.answered.finished poll.answer (finished.Read ticket value) polled.answered.told its.has_finished in
         let its_telling : IsToldIn at (at key) number poll.call rest (since_call at key poll polled) (told.Polled how.left) polled.answered.finished =
         subst (λ (x : Told). IsToldIn at (at key) number poll.call rest (since_call at key poll polled) x polled.answered.finished) how.polled (is_told at key poll polled) in
-        by_how how.left its_telling.finished (subst (IsIn (finished.Read ticket value)) (sym its_telling.same) how.is_in) its_telling.how
+        subst (λ (told : Reply). IsReadSince o n bytes asked.before poll.behind k told) (sym its.told)
+        (by_how how.left its_telling.finished (subst (IsIn (finished.Read ticket value)) (sym its_telling.same) how.is_in) its_telling.how)
 
 -- ---- updates that a poll says are finished
 polled_line : (numbers : ℕ → ℕ) (number effects left : ℕ) (list : List Finished) (before : List Traced) (serial : Serial) (reply : Reply) → IsIn (finished.Update serial reply) list

@@ -1,6 +1,6 @@
 -- The keeper's own events at a table say which call has begun last, and the law of its refusals does the rest.
 use Rattle.std.proofs.Common.{◌≡◌, ◌⊎◌, inl, inr, ◌∙◌, ℕ, List, [], ◌∷◌, ◌++◌, refl, ap, sym, subst, Bool, true, false}
-use Rattle.std.specs.Prelude.{Option, Some, None, Result, Err}
+use Rattle.std.specs.Prelude.{Option, Some, Result, Err}
 use Rattle.std.proofs.lemmas.Bool.{false≢true}
 use Rattle.fkv_base.specs.declared.commits.CommitKind.{CommitKind}
 use Rattle.fkv_base.specs.declared.faults.Fault.{Fault}
@@ -11,7 +11,7 @@ use Rattle.fkv_plane.specs.declared.asks.Ask.TheVariants.{Done}
 use Rattle.fkv_plane.specs.declared.places.Places.{Places}
 use Rattle.law_causes.specs.Ends.{Begun, Commit, RefusalsHaveCauses, Turn, begun_after, last_call}
 use Rattle.law_order.specs.Below.fkv_core.Openings.{beginning}
-use Rattle.law_order.specs.Below.fkv_keeper.KeeperRun.{BeginsCommit, BeginsTurn, Calls, Gets, KeeperEvent, Replies, is_in_hand, keeper_run}
+use Rattle.law_order.specs.Below.fkv_keeper.KeeperRun.{BeginsCommit, BeginsTurn, KeeperEvent, is_in_hand, keeper_run}
 use Rattle.law_order.specs.Below.fkv_keeper.KeeperTold.{KeeperTold}
 use Rattle.law_order.specs.Below.fkv_keeper.KeeperTold.TheVariants.{Device}
 use Rattle.law_order.specs.Below.fkv_keeper.Keeping.{KeeperModel, KeeperState, keeper_ask}

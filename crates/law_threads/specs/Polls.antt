@@ -15,14 +15,12 @@ use Rattle.law_order.specs.Below.fkv_session.Finished.TheVariants as finished
 use Rattle.law_order.specs.Below.fkv_world.Runs.{World}
 use Rattle.law_order.specs.Below.fkv_world.World.{Event, Now}
 use Rattle.law_log.specs.Trace.{HasReply, IsIn}
-use Rattle.law_order.specs.Below.law_opening.Log.Maps.{opening_map}
-use Rattle.law_order.specs.Rules.InTime.{IsInTime}
 use Rattle.law_order.specs.Rules.Ordered.{effects_so_far}
 use Rattle.law_order.specs.Tickets.Few.{HasFewCalls}
 use Rattle.law_order.specs.Below.law_refine.Events.Lines.{read_reply}
 use Rattle.fkv_table.specs.declared.happenings.Happening.{Happening}
 use Rattle.law_threads.specs.Calls.{CallRun, HasRun, IsOver, events_of}
-use Rattle.law_threads.specs.Threads.{history_seen}
+use Rattle.law_threads.specs.Threads.{IsReadSince}
 
 -- an answer says that this is finished
 abbrev pub HasFinished : Answer → Finished → Type 0
@@ -33,21 +31,22 @@ HasFinished its_answer its = ⊥
 abbrev pub FinishedIsSeen : Opened → Now → List ℕ → CallRun → Type 0
 FinishedIsSeen o n bytes its = (serial : Serial) (reply : Reply) → HasFinished its.answer (finished.Update serial reply) → HasReply (effects_so_far n bytes (events_of its.behind)) its.number serial.0 reply
 
--- A poll answers a read that the session had been told to wait for: its pass had seen then what the read's call had led to.
-pub record IsPolledRead (asked poll : CallRun) (key : Key) (value : Option Value) : Type 0 where
+-- A poll gives this reply to a read that the session had been told to wait for: its pass had seen then what the read's call had led to.
+pub record IsPolledRead (asked poll : CallRun) (key : Key) (reply : Reply) : Type 0 where
   pub ticket : Ticket
   pub reads : asked.call ≡ call.Op (Read key)
   pub waits : asked.answer ≡ answer.PendingRead ticket
   pub same : poll.number ≡ asked.number
   pub polls : poll.call ≡ call.Poll
+  pub value : Option Value
   pub has_finished : HasFinished poll.answer (finished.Read ticket value)
+  pub told : reply ≡ read_reply value
   pub later : List Happening
   pub behind : poll.before ≡ later ++ asked.behind
 
 -- Such a read too gives its key's value after some beginning of the history that holds what its pass had seen when it was called, if few calls begin.
 abbrev pub AnswersInTime : Opened → Now → List ℕ → CallRun → CallRun → Type 0
-AnswersInTime o n bytes asked poll = HasFewCalls (events_of poll.behind) → (k : Key) (value : Option Value) → IsPolledRead asked poll k value
-    → IsInTime (opening_map bytes o) (history_seen n bytes asked.before) (history_seen n bytes poll.behind) k.0 (read_reply value)
+AnswersInTime o n bytes asked poll = HasFewCalls (events_of poll.behind) → (k : Key) (reply : Reply) → IsPolledRead asked poll k reply → IsReadSince o n bytes asked.before poll.behind k reply
 
 -- so does each poll at a table, in lives of which this is so
 abbrev pub PollsWhatWasSeen : {K : Type 0} → (K → World) → (Opened → Now → List ℕ → List Event → Type 0) → Type 0

@@ -18,7 +18,7 @@ use Rattle.fkv_table.specs.declared.happenings.Happening.{Happening}
 use Rattle.fkv_table.specs.declared.happenings.Happening.TheVariants.{Commits, Turns}
 use Rattle.fkv_table.specs.Desks.{Slot, Knows}
 use Rattle.fkv_table.specs.KeeperCalls.{HasGoneOn, HasKept}
-use Rattle.fkv_table.specs.Keeps.{IsKeeperAtWork, IsKeeperReady}
+use Rattle.fkv_table.specs.Keeps.{IsKeeperAtWork}
 use Rattle.fkv_table.specs.Turns.{asks_device}
 use Rattle.law_threads.specs.Calls.{IsOver, events_of}
 use Rattle.law_threads.specs.Turns.{HasTurned}

@@ -45,10 +45,14 @@ read_told (answer.Found value) = Some (reply.Found value)
 read_told answer.Absent = Some reply.Absent
 read_told its = None
 
+-- The reply is the key's value after some beginning of the history as it was seen behind, which holds the history as it was seen before.
+abbrev pub IsReadSince : Opened → Now → List ℕ → List Happening → List Happening → Key → Reply → Type 0
+IsReadSince o n bytes before behind key reply = IsInTime (opening_map bytes o) (history_seen n bytes before) (history_seen n bytes behind) key.0 reply
+
 -- A read gives its key's value after some beginning of the history that holds what its pass had seen when it was called.
 abbrev pub ReadsWhatWasSeen : Opened → Now → List ℕ → CallRun → Type 0
 ReadsWhatWasSeen o n bytes its = (key : Key) (reply : Reply) → its.call ≡ call.Op (Read key) → read_told its.answer ≡ Some reply
-    → IsInTime (opening_map bytes o) (history_seen n bytes its.before) (history_seen n bytes its.behind) key.0 reply
+    → IsReadSince o n bytes its.before its.behind key reply
 
 -- ---- one history
 -- What the pass has seen behind the call has one legal history. The calls that were answered stand in it, with serials and replies, once each and in their order.

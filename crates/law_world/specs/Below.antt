@@ -9,4 +9,5 @@ pub mod fkv_manifest
 pub mod fkv_ops
 pub mod fkv_pending
 pub mod fkv_session
+pub mod fkv_words
 pub mod fkv_world

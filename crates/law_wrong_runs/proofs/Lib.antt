@@ -4,4 +4,8 @@ mod Lives
 mod OfCommits
 mod OfPrefixes
 mod NewBytes
+mod Gated
 mod OfImages
+mod ShortRun
+mod ShortStore
+mod OfShort

@@ -1,4 +1,5 @@
 pub mod Said
+pub mod ShortImages
 pub mod Tables
 pub mod WrongCommits
 pub mod WrongImages

@@ -230,6 +230,18 @@ slotted_at_once shape s step = s
 abbrev pub slot_says_next_number : Shape → Tables
 slot_says_next_number shape = of_keeper (λ was s. slotted_at_once shape (with_no_points s s.commit) s.step)
 
+-- a commit is written as soon as it begins, and keeps nothing; its log ends at the tail of then, up to which nothing is flushed
+abbrev pub with_tail_as_end : Option Commit → Option Commit
+with_tail_as_end None = None
+with_tail_as_end (Some c) = Some (record c { end = c.first })
+
+abbrev pub unflushed_at_once : Shape → KeeperState → Keeping → KeeperState
+unflushed_at_once shape s (keeping.Ended (Begun number)) = writes_begun shape (record s { commit = with_tail_as_end s.commit }) (with_tail_as_end s.commit)
+unflushed_at_once shape s step = s
+
+abbrev pub commit_is_written_unflushed : Shape → Tables
+commit_is_written_unflushed shape = of_keeper (λ was s. unflushed_at_once shape (with_no_points s s.commit) s.step)
+
 -- the right ones
 abbrev pub right_tables : Tables
 right_tables = record { session = λ was s. s; keeper = λ was s. s }

@@ -1,4 +1,4 @@
--- A life by a wrong table whose images name no commit of it, and have a fault.
+-- A life by a wrong table whose images name no commit of it, have a fault, and hold no store.
 use Rattle.std.specs.Prelude.{◌≡◌, ◌≢◌, ℕ, ◌≤◌, true, replicate, List, [], ◌∷◌, ◌++◌, length, Some}
 use Rattle.fkv_base.specs.declared.commits.CommitKind.TheVariants.{Full}
 use Rattle.fkv_base.specs.declared.faults.Damage.TheVariants.{Manifest}
@@ -10,6 +10,8 @@ use Rattle.fkv_disk.specs.Calls.{MayLeave, reads_as}
 use Rattle.fkv_manifest.specs.Newest.{newest, slot_in}
 use Rattle.fkv_newest.specs.Newest.{HasShape}
 use Rattle.fkv_opening.specs.Faults.{IsFaultOf}
+use Rattle.fkv_opening.specs.Opened.{IsStoreOf}
+use Rattle.fkv_opening.specs.declared.opened_store.Opened.{Opened}
 use Rattle.fkv_record.specs.Places.{number_at}
 use Rattle.fkv_plane.specs.declared.places.Places.{Places}
 use Rattle.law_order.specs.Below.fkv_keeper.Keeping.{KeeperState}
@@ -43,6 +45,11 @@ NeverNamed t shape opening events =
 abbrev pub AlwaysFaulty : Tables → Shape → World → List Event → Type 0
 AlwaysFaulty t shape opening events = (bytes image : List ℕ) → BeginAtFirst shape bytes → MayLeave bytes (run_by t opening events).past.calls image → IsFaultOf image (Damaged Manifest 1)
 
+-- so none holds a store
+abbrev pub NeverAStore : Tables → Shape → World → List Event → Type 0
+NeverAStore t shape opening events =
+    (bytes image : List ℕ) (o : Opened) → BeginAtFirst shape bytes → MayLeave bytes (run_by t opening events).past.calls image → IsStoreOf image o → ⊥
+
 -- There are such images: of any bytes the calls may leave what they make of them.
 abbrev pub MayStay : Tables → World → List Event → Type 0
 MayStay t opening events = (bytes : List ℕ) → MayLeave bytes (run_by t opening events).past.calls (reads_as bytes (run_by t opening events).past.calls)
@@ -56,3 +63,4 @@ pub record AreWrongImages (its : KeeperState) (one other : SessionState) : Type 
   pub stays : MayStay (slot_says_next_number shape) (kept_world shape places its one other) five_calls
   pub unnamed : NeverNamed (slot_says_next_number shape) shape (kept_world shape places its one other) five_calls
   pub faulty : AlwaysFaulty (slot_says_next_number shape) shape (kept_world shape places its one other) five_calls
+  pub storeless : NeverAStore (slot_says_next_number shape) shape (kept_world shape places its one other) five_calls

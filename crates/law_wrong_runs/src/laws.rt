@@ -3,6 +3,8 @@ ghost use Rattle.law_wrong_runs.specs.Said as said;
 
 use fkv_creating::law_new_stores;
 use fkv_manifest::{law_gates, law_slots_are_named};
+use fkv_record::{law_formats_apart, law_spellings_apart};
+use law_opening::law_log_opened;
 
 /// Two sessions of a store with one bucket, whose key has 70 by one record. A table by which a record that is fixed is changed in place leads to a
 /// history that isn't legal, as does one by which a record is copied while another session may still change it in place; the same events leave legal
@@ -31,12 +33,26 @@ pub fn law_of_wrong_prefixes()
 {}
 
 /// Two sessions of the same store. A commit is written by a slot that says the number after its own. So no image that the finished writes may leave names a
-/// commit that has begun, and each has a fault: its newest slot has the number of the other slot's parity. The bytes of a new store are such as
-/// this life begins with, and there is an image.
+/// commit that has begun, and each has a fault: its newest slot has the number of the other slot's parity. So none holds a store. The bytes of a new store are
+/// such as this life begins with, and there is an image.
 pub fn law_of_wrong_images()
     ensures { (keeper : said.KeeperState) (one other : said.SessionState) → said.AreWrongImages keeper one other }
 {
     law_gates();
     law_slots_are_named();
     law_new_stores();
+}
+
+/// Two sessions of a new store, whose file ends behind the slots. Session 0 gives a key a value, and a commit is written before its log is flushed. Its slot says
+/// that the log ends behind the record, so no image that the finished writes may leave reaches far. All else that the law of prefixes asks of an image holds of
+/// each. It names the commit, which is current, has no fault, and holds a store, which is what the commit keeps: nothing. There is an image.
+pub fn law_of_short_images()
+    ensures { (keeper : said.KeeperState) (one other : said.SessionState) → said.AreShortImages keeper one other }
+{
+    law_gates();
+    law_slots_are_named();
+    law_new_stores();
+    law_spellings_apart();
+    law_formats_apart();
+    law_log_opened();
 }

@@ -4,5 +4,6 @@
 mod laws;
 
 pub use laws::{
-    law_of_wrong_commits, law_of_wrong_images, law_of_wrong_lives, law_of_wrong_prefixes,
+    law_of_short_images, law_of_wrong_commits, law_of_wrong_images, law_of_wrong_lives,
+    law_of_wrong_prefixes,
 };

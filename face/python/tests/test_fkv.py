@@ -21,7 +21,7 @@ try:
 except ImportError:
     numpy = None
 SMALL = fkv.Shape(bucket_bits=4, page=64, frames=16, mutable_pages=8, sessions=4, overflow=64, disk_pages=4096)
-TINY = fkv.Shape(bucket_bits=6, page=4, frames=2, mutable_pages=1, sessions=2, overflow=0, disk_pages=8)
+TINY = fkv.Shape(bucket_bits=6, page=4, frames=2, mutable_pages=1, sessions=2, overflow=64, disk_pages=154)
 
 
 class OverFile(unittest.TestCase):
@@ -276,8 +276,9 @@ class Stores(OverFile):
         with open(self.path, "r+b") as file:
             file.write(b"FKVSTOR1")
         with self.open() as store:
-            # (its library's session is a user's then)
-            self.assertEqual(store.shape, dataclasses.replace(SMALL, sessions=SMALL.sessions + 1))
+            # (its library's session is a user's then, and so are its overflow buckets)
+            sessions = SMALL.sessions + 1
+            self.assertEqual(store.shape, dataclasses.replace(SMALL, sessions=sessions, overflow=SMALL.overflow + 65 * sessions))
             store.renew()
             self.assertEqual(self.text(), b"FKVSTOR1")
             store.renew(SMALL)
@@ -289,7 +290,7 @@ class Stores(OverFile):
             with self.assertRaises(fkv.Full):
                 for key in range(1000):
                     session.put(key, 1)
-            # (no commit keeps more, so each later update is refused, and reads go on)
+            # (each later update is refused, and reads go on)
             self.assertRaises(fkv.Full, session.tick)
             self.assertRaises(fkv.Full, session.put, 0, 2)
             self.assertEqual(session[0], 1)

@@ -16,8 +16,8 @@ pub enum RenewedKeys {
 
 /// The bytes of a new store that is a renewal of an old one: its points, and just its keys with their values, as commit 1. So a store that
 /// has no room or no commits left lives on. `bytes` are all bytes of the old store's file. `shape` is the new one's, which is a living store
-/// then, or `None` for the old one's sizes and class. Here its sessions are all of the file's, with the library's own, which is the last. The
-/// caller writes the new file, and syncs it and its folder.
+/// then, or `None` for the old one's sizes and class. Here its sessions are all of the file's, with the library's own, which is the last, and
+/// its overflow buckets are all, with those that calls leave to polls. The caller writes the new file, and syncs it and its folder.
 ///
 /// `BadShape`, `NotAStore`, `Damaged`, `Memory`; where the shape is too small `IndexFull`, `LogFull`, `NoSession`.
 pub fn renew(bytes: &[u8], shape: Option<&Shape>, keys: RenewedKeys) -> Result<Vec<u8>, Error> {
@@ -36,9 +36,9 @@ pub fn renew(bytes: &[u8], shape: Option<&Shape>, keys: RenewedKeys) -> Result<V
     Ok(room)
 }
 
-/// Renews the store of one file in a new one, as [`renew`] does, and puts that in place whole. Here `shape` has the sessions that can be
-/// joined. The old file is locked meanwhile, and stays as it is. Refused as [`renew`], and by `Device`: with `WouldBlock` the old store is open,
-/// with `AlreadyExists` there is a file of the new name.
+/// Renews the store of one file in a new one, as [`renew`] does, and puts that in place whole. Here `shape` is as of [`Store::make`]. The old
+/// file is locked meanwhile, and stays as it is. Refused as [`renew`], and by `Device`: with `WouldBlock` the old store is open, with
+/// `AlreadyExists` there is a file of the new name.
 pub fn renew_file(
     old: impl AsRef<Path>,
     new: impl AsRef<Path>,

@@ -277,7 +277,8 @@ impl Session {
 
     /// Lets the store go on: call it between calls, as often as you like. Each 64th tick, or each 8th while a commit waits for the session,
     /// polls and refreshes it. What a poll of it has finished isn't told. `Asleep`, and why no commit is finished any more: the keeper's
-    /// fault, `VersionsSpent` once the store has taken its last commit, `LogFull` once an update has found the log full, `NoKeeper`.
+    /// fault, `VersionsSpent` once the store has taken its last commit, `NoKeeper`. `LogFull` once an update has found the log full: commits of a
+    /// living store go on then, and it is to be renewed.
     pub fn tick(&mut self) -> Result<(), Error> {
         answer(unsafe { raw::fkv_tick(self.file.at, self.at) })?;
         Ok(())
@@ -492,8 +493,8 @@ impl Session {
     }
 
     /// Polls until nothing is pending, with refreshes between, and tells what is finished. It wants a keeper, whose turns this thread makes
-    /// as it waits. `Asleep`; `NoKeeper` where none runs; the keeper's fault where that can't go on; `LogFull` or `IndexFull`, within about a
-    /// second, where an update will never find room. If `tell` panics, then the process is aborted.
+    /// as it waits. `Asleep`; `NoKeeper` where none runs; the keeper's fault where that can't go on; in a specified store `LogFull` or `IndexFull`,
+    /// within about a second, where an update will never find room. If `tell` panics, then the process is aborted.
     pub fn settle(&mut self, mut tell: impl FnMut(Finished)) -> Result<(), Error> {
         let mut tell: &mut dyn FnMut(Finished) = &mut tell;
         let user = ptr::from_mut(&mut tell).cast();

@@ -62,7 +62,7 @@ pub struct Size {
     pub file_bytes: u64,
     /// Keys that fit, all but surely.
     pub keys: u64,
-    /// Records that the log takes in all the store's life.
+    /// Records that calls may append in all the store's life. Others are left to polls.
     pub records: u64,
 }
 

@@ -46,7 +46,7 @@ pub struct Stats {
     pub read_only: u64,
     /// The next record's address.
     pub tail: u64,
-    /// Overflow buckets of the index that are taken, of the shape's `overflow`.
+    /// Overflow buckets of the index that are taken: calls of a living store take the shape's `overflow`, polls the rest.
     pub overflow: u64,
     /// Entries of the index that were taken at the opening, or as the last full commit since copied it. None is given back.
     pub entries: u64,

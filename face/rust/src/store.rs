@@ -25,9 +25,11 @@ pub struct Shape {
     pub mutable_pages: u64,
     /// Sessions: 1 to 31. The file has one more, which is the library's.
     pub sessions: u64,
-    /// Buckets that full ones overflow to: 0 to 2^24, of a specified store to 1,024.
+    /// Buckets that full ones overflow to: 0 to 2^24, of a specified store to 1,024. A file that is made has 65 more for each of its sessions, which
+    /// calls leave to polls, as far as there may be so many. [`Store::shape`] is without these.
     pub overflow: u64,
-    /// Pages that the log may have in the file: 1 to 2^30, of a specified store to 65,536.
+    /// Pages that the log may have in the file: 1 to 2^30, of a specified store to 65,536. Of n sessions of a living file calls leave the last
+    /// 65·n² records to polls.
     pub disk_pages: u64,
 }
 
@@ -277,7 +279,7 @@ impl Store {
         Ok(Store::of_opened(at))
     }
 
-    /// The store's shape.
+    /// The store's shape: a file that is made for it is no smaller.
     pub fn shape(&self) -> Shape {
         Shape::of_raw(unsafe { raw::fkv_shape_of(self.file.at) })
     }

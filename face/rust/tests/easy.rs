@@ -183,7 +183,7 @@ fn a_full_log_is_told() {
         mutable_pages: 1,
         sessions: 1,
         overflow: 64,
-        disk_pages: 8,
+        disk_pages: 73,
     };
     Store::make(&path.0, &small).unwrap();
     let store = Store::open(&path.0).unwrap();

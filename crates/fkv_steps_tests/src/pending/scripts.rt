@@ -130,7 +130,7 @@ const TAKES: &[Ask<TryAnswer>] = &[
 const ADDED: &[Step<'static>] = &[
     Step {
         words: &[],
-        occasion: Occasion::Call,
+        occasion: Occasion::Call(None),
         asks: &[&[
             Ask::Load(SLOT),
             Ask::Load(STATE),
@@ -210,7 +210,7 @@ const SEEKS_NOTHING: &[Step<'static>] = &[Step {
 const READ_ON: &[Step<'static>] = &[
     Step {
         words: &[(STATE, 1)],
-        occasion: Occasion::Call,
+        occasion: Occasion::Call(None),
         asks: &[&[Ask::Load(SLOT), Ask::Load(STATE), Ask::Done(AWAITED)]],
         left: Some(Wait {
             has_asked: false,

@@ -10,9 +10,10 @@ use Rattle.fkv_index.specs.declared.finding.FindAnswer.{FindAnswer}
 use Rattle.fkv_index.specs.declared.finding.FindStep.{FindStep}
 use Rattle.fkv_index.specs.declared.finding.FindStep.TheVariants.{AtRest, LinksBucket, LoadsLink, LoadsSlot, LoadsTaken, TakesBucket}
 use Rattle.fkv_index.specs.declared.finding.Finding.{Finding}
-use Rattle.fkv_index.specs.declared.finding.Found.TheVariants.{Contended, Full, NoSlot, Slot}
+use Rattle.fkv_index.specs.declared.finding.Found.{Found}
+use Rattle.fkv_index.specs.declared.finding.Found.TheVariants.{Contended, Full, Kept, NoSlot, Slot}
 use Rattle.fkv_index.specs.declared.finding.Linking.{Linking}
-use Rattle.fkv_index.specs.declared.finding.Linking.TheVariants.{Made, Never, Once}
+use Rattle.fkv_index.specs.declared.finding.Linking.TheVariants.{Made, Never, Once, Within}
 use Rattle.fkv_index.specs.Finding.{ended_list, entered, find_ask, find_led, find_next, find_next_ask, find_step_ask, led_ask, led_to, link_led, slot_led}
 use Rattle.fkv_index.specs.Slots.{entry_tag, is_entry, link_of, slot_word}
 use Rattle.law_local.specs.Tries.Replies.{HasNoLink}
@@ -90,13 +91,19 @@ led_so p f (LinksBucket word) reply at = linked f (LinksBucket word) reply (led_
 pub links_so : (p : Places) (f : Finding) (reply : ℕ) → is_linking (find_next p f reply) ≡ true → (is_linking f ≡ true) ⊎ HasNoLink f.step reply
 links_so p f reply is = led_so p f f.step reply refl is
 
--- ---- a search that finds no bucket to take
+-- ---- a search that finds no bucket to take, or none that it may
+abbrev pub is_full : Found → Bool
+is_full Full = true
+is_full Kept = true
+is_full found = false
+
 -- it was to link
 abbrev FullSo : FindStep → Ask FindAnswer → Type 0
-FullSo step ask = (its : FindAnswer) → ask ≡ Done its → its.found ≡ Full → is_link_step step ≡ true
+FullSo step ask = (its : FindAnswer) → ask ≡ Done its → is_full its.found ≡ true → is_link_step step ≡ true
 
-not_full : (a its : FindAnswer) → Done a ≡ Done its → its.found ≡ Full → a.found ≡ Full
-not_full a its e full = let same : a ≡ its = cc in ap (λ (x : FindAnswer). x.found) same ∙ full
+-- one that has found this is at its end
+not_full : {X : Type 0} (a its : FindAnswer) → is_full a.found ≡ false → Done a ≡ Done its → is_full its.found ≡ true → X
+not_full a its none e full = let same : a ≡ its = cc in let is : is_full a.found ≡ is_full its.found = ap (λ (x : FindAnswer). is_full x.found) same in let clash : false ≡ true = sym none ∙ is ∙ full in cc
 
 goes_full : (after : Finding) (at step : FindStep) → (at ≡ AtRest → ⊥) → FullSo step (find_step_ask after at)
 unfolding find_step_ask
@@ -108,13 +115,13 @@ goes_full after (TakesBucket word taken) step busy its e full = cc
 goes_full after (LinksBucket word) step busy its e full = cc
 
 lost_full : (f : Finding) (step : FindStep) → FullSo step (Done (record { found = Contended; spare = f.spare }))
-lost_full f step its e full = let same : Contended ≡ Full = not_full (record { found = Contended; spare = f.spare }) its e full in cc
+lost_full f step its e full = not_full (record { found = Contended; spare = f.spare }) its refl e full
 
 slot_full : (f : Finding) (step : FindStep) (place word : ℕ) → FullSo step (Done (record { found = Slot place word; spare = f.spare }))
-slot_full f step place word its e full = let same : Slot place word ≡ Full = not_full (record { found = Slot place word; spare = f.spare }) its e full in cc
+slot_full f step place word its e full = not_full (record { found = Slot place word; spare = f.spare }) its refl e full
 
 none_full : (f : Finding) (step : FindStep) → FullSo step (Done (record { found = NoSlot; spare = f.spare }))
-none_full f step its e full = let same : NoSlot ≡ Full = not_full (record { found = NoSlot; spare = f.spare }) its e full in cc
+none_full f step its e full = not_full (record { found = NoSlot; spare = f.spare }) its refl e full
 
 enters_full : (p : Places) (f : Finding) (step : FindStep) (number : ℕ) → FullSo step (led_ask (entered p f number))
 enters_full p f step number = by_test (nat_lt 0 f.links && nat_le number p.overflow) refl
@@ -150,6 +157,7 @@ takes_full f word false step = goes_full (record f { step = LinksBucket word }) 
 list_full : (f : Finding) (word : ℕ) (linking : Linking) (step : FindStep) → FullSo step (led_ask (ended_list f word linking))
 list_full f word Never step = none_full f step
 list_full f word Once step = takes_full f word (f.spare == 0) step
+list_full f word (Within bound) step = takes_full f word true step
 list_full f word Made step = lost_full f step
 
 links_full : (p : Places) (f : Finding) (reply : ℕ) (step : FindStep) → FullSo step (led_ask (link_led p f reply))
@@ -168,5 +176,5 @@ full_so p f (LoadsTaken word) reply = λ its e full. refl
 full_so p f (TakesBucket word taken) reply = λ its e full. refl
 full_so p f (LinksBucket word) reply = λ its e full. refl
 
-pub full_links : (p : Places) (f : Finding) (reply : ℕ) (its : FindAnswer) → find_next_ask p f reply ≡ Done its → its.found ≡ Full → is_linking f ≡ true
+pub full_links : (p : Places) (f : Finding) (reply : ℕ) (its : FindAnswer) → find_next_ask p f reply ≡ Done its → is_full its.found ≡ true → is_linking f ≡ true
 full_links p f reply its e full = first_so (is_link_step f.step) (has_linked f.linking) (full_so p f f.step reply its e full)

@@ -11,6 +11,7 @@ use Rattle.law_log.specs.Ghosts.{Log}
 use Rattle.law_local.specs.Below.fkv_ops.TryAnswer.{TryAnswer}
 use Rattle.law_local.specs.Below.fkv_ops.TryAnswer.TheVariants as answer
 use Rattle.law_local.specs.Below.fkv_ops.Occasion.TheVariants.{Call as AtCall, Poll as AtPoll}
+use Rattle.law_local.specs.Below.fkv_ops.Bounds.{bounds_of}
 use Rattle.law_local.specs.Below.fkv_ops.Seen.{Seen}
 use Rattle.law_local.specs.Below.fkv_ops.Trying.{is_prepare, try_ask, try_next}
 use Rattle.law_local.specs.Below.fkv_pending.TheAttempting.{Attempting}
@@ -69,7 +70,7 @@ module _ (home : ℕ → ℕ) (k : Seat) where
   hands_over log seen pending spare is_orphaned waits = attempt_begins_apart home k.places log (bits_of k) pending seen AtPoll spare is_orphaned waits
 
   begins_anew : (log : Log) (s : SessionState) (seen : Seen) → IsKnownAnew k (request_in_hand s) seen (Tried log)
-  begins_anew log s seen spare is_orphaned = attempt_begins_apart home k.places log (bits_of k) (request_in_hand s) seen AtCall spare is_orphaned (λ latched. never latched)
+  begins_anew log s seen spare is_orphaned = attempt_begins_apart home k.places log (bits_of k) (request_in_hand s) seen (AtCall (bounds_of k.shape)) spare is_orphaned (λ latched. never latched)
 
   -- ---- a call begins
   pub call_apart : (log : Log) (s : SessionState) (its : Call) → is_busy s.step ≡ false → Knows log s → Knows log (session_begun k s its)

@@ -95,6 +95,7 @@ module _ (home : ℕ → ℕ) (m : Map) (log log' : Log) (held : Held home m log
     end_stays w (walk.OnDisk addr) so = (shows_stays (begin_of w) so.0, come_stays (begin_of w) addr.0 w.first so.1, so.2)
     end_stays w (walk.Value value) so = absurd so
     end_stays w walk.Full so = absurd so
+    end_stays w walk.Kept so = absurd so
     end_stays w walk.Contended so = absurd so
 
     ended_stays : (w : WalkState) (its : WalkAnswer) → WalkApart home log request seen w (Ended its) → WalkApart home log' request seen w (Ended its)
@@ -103,6 +104,7 @@ module _ (home : ℕ → ℕ) (m : Map) (log log' : Log) (held : Held home m log
     ended_stays w (walk.OnDisk addr) so = end_stays w (walk.OnDisk addr) so
     ended_stays w (walk.Value value) so = absurd so
     ended_stays w walk.Full so = absurd so
+    ended_stays w walk.Kept so = absurd so
     ended_stays w walk.Contended so = absurd so
 
     walk_stays : (w : WalkState) (step : Walking) → WalkApart home log request seen w step → WalkApart home log' request seen w step
@@ -122,6 +124,9 @@ module _ (home : ℕ → ℕ) (m : Map) (log log' : Log) (held : Held home m log
     shares_stays try.LoadsPhase has row = tt
     shares_stays try.Walks has row = elim row [ inl none ↦ inl (none_on has none.0, in_stays (home (key_in t.request)) t.walk.first none.1) | inr apart ↦ inr (apart.0, apart.1, walk_stays t.request t.seen (raises has) t.walk t.walk.step apart.2, apart.3, apart.4) ]
     shares_stays (try.DropsExclusive its) has row = λ wait. none_on has (row wait)
+    shares_stays try.CountsTaken has row = none_on has row
+    shares_stays (try.LoadsTail waiting) has row = none_on has row
+    shares_stays (try.LoadsTaken waiting) has row = none_on has row
     shares_stays (try.Ended its) has row = none_on has row
     shares_stays (try.LoadsSafe addr version) has row = none_on has row
     shares_stays (try.SwapsValue addr) has row = none_on has row
@@ -142,6 +147,9 @@ module _ (home : ℕ → ℕ) (m : Map) (log log' : Log) (held : Held home m log
     copies_stay try.TakesShared row = tt
     copies_stay try.LoadsPhase row = tt
     copies_stay try.Walks row = tt
+    copies_stay try.CountsTaken row = tt
+    copies_stay (try.LoadsTail waiting) row = tt
+    copies_stay (try.LoadsTaken waiting) row = tt
     copies_stay (try.DropsExclusive its) row = tt
     copies_stay (try.Ended its) row = tt
     copies_stay (try.LoadsSafe addr version) row = tt

@@ -30,7 +30,7 @@ use Rattle.fkv_index.specs.declared.finding.FindStep.{FindStep}
 use Rattle.fkv_index.specs.declared.finding.FindStep.TheVariants as find
 use Rattle.fkv_index.specs.declared.finding.Finding.{Finding}
 use Rattle.fkv_index.specs.declared.finding.Purpose.{Purpose}
-use Rattle.fkv_index.specs.declared.finding.Purpose.TheVariants.{Read, Update}
+use Rattle.fkv_index.specs.declared.finding.Purpose.TheVariants.{Read, Update, UpdateWithin}
 use Rattle.fkv_index.specs.Finding.{find_ask, find_step_ask, first_finding}
 use Rattle.fkv_index.specs.Slots.{entry_addr}
 use Rattle.law_log.specs.Chains.{VersionsFall, head_of, version_at}
@@ -40,6 +40,8 @@ use Rattle.law_log.specs.Trace.{IsIn}
 use Rattle.law_local.specs.Below.fkv_ops.Reason.TheVariants as reason
 use Rattle.law_local.specs.Below.fkv_ops.TryAnswer.{TryAnswer}
 use Rattle.law_local.specs.Below.fkv_ops.TryAnswer.TheVariants as answer
+use Rattle.law_local.specs.Below.fkv_ops.TheWaiting.{Waiting}
+use Rattle.law_local.specs.Below.fkv_ops.TheWaiting.TheVariants.{For, ForRecord}
 use Rattle.law_local.specs.Below.fkv_ops.AppendAnswer.{AppendAnswer}
 use Rattle.law_local.specs.Below.fkv_ops.AppendAnswer.TheVariants as append
 use Rattle.law_local.specs.Below.fkv_ops.HeldRecord.{HeldRecord}
@@ -50,15 +52,17 @@ use Rattle.law_local.specs.Below.fkv_ops.Seen.{Seen}
 use Rattle.law_local.specs.Below.fkv_ops.OldValue.{OldValue}
 use Rattle.law_local.specs.Below.fkv_ops.OldValue.TheVariants.{InMemory, Known}
 use Rattle.law_local.specs.Below.fkv_ops.TheTrying.{Trying}
-use Rattle.law_local.specs.Below.fkv_ops.TheTrying.TheVariants.{Appends, ChangesValue, DropsExclusive, DropsShared, Ended, LoadsAnswer, LoadsCurrent, LoadsOld, LoadsPhase, LoadsSafe, SwapsValue, TakesExclusive, TakesShared, Walks}
+use Rattle.law_local.specs.Below.fkv_ops.TheTrying.TheVariants.{Appends, ChangesValue, CountsTaken, DropsExclusive, DropsShared, Ended, LoadsAnswer, LoadsCurrent, LoadsOld, LoadsPhase, LoadsSafe, LoadsTail, LoadsTaken, SwapsValue, TakesExclusive, TakesShared, Walks}
 use Rattle.law_local.specs.Below.fkv_ops.WalkAnswer.{WalkAnswer}
 use Rattle.law_local.specs.Below.fkv_ops.WalkAnswer.TheVariants as walk
 use Rattle.law_local.specs.Below.fkv_ops.TheWalking.{Walking}
 use Rattle.law_local.specs.Below.fkv_ops.TheWalking.TheVariants as walking
 use Rattle.law_local.specs.Below.fkv_ops.Appending.{append_ask, append_next}
-use Rattle.law_local.specs.Below.fkv_ops.Requests.{is_blind, is_read, purpose_of}
-use Rattle.law_local.specs.Below.fkv_ops.Trying.{TryState, answer_ledto, append_ledto, appends, awaits, changes, copies, copies_from, current_ledto, ended_without, ends, exclusive_dropped, exclusive_ledto, full_at, has_walked, held_used, is_above, is_marked, is_moving_on, is_next_marked, is_own_version, is_still_in, is_surely_own, latch_shared, phase_loaded, is_prepare, is_wait, met_disk, met_nowhere, met_record, must_shift, new_try, old_ledto, region_met, safe_loaded, shared_dropped, shared_ledto, takes_effect, told_value, try_ask, try_begun, try_next, trying_ask, trying_next, value_changed, walk_ledto, walked, walks, wants_exclusive, wants_shared, with_latch}
+use Rattle.law_local.specs.Below.fkv_ops.Bounds.{bounds_at, is_past_taken, is_past_tail}
+use Rattle.law_local.specs.Below.fkv_ops.Requests.{is_blind, is_read, purpose_at}
+use Rattle.law_local.specs.Below.fkv_ops.Trying.{TryState, answer_ledto, append_ledto, appends, awaits, changes, copies, copies_from, count_loaded, current_ledto, ended_without, ends, ends_by, ends_so, exclusive_dropped, exclusive_ledto, full_at, has_walked, held_used, is_above, is_bounded, is_marked, is_moving_on, is_next_marked, is_own_version, is_still_in, is_surely_own, latch_shared, phase_loaded, is_prepare, is_wait, met_disk, met_nowhere, met_record, must_count, must_shift, new_try, old_ledto, region_met, safe_loaded, shared_dropped, shared_ledto, tail_loaded, taken_loaded, takes_effect, told_value, try_ask, try_begun, try_next, trying_ask, trying_next, value_changed, walk_ledto, walked, walks, wants_exclusive, wants_shared, with_latch}
 use Rattle.law_local.specs.Below.fkv_ops.Values.{value_of}
+use Rattle.law_local.specs.Below.fkv_ops.Waiting.{told_of}
 use Rattle.law_local.specs.Below.fkv_ops.Walking.{WalkState, walk_ask, walk_next, walk_on, walking_ask}
 use Rattle.law_local.specs.Tries.OnWay.{IsFoundAt, IsOrderly}
 use Rattle.law_local.specs.Tries.Replies.{IsTrueReply}
@@ -130,6 +134,7 @@ none_past home log t its orderly near prepare unmarked apart passes update = by_
         (λ in_memory high. come_low log (begin_of t.walk) addr.0 (head_in t.seen) t.walk.first t.request.version from_near few so.1 (tested e) (below addr.0 (begin_of t.walk) so.2) in_memory high)
     by_end (walk.Value value) so e = absurd so
     by_end walk.Full so e = absurd so
+    by_end walk.Kept so e = absurd so
     by_end walk.Contended so e = absurd so
 
 -- ---- where a walk has come to its end
@@ -182,6 +187,7 @@ ended_apart_at home log request seen w walk.Nowhere its apart e = subst (EndApar
 ended_apart_at home log request seen w (walk.OnDisk addr) its apart e = subst (EndApart home log request seen w) e apart
 ended_apart_at home log request seen w (walk.Value value) its apart e = absurd apart
 ended_apart_at home log request seen w walk.Full its apart e = absurd apart
+ended_apart_at home log request seen w walk.Kept its apart e = absurd apart
 ended_apart_at home log request seen w walk.Contended its apart e = absurd apart
 
 end_apart : (home : ℕ → ℕ) (log : Log) (p : Places) (request : Request) (seen : Seen) (w : WalkState) (step : Walking) (its : WalkAnswer) → WalkRow home log w step → WalkApart home log request seen w step → walking_ask p w step ≡ Done its
@@ -217,16 +223,42 @@ module _ (home : ℕ → ℕ) (log : Log) (p : Places) where
       by_test true e = record { latch = tt; shares = λ (has : false ≡ true). cc; copies = tt }
       by_test false e = record { latch = tt; shares = λ has. none (waits_so t.has_shared (is_wait its) has e) has; copies = tt }
 
-  ends_apart : (t : TryState) (its : TryAnswer) → (is_wait its ≡ true → SharesNone t) → Apart (ends p t its)
-  unfolding ends
-  ends_apart t its none = by_test t.has_exclusive
+  either_apart : (b : Bool) (one other : TryState) → Apart one → Apart other → Apart (if b then one else other)
+  either_apart true one other first second = first
+  either_apart false one other first second = second
+
+  ends_now_apart : (t : TryState) (its : TryAnswer) → (is_wait its ≡ true → SharesNone t) → Apart (ends_so p t its)
+  unfolding ends_so
+  ends_now_apart t its none = by_test t.has_exclusive
     where
       by_test : (b : Bool) → Apart (if b then with_latch p (record t { has_exclusive = false }) DropExclusive (DropsExclusive its) else ended_without p t its)
       by_test true = record { latch = tt; shares = λ has wait. none wait has; copies = tt }
       by_test false = ended_apart t its none
 
+  -- it looks for room before it waits
+  waits_apart : (t : TryState) (its : TryAnswer) (waiting : Waiting) → SharesNone t → Apart (ends_by p t its (Some waiting))
+  waits_apart t its waiting none = either_apart (is_bounded t) (record t { step = LoadsTail waiting }) (ends_so p t its) (record { latch = tt; shares = none; copies = tt }) (ends_now_apart t its (λ wait. none))
+
+  ends_apart : (t : TryState) (its : TryAnswer) → (is_wait its ≡ true → SharesNone t) → Apart (ends p t its)
+  unfolding ends
+  ends_apart t (answer.Wait it) none = waits_apart t (answer.Wait it) (For it) (none refl)
+  ends_apart t (answer.AwaitsDisk it) none = waits_apart t (answer.AwaitsDisk it) (ForRecord it) (none refl)
+  ends_apart t its none = ends_now_apart t its none
+
+  tail_apart : (t : TryState) (waiting : Waiting) (tail : ℕ) → SharesNone t → Apart (tail_loaded p t waiting tail)
+  unfolding tail_loaded
+  tail_apart t waiting tail none =
+      let looks : TryState = record t { step = LoadsTaken waiting } in
+      either_apart (is_past_tail (bounds_at t.occasion) tail) (ends_so p t answer.LogFull) (if t.walk.entry == 0 then looks else ends_so p t (told_of waiting)) (ends_now_apart t answer.LogFull (λ wait. none))
+      (either_apart (t.walk.entry == 0) looks (ends_so p t (told_of waiting)) (record { latch = tt; shares = none; copies = tt }) (ends_now_apart t (told_of waiting) (λ wait. none)))
+
+  taken_apart : (t : TryState) (waiting : Waiting) (taken : ℕ) → SharesNone t → Apart (taken_loaded p t waiting taken)
+  unfolding taken_loaded
+  taken_apart t waiting taken none =
+      either_apart (is_past_taken (bounds_at t.occasion) taken) (ends_so p t answer.IndexFull) (ends_so p t (told_of waiting)) (ends_now_apart t answer.IndexFull (λ wait. none)) (ends_now_apart t (told_of waiting) (λ wait. none))
+
   full_apart : (t : TryState) (refused : TryAnswer) (occasion : Occasion) → SharesNone t → Apart (ends p t (full_at occasion refused))
-  full_apart t refused Call none = ends_apart t refused (λ wait. none)
+  full_apart t refused (Call bounds) none = ends_apart t refused (λ wait. none)
   full_apart t refused Poll none = ends_apart t (answer.Wait reason.Full) (λ wait. none)
 
   -- ---- a new record
@@ -262,10 +294,6 @@ module _ (home : ℕ → ℕ) (log : Log) (p : Places) where
   awaits_apart : (t : TryState) (addr : Addr) → SharesNone t → Apart (awaits p t addr)
   awaits_apart t addr none = ends_apart t (answer.AwaitsDisk (record { entry = t.walk.entry; addr = addr })) (λ wait. none)
 
-  either_apart : (b : Bool) (one other : TryState) → Apart one → Apart other → Apart (if b then one else other)
-  either_apart true one other first second = first
-  either_apart false one other first second = second
-
   held_apart : (t : TryState) (addr : Addr) (its : Option HeldRecord) → SharesNone t → Apart (held_used p t addr its)
   unfolding held_used
   held_apart t addr None none = awaits_apart t addr none
@@ -276,7 +304,15 @@ module _ (home : ℕ → ℕ) (log : Log) (p : Places) where
       (awaits_apart t addr none)
 
   nowhere_apart : (t : TryState) → SharesNone t → Apart (met_nowhere p t)
-  nowhere_apart t none = either_apart (is_read t.request.op) (ends p t answer.Absent) (copies p t (Known absent_word) false) (ends_apart t answer.Absent (λ wait. none)) (anew_apart t (Known absent_word) none)
+  nowhere_apart t none =
+      let counts : TryState = record t { step = CountsTaken } in
+      either_apart (is_read t.request.op) (ends p t answer.Absent) (if must_count p t then counts else copies p t (Known absent_word) false) (ends_apart t answer.Absent (λ wait. none))
+      (either_apart (must_count p t) counts (copies p t (Known absent_word) false) (record { latch = tt; shares = none; copies = tt }) (anew_apart t (Known absent_word) none))
+
+  count_apart : (t : TryState) (taken : ℕ) → SharesNone t → Apart (count_loaded p t taken)
+  unfolding count_loaded
+  count_apart t taken none =
+      either_apart (is_past_taken (bounds_at t.occasion) taken) (ends p t answer.IndexFull) (copies p t (Known absent_word) false) (ends_apart t answer.IndexFull (λ wait. none)) (anew_apart t (Known absent_word) none)
 
   disk_apart : (t : TryState) (addr : Addr) → SharesNone t → Apart (met_disk p t addr)
   disk_apart t addr none =
@@ -302,6 +338,7 @@ module _ (home : ℕ → ℕ) (log : Log) (p : Places) where
   walked_apart t (walk.OnDisk addr) none = disk_apart t addr none
   walked_apart t (walk.Value value) none = ends_apart t (answer.Wait reason.Contended) (λ wait. none)
   walked_apart t walk.Full none = full_apart t answer.IndexFull t.occasion none
+  walked_apart t walk.Kept none = full_apart t answer.IndexFull t.occasion none
   walked_apart t walk.Contended none = ends_apart t (answer.Wait reason.Contended) (λ wait. none)
 
   -- ---- behind the walk
@@ -357,11 +394,12 @@ module _ (home : ℕ → ℕ) (log : Log) (p : Places) where
       w = (walks p t).walk
 
       unlinked : is_linking w.finding ≡ false
-      unlinked = by_purpose (purpose_of t.request.op)
+      unlinked = by_purpose (purpose_at t.occasion t.request.op)
         where
           by_purpose : (purpose : Purpose) → is_linking (first_finding p t.home purpose t.spare) ≡ false
           by_purpose Read = refl
           by_purpose Update = refl
+          by_purpose (UpdateWithin bound) = refl
 
       begins : (w.first ≡ None) × (w.finding.step ≡ find.AtRest → ⊥) × (is_linking w.finding ≡ false)
       begins = (refl, rested_step, unlinked)
@@ -489,6 +527,7 @@ module _ (home : ℕ → ℕ) (log : Log) (p : Places) where
               | inr on ↦ inr (apart.0, on, apart.3, apart.4)
             ]
       ]
+  row_apart room t CountsTaken reply orderly falls near tells word at row says takes shares copies = count_apart (record t { effect = None }) reply shares
   row_apart room t (LoadsSafe addr version) reply orderly falls near tells word at row says takes shares copies = safe_apart (record t { effect = None }) addr version reply (near row.0) shares row.1 says
   row_apart room t (SwapsValue addr) reply orderly falls near tells word at row says takes shares copies = effect_apart (record t { effect = None }) (reply_from None t.request.op)
   row_apart room t (LoadsCurrent addr) reply orderly falls near tells word at row says takes shares copies = current_apart (record t { effect = None; walk = walk_next p t.walk reply }) addr (walk_ask p (walk_next p t.walk reply)) at shares
@@ -499,6 +538,8 @@ module _ (home : ℕ → ℕ) (log : Log) (p : Places) where
       old_apart (record t { effect = None; walk = walk_next p t.walk reply }) (walk_ask p (walk_next p t.walk reply)) at shares
       (λ moves. subst (λ (e : ℕ). (t.has_exclusive ≡ true) ⊎ HasOwn home log t.request (entry_addr e)) (sym (loads_same p t.walk row.1.addr reply row.1.its.loads)) (copies moves))
   row_apart room t (Appends its) reply orderly falls near tells word at row says takes shares copies = append_apart (record t { effect = None; append = append_next p room t.append reply }) its (append_ask p (append_next p room t.append reply)) at shares copies
+  row_apart room t (LoadsTail waiting) reply orderly falls near tells word at row says takes shares copies = tail_apart (record t { effect = None }) waiting reply shares
+  row_apart room t (LoadsTaken waiting) reply orderly falls near tells word at row says takes shares copies = taken_apart (record t { effect = None }) waiting reply shares
   row_apart room t (DropsExclusive its) reply orderly falls near tells word at row says takes shares copies = dropped_apart (record t { effect = None; latching = latch_next t.latching reply }) its t.latching reply takes (λ wait has. shares has wait)
   row_apart room t (DropsShared its) reply orderly falls near tells word at row says takes shares copies = unshared_apart (record t { effect = None; latching = latch_next t.latching reply }) its (latch_next_ask t.latching reply) at shares
 
@@ -591,6 +632,7 @@ none_at_end home log p t its knows apart asks has = by_step t.step asks knows.ro
     by_step Walks e row takes shares = elim shares [ inl none ↦ none.0 | inr walks ↦ by_walk t.walk.step row.1 walks.1 walks.2 e ]
     by_step (DropsExclusive told) e row takes shares = by_latch t.latching told takes e
     by_step (Ended told) e row takes shares = shares
+    by_step CountsTaken e row takes shares = shares
     by_step (LoadsSafe addr version) e row takes shares = shares
     by_step (SwapsValue addr) e row takes shares = shares
     by_step (LoadsCurrent addr) e row takes shares = shares
@@ -599,6 +641,8 @@ none_at_end home log p t its knows apart asks has = by_step t.step asks knows.ro
     by_step (TakesExclusive old) e row takes shares = shares
     by_step LoadsOld e row takes shares = shares
     by_step (Appends reply) e row takes shares = shares
+    by_step (LoadsTail waiting) e row takes shares = shares
+    by_step (LoadsTaken waiting) e row takes shares = shares
     by_step (DropsShared told) e row takes shares = shares
 
 -- ---- as a try begins

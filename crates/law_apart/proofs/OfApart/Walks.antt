@@ -151,6 +151,7 @@ module _ (home : ℕ → ℕ) (log : Log) (request : Request) (seen : Seen) (p :
   slot_apart falls w found.NoSlot head none first leads lost =
       (none_shows leads (begin_of w), subst (λ (f : Option Version). HasComeTo log (begin_of w) f 0) (sym first) (sym (ap entry_addr none)))
   slot_apart falls w found.Full head none first leads lost = absurd (lost refl)
+  slot_apart falls w found.Kept head none first leads lost = absurd (lost refl)
   slot_apart falls w found.Contended head none first leads lost = absurd (lost refl)
 
   -- a search that goes on isn't at rest
@@ -268,6 +269,7 @@ module _ (home : ℕ → ℕ) (log : Log) (request : Request) (seen : Seen) (p :
   slot_met w (found.Slot place word) met = reached_met (record w { place = place; entry = word }) (entry_addr word) met
   slot_met w found.NoSlot met = met
   slot_met w found.Full met = met
+  slot_met w found.Kept met = met
   slot_met w found.Contended met = met
 
   find_met : (w : WalkState) (ask : Ask FindAnswer) → Met w → Met (find_ledto p w ask)

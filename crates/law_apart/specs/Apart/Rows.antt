@@ -12,7 +12,7 @@ use Rattle.fkv_index.specs.declared.finding.FindStep.{FindStep}
 use Rattle.fkv_index.specs.declared.finding.FindStep.TheVariants.{AtRest, LinksBucket, LoadsLink, LoadsTaken, TakesBucket}
 use Rattle.fkv_index.specs.declared.finding.Finding.{Finding}
 use Rattle.fkv_index.specs.declared.finding.Found.{Found}
-use Rattle.fkv_index.specs.declared.finding.Found.TheVariants.{Contended, Full}
+use Rattle.fkv_index.specs.declared.finding.Found.TheVariants.{Contended, Full, Kept}
 use Rattle.fkv_index.specs.declared.finding.Linking.{Linking}
 use Rattle.fkv_index.specs.declared.finding.Linking.TheVariants.{Made}
 use Rattle.fkv_index.specs.Finding.{find_next_ask}
@@ -95,6 +95,7 @@ is_linking f = is_link_step f.step || has_linked f.linking
 -- the search has found neither a slot nor that there is none
 abbrev pub is_lost : Found → Bool
 is_lost Full = true
+is_lost Kept = true
 is_lost Contended = true
 is_lost found = false
 

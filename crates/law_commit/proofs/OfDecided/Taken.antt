@@ -147,7 +147,7 @@ same_tail tail t e = cc
 reserve_takes : (room : ℕ) (a : AppendState) (made : NewRecord) (its : Reserving) (t : ℕ) → reserve_work its ≡ taking t → TakesAddr t (reserved_ghosts a made (reserve_next_ask room its t))
 unfolding reserve_next_ask
 reserve_takes room a made reserve.AtRest t e = cc
-reserve_takes room a made reserve.LoadsLimit t e = cc
+reserve_takes room a made (reserve.LoadsLimit bound) t e = cc
 reserve_takes room a made (reserve.LoadsTail limit) t e = cc
 reserve_takes room a made (reserve.TakesTail tail) t e = subst (λ (x : ℕ). TakesAddr t (reserved_ghosts a made (Done (if t == x then answer.Reserved (record { 0 = x }) else answer.Contended)))) (sym (same_tail tail t e)) (won_takes a made t)
 

@@ -8,11 +8,11 @@ use Rattle.fkv_index.specs.declared.finding.FindStep.{FindStep}
 use Rattle.fkv_index.specs.declared.finding.FindStep.TheVariants.{AtRest, LoadsSlot, LoadsLink, LoadsTaken, TakesBucket, LinksBucket}
 use Rattle.fkv_index.specs.declared.finding.Finding.{Finding}
 use Rattle.fkv_index.specs.declared.finding.Linking.{Linking}
-use Rattle.fkv_index.specs.declared.finding.Linking.TheVariants.{Never, Once, Made}
+use Rattle.fkv_index.specs.declared.finding.Linking.TheVariants.{Never, Once, Made, Within}
 use Rattle.fkv_index.specs.declared.finding.Purpose.{Purpose}
-use Rattle.fkv_index.specs.declared.finding.Purpose.TheVariants.{Read, Update}
+use Rattle.fkv_index.specs.declared.finding.Purpose.TheVariants.{Read, Update, UpdateWithin}
 use Rattle.fkv_index.specs.declared.homes.Home.{Home}
-use Rattle.fkv_index.specs.Finding.{ended_list, entered, find_led, find_next, first_finding, led_to, link_led, linked_led, slot_led, taken_led, took_led}
+use Rattle.fkv_index.specs.Finding.{ended_list, entered, find_led, find_next, first_finding, led_to, link_led, linked_led, slot_led, taken_led, took_led, is_kept, takes_led}
 use Rattle.fkv_index.specs.Slots.{entry_tag, is_entry, link_of, slot_word}
 use Rattle.law_refine.specs.Below.law_local.Tries.Replies.{HasNoLink}
 use Rattle.law_refine.specs.Index.Finders.{Search, SessionWork, NoWork, Searches, KeepsSlot, PublishesEntry}
@@ -61,6 +61,7 @@ slots f slot reply = by_none (reply == 0) refl
 list_home : (f : Finding) (word : ℕ) (linking : Linking) → (led_to (ended_list f word linking)).home ≡ f.home
 list_home f word Never = refl
 list_home f word Once = refl
+list_home f word (Within bound) = refl
 list_home f word Made = refl
 
 links : (p : Places) (f : Finding) (reply : ℕ) → LedFrom f LoadsLink reply (led_to (link_led p f reply))
@@ -74,12 +75,23 @@ links p f reply = by_test (link_of reply == 0) refl
 goes_on : (f : Finding) (step : FindStep) (reply : ℕ) (after : Finding) → f.step ≡ step → IsLinkStep step → after.home ≡ f.home → LedFrom f step reply after
 goes_on f step reply after at links same = record { same = same; linked_so = λ so. inl (inl (subst IsLinkStep (sym at) links)) }
 
-taken_home : (p : Places) (f : Finding) (word taken : ℕ) → (led_to (taken_led p f word taken)).home ≡ f.home
-taken_home p f word taken = by_test (nat_lt taken p.overflow) refl
+takes_home : (p : Places) (f : Finding) (word taken : ℕ) → (led_to (takes_led p f word taken)).home ≡ f.home
+takes_home p f word taken = by_test (nat_lt taken p.overflow) refl
   where
-    by_test : (b : Bool) → nat_lt taken p.overflow ≡ b → (led_to (taken_led p f word taken)).home ≡ f.home
+    by_test : (b : Bool) → nat_lt taken p.overflow ≡ b → (led_to (takes_led p f word taken)).home ≡ f.home
     by_test true e = rw e refl
     by_test false e = rw e refl
+
+taken_home : (p : Places) (f : Finding) (word taken : ℕ) → (led_to (taken_led p f word taken)).home ≡ f.home
+taken_home p f word taken = by_kept (is_kept f.linking taken) refl
+  where
+    by_spare : (b : Bool) → (f.spare == 0) ≡ b → is_kept f.linking taken ≡ false → (led_to (taken_led p f word taken)).home ≡ f.home
+    by_spare true e below = rw (below, e) (takes_home p f word taken)
+    by_spare false e below = rw (below, e) refl
+
+    by_kept : (b : Bool) → is_kept f.linking taken ≡ b → (led_to (taken_led p f word taken)).home ≡ f.home
+    by_kept true e = rw e refl
+    by_kept false e = by_spare (f.spare == 0) refl e
 
 took_home : (f : Finding) (word taken reply : ℕ) → (led_to (took_led f word taken reply)).home ≡ f.home
 took_home f word taken reply = by_test (reply == taken) refl
@@ -108,8 +120,10 @@ led_from p f (LinksBucket word) reply at = goes_on f (LinksBucket word) reply _ 
 first_none : (p : Places) (home : Home) (purpose : Purpose) (spare : ℕ) → IsLinking (first_finding p home purpose spare) → ⊥
 first_none p home Read spare (inl at) = at
 first_none p home Update spare (inl at) = at
+first_none p home (UpdateWithin bound) spare (inl at) = at
 first_none p home Read spare (inr made) = cc
 first_none p home Update spare (inr made) = cc
+first_none p home (UpdateWithin bound) spare (inr made) = cc
 
 -- ---- of a session
 -- it was at a search of the same home, which linked or has loaded no link

@@ -79,7 +79,7 @@ seeks_so : (p : Places) (g : ℕ → ℕ → ℕ) (lists : ℕ → List ℕ) (f 
 seeks_so p g lists f AtRest knows = tt
 seeks_so p g lists f (LoadsSlot slot) knows = (knows.0, stands_so p g lists f slot knows.1)
 seeks_so p g lists f LoadsLink knows = stands_so p g lists f 7 knows
-seeks_so p g lists f (LoadsTaken word) knows = (stands_so p g lists f 7 knows.0, knows.1, knows.2)
+seeks_so p g lists f (LoadsTaken word) knows = (stands_so p g lists f 7 knows.0, knows.1)
 seeks_so p g lists f (TakesBucket word taken) knows = (stands_so p g lists f 7 knows.0, knows.1, knows.2, knows.3)
 seeks_so p g lists f (LinksBucket word) knows = (stands_so p g lists f 7 knows.0, knows.1, knows.2)
 

@@ -29,6 +29,7 @@ use Rattle.law_refine.proofs.Below.law_local.OfSessions.Known.{begun_known, give
 use Rattle.law_commit.specs.Accepted.{HasRisingVersion}
 use Rattle.law_commit.specs.Quiet.{IsLater, IsLiveLater}
 use Rattle.law_commit.specs.Versions.Requests.{IsUpdateSo}
+use Rattle.law_refine.specs.Below.fkv_ops.Bounds.{bounds_of}
 
 -- ---- one that shifts goes by what it has caught up with
 shift_led : (k : Seat) (t : SessionState) (ask : Ask (Unit {0})) (its : Unit {0}) → ask ≡ Done its → (catch_ledto k t Shifts ask).seen ≡ t.catching.seen
@@ -146,7 +147,7 @@ module _ (version : ℕ) where
         begins_anew = λ its at done spare is_orphaned.
             let seen = shifted_seen k s reply its at done in
             let live = subst (λ (x : Seen). (version < x.version.0) × IsVersion x.version.0) seen (lives at) in
-            begun_later k (request_in_hand (record s { seen = (catch_after k s reply).seen })) (catch_after k s reply).seen AtCall spare is_orphaned
+            begun_later k (request_in_hand (record s { seen = (catch_after k s reply).seen })) (catch_after k s reply).seen (AtCall (bounds_of k.shape)) spare is_orphaned
             (hand_later (record s { seen = (catch_after k s reply).seen }) live.0 live.1);
         latches = λ cause pending at so. latched_later pending so;
       })
@@ -156,7 +157,7 @@ module _ (version : ℕ) where
   called_later k s its idle live fits knows =
       begun_known WaitsLater TriesLater k s its idle knows (record {
         calls = λ op is none spare is_orphaned.
-            begun_later k (request_in_hand (with_op s op)) s.seen AtCall spare is_orphaned (hand_later (with_op s op) (live (awake_called s op s.is_awake _ _ refl none)) fits);
+            begun_later k (request_in_hand (with_op s op)) s.seen (AtCall (bounds_of k.shape)) spare is_orphaned (hand_later (with_op s op) (live (awake_called s op s.is_awake _ _ refl none)) fits);
         polls = λ is awake pending spare is_orphaned so. begun_later k pending s.seen AtPoll spare is_orphaned so;
       })
 

@@ -21,7 +21,7 @@ use Rattle.fkv_latch.specs.LatchWorld.{has_latch, times}
 use Rattle.fkv_map.specs.Keys.{key_of}
 use Rattle.law_refine.specs.Below.fkv_ops.Seen.{Seen}
 use Rattle.law_refine.specs.Below.fkv_ops.TheTrying.{Trying}
-use Rattle.law_refine.specs.Below.fkv_ops.TheTrying.TheVariants.{Ended, TakesShared, LoadsPhase, Walks, LoadsSafe, SwapsValue, LoadsCurrent, ChangesValue, LoadsAnswer, TakesExclusive, LoadsOld, Appends, DropsExclusive, DropsShared}
+use Rattle.law_refine.specs.Below.fkv_ops.TheTrying.TheVariants.{Ended, TakesShared, LoadsPhase, Walks, CountsTaken, LoadsSafe, SwapsValue, LoadsCurrent, ChangesValue, LoadsAnswer, TakesExclusive, LoadsOld, Appends, LoadsTail, LoadsTaken, DropsExclusive, DropsShared}
 use Rattle.law_refine.specs.Below.fkv_ops.Trying.{TryState, is_moving_on, is_prepare}
 use Rattle.law_refine.specs.Below.fkv_pending.TheAttempting.{Attempting}
 use Rattle.law_refine.specs.Below.fkv_pending.TheAttempting.TheVariants.{Tries}
@@ -91,6 +91,8 @@ none_held place some = absurd (omega (arith, some))
 try_moves : (p : Places) (seen : Seen) (t : TryState) (step : Trying) (place : ℕ) → IsTryMoving seen t → 0 < times place (try_alone p t step) → is_moving_on seen.phase ≡ true
 try_moves p seen t LoadsOld place its some = (its.keeps.1 (held_so place (its_latch p t) t.has_exclusive some)).0
 try_moves p seen t (Appends reply) place its some = (its.keeps.1 (held_so place (its_latch p t) t.has_exclusive some)).0
+try_moves p seen t (LoadsTail waiting) place its some = (its.keeps.1 (held_so place (its_latch p t) t.has_exclusive some)).0
+try_moves p seen t (LoadsTaken waiting) place its some = (its.keeps.1 (held_so place (its_latch p t) t.has_exclusive some)).0
 try_moves p seen t step place its some = none_held place some
 
 attempt_moves : (p : Places) (seen : Seen) (a : AttemptState) (step : Attempting) (place : ℕ) → AttemptMoving seen a step → 0 < times place (attempt_alone p a step) → is_moving_on seen.phase ≡ true
@@ -140,6 +142,7 @@ so seen t same alone shares = record {
 try_shares : (seen : Seen) (t : TryState) (step : Trying) → t.seen ≡ seen → (t.has_exclusive ≡ true → MovesOn seen t) → SharesBy t step → SharesTrying seen t step
 try_shares seen t LoadsPhase same alone shares = so seen t same alone shares
 try_shares seen t Walks same alone shares = so seen t same alone shares
+try_shares seen t CountsTaken same alone shares = so seen t same alone shares
 try_shares seen t (LoadsSafe addr version) same alone shares = so seen t same alone shares
 try_shares seen t (SwapsValue addr) same alone shares = so seen t same alone shares
 try_shares seen t (LoadsCurrent addr) same alone shares = so seen t same alone shares
@@ -148,6 +151,8 @@ try_shares seen t LoadsAnswer same alone shares = so seen t same alone shares
 try_shares seen t (TakesExclusive old) same alone shares = so seen t same alone shares
 try_shares seen t LoadsOld same alone shares = so seen t same alone shares
 try_shares seen t (Appends its) same alone shares = so seen t same alone shares
+try_shares seen t (LoadsTail waiting) same alone shares = so seen t same alone shares
+try_shares seen t (LoadsTaken waiting) same alone shares = so seen t same alone shares
 try_shares seen t (Ended its) same alone shares = tt
 try_shares seen t TakesShared same alone shares = tt
 try_shares seen t (DropsExclusive its) same alone shares = tt

@@ -26,6 +26,7 @@ module _ (P Q R : Request → Bool → Type 0) (each : (request : Request) (shar
   both_try t (trying.Ended its) one other = tt
   both_try t trying.LoadsPhase one other = each t.request t.has_shared one other
   both_try t trying.Walks one other = each t.request t.has_shared one other
+  both_try t trying.CountsTaken one other = each t.request t.has_shared one other
   both_try t (trying.LoadsSafe addr version) one other = each t.request t.has_shared one other
   both_try t (trying.SwapsValue addr) one other = each t.request t.has_shared one other
   both_try t (trying.LoadsCurrent addr) one other = each t.request t.has_shared one other
@@ -34,6 +35,8 @@ module _ (P Q R : Request → Bool → Type 0) (each : (request : Request) (shar
   both_try t (trying.TakesExclusive old) one other = each t.request t.has_shared one other
   both_try t trying.LoadsOld one other = each t.request t.has_shared one other
   both_try t (trying.Appends its) one other = each t.request t.has_shared one other
+  both_try t (trying.LoadsTail waiting) one other = each t.request t.has_shared one other
+  both_try t (trying.LoadsTaken waiting) one other = each t.request t.has_shared one other
 
   both_attempt : (a : AttemptState) (step : Attempting) → AttemptSo P a step → AttemptSo Q a step → AttemptSo R a step
   both_attempt a attempting.Tries one other = both_try a.trial a.trial.step one other

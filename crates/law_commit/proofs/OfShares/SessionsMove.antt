@@ -20,6 +20,7 @@ use Rattle.fkv_map.specs.Keys.{key_of}
 use Rattle.law_commit.proofs.OfShares.Enters.{IsEnteringSo, catch_enters}
 use Rattle.law_commit.proofs.OfShares.AttemptsMove.{IsAttemptMoving, attempt_begun_moving, attempt_next_moving}
 use Rattle.law_commit.proofs.SessionSteps.{HoldsBegun, HoldsCalled, attempt_holds, begun_holds, catch_holds, clear_holds, leave_holds, poll_holds, polls_hold}
+use Rattle.law_refine.specs.Below.fkv_ops.Bounds.{bounds_of}
 
 module _ (k : Seat) (homes : (pending : PendingRequest) → (home_of (bits_of k) (key_of pending.request.op)).bucket < k.places.buckets) where
   -- an attempt goes by what the session has seen
@@ -38,7 +39,7 @@ module _ (k : Seat) (homes : (pending : PendingRequest) → (home_of (bits_of k)
 
   attempts_moving : (s : SessionState) (has_shifted : Bool) → IsSessionMoving (attempts k s has_shifted)
   unfolding attempts
-  attempts_moving s has_shifted = attempt_begun_moving k.places (bits_of k) (request_in_hand s) s.seen AtCall s.spare s.is_orphaned
+  attempts_moving s has_shifted = attempt_begun_moving k.places (bits_of k) (request_in_hand s) s.seen (AtCall (bounds_of k.shape)) s.spare s.is_orphaned
 
   shifted_moving : (s : SessionState) → IsSessionMoving (shifts s false)
   unfolding shifts

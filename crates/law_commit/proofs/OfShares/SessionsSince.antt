@@ -37,6 +37,7 @@ use Rattle.law_commit.proofs.OfQuiet.Sessions.{shifted_seen}
 use Rattle.law_commit.proofs.OfShares.AttemptsSince.{IsAttemptSharing, IsOlder, IsSharing, KnowsSharing, attempt_sharing, begun_sharing, left_full, polled_sharing}
 use Rattle.law_commit.proofs.OfShares.Onward.{IsOnward}
 use Rattle.law_commit.proofs.OfShares.CatchesSince.{IsLatching, TakesPrepare, catch_takes, none_stay, stay_caught, takes_so}
+use Rattle.law_refine.specs.Below.fkv_ops.Bounds.{bounds_of}
 
 -- ---- how what is seen goes on
 -- only from prepare a version is left
@@ -135,8 +136,8 @@ module _ (k : Seat) (its : HasItsBuckets k) (unshifted : Bool) where
       stays_known (IsSharing unshifted s.seen ⊥) (Waits s) (IsAttemptSharing k its unshifted s.seen) (IsAttemptSharing k its unshifted s.seen) s (λ p so. since_map unshifted s.seen ⊥ (SitsTaking s s.step) p (λ never. absurd never) so) (λ attempting so. so) here
 
   -- ---- a reply where it doesn't catch up
-  hand_sharing : (s : SessionState) → IsVersion s.seen.version.0 → (spare : ℕ) (is_orphaned : Bool) → IsAttemptSharing k its unshifted s.seen (attempt_begun k.places (bits_of k) (request_in_hand s) s.seen AtCall spare is_orphaned)
-  hand_sharing s fits spare is_orphaned = begun_sharing k its unshifted s.seen (request_in_hand s) AtCall spare is_orphaned (λ asked. cc) (hand_older unshifted s fits)
+  hand_sharing : (s : SessionState) → IsVersion s.seen.version.0 → (spare : ℕ) (is_orphaned : Bool) → IsAttemptSharing k its unshifted s.seen (attempt_begun k.places (bits_of k) (request_in_hand s) s.seen (AtCall (bounds_of k.shape)) spare is_orphaned)
+  hand_sharing s fits spare is_orphaned = begun_sharing k its unshifted s.seen (request_in_hand s) (AtCall (bounds_of k.shape)) spare is_orphaned (λ asked. cc) (hand_older unshifted s fits)
 
   call_waits : (s : SessionState) (has_shifted : Bool) (reply : ℕ) (found : TryAnswer) → shifts_at k s (Attempts has_shifted) reply ≡ false → attempt_comes_to k s reply ≡ Done found → is_accepted has_shifted found ≡ true → is_wait found ≡ true
   call_waits s has_shifted reply (tried.Wait why) none comes accepted = refl
@@ -288,7 +289,7 @@ module _ (k : Seat) (its : HasItsBuckets k) (unshifted : Bool) where
           hands_over = λ polling p spare is_orphaned so. let clash : is_polling (CatchesUp cause) ≡ true = subst (λ (step : Sitting). is_polling step ≡ true) at polling in cc;
           begins_anew = λ unit shifts done spare is_orphaned.
               let seen : after.seen ≡ (catch_after k s reply).seen = shifted_seen k s reply unit shifts done in
-              subst (λ (x : Seen). IsAttemptSharing k its unshifted x (attempt_begun k.places (bits_of k) (request_in_hand (caught_up_at k s reply)) (catch_after k s reply).seen AtCall spare is_orphaned)) (sym seen)
+              subst (λ (x : Seen). IsAttemptSharing k its unshifted x (attempt_begun k.places (bits_of k) (request_in_hand (caught_up_at k s reply)) (catch_after k s reply).seen (AtCall (bounds_of k.shape)) spare is_orphaned)) (sym seen)
               (hand_sharing (caught_up_at k s reply) (subst (λ (x : Seen). IsVersion x.version.0) seen fits) spare is_orphaned);
           latches = λ other p is so. tt;
         })

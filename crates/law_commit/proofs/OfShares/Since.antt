@@ -148,6 +148,7 @@ try_so P seen t (trying.DropsShared its) make so = tt
 try_so P seen t (trying.Ended its) make so = tt
 try_so P seen t trying.LoadsPhase make so = make so
 try_so P seen t trying.Walks make so = make so
+try_so P seen t trying.CountsTaken make so = make so
 try_so P seen t (trying.LoadsSafe addr version) make so = make so
 try_so P seen t (trying.SwapsValue addr) make so = make so
 try_so P seen t (trying.LoadsCurrent addr) make so = make so
@@ -156,6 +157,8 @@ try_so P seen t trying.LoadsAnswer make so = make so
 try_so P seen t (trying.TakesExclusive old) make so = make so
 try_so P seen t trying.LoadsOld make so = make so
 try_so P seen t (trying.Appends its) make so = make so
+try_so P seen t (trying.LoadsTail waiting) make so = make so
+try_so P seen t (trying.LoadsTaken waiting) make so = make so
 
 module _ (k : Seat) (its : HasItsBuckets k) (unshifted : Bool) (P : Request → Bool → Type 0) (seen : Seen) (each : (p : PendingRequest) → IsSharing unshifted seen ⊥ p → P p.request p.request.has_latch)
     (tried : (t : TryState) (p : PendingRequest) → t.request ≡ p.request → IsOlder unshifted seen p → SharesSo seen t → P t.request t.has_shared) where

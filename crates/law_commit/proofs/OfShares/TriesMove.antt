@@ -32,14 +32,18 @@ use Rattle.law_refine.specs.Below.fkv_ops.Seen.{Seen}
 use Rattle.law_refine.specs.Below.fkv_ops.OldValue.{OldValue}
 use Rattle.law_refine.specs.Below.fkv_ops.OldValue.TheVariants.{InMemory, Known}
 use Rattle.law_refine.specs.Below.fkv_ops.TheTrying.{Trying}
-use Rattle.law_refine.specs.Below.fkv_ops.TheTrying.TheVariants.{Ended, TakesShared, LoadsPhase, Walks, LoadsSafe, SwapsValue, LoadsCurrent, ChangesValue, LoadsAnswer, TakesExclusive, LoadsOld, Appends, DropsExclusive, DropsShared}
+use Rattle.law_refine.specs.Below.fkv_ops.TheTrying.TheVariants.{Ended, TakesShared, LoadsPhase, Walks, CountsTaken, LoadsSafe, SwapsValue, LoadsCurrent, ChangesValue, LoadsAnswer, TakesExclusive, LoadsOld, Appends, LoadsTail, LoadsTaken, DropsExclusive, DropsShared}
 use Rattle.law_refine.specs.Below.fkv_ops.WalkAnswer.{WalkAnswer}
 use Rattle.law_refine.specs.Below.fkv_ops.WalkAnswer.TheVariants as walk
 use Rattle.law_refine.specs.Below.fkv_ops.Values.{value_of}
 use Rattle.law_refine.specs.Below.fkv_ops.Requests.{is_read, is_blind}
 use Rattle.law_refine.specs.Below.fkv_ops.Walking.{walk_ask, walk_next, walk_on}
 use Rattle.law_refine.specs.Below.fkv_ops.Appending.{append_ask, append_next}
-use Rattle.law_refine.specs.Below.fkv_ops.Trying.{TryState, with_latch, is_moving_on, is_prepare, is_wait, ended_without, ends, takes_effect, walks, wants_shared, try_begun, is_next_marked, latch_shared, shared_ledto, is_still_in, phase_loaded, is_surely_own, must_shift, wants_exclusive, appends, copies_from, copies, awaits, held_used, met_nowhere, met_disk, changes, is_own_version, region_met, met_record, walked, has_walked, walk_ledto, safe_loaded, current_ledto, value_changed, told_value, answer_ledto, exclusive_ledto, old_ledto, append_ledto, exclusive_dropped, shared_dropped, latch_moved, trying_next, try_next, new_try}
+use Rattle.law_refine.specs.Below.fkv_ops.Trying.{TryState, with_latch, is_moving_on, is_prepare, is_wait, ended_without, ends_so, ends_by, is_bounded, tail_loaded, taken_loaded, must_count, count_loaded, ends, takes_effect, walks, wants_shared, try_begun, is_next_marked, latch_shared, shared_ledto, is_still_in, phase_loaded, is_surely_own, must_shift, wants_exclusive, appends, copies_from, copies, awaits, held_used, met_nowhere, met_disk, changes, is_own_version, region_met, met_record, walked, has_walked, walk_ledto, safe_loaded, current_ledto, value_changed, told_value, answer_ledto, exclusive_ledto, old_ledto, append_ledto, exclusive_dropped, shared_dropped, latch_moved, trying_next, try_next, new_try}
+use Rattle.law_refine.specs.Below.fkv_ops.TheWaiting.{Waiting}
+use Rattle.law_refine.specs.Below.fkv_ops.TheWaiting.TheVariants.{For, ForRecord}
+use Rattle.law_refine.specs.Below.fkv_ops.Bounds.{bounds_at, is_past_tail, is_past_taken}
+use Rattle.law_refine.specs.Below.fkv_ops.Waiting.{told_of}
 
 -- the session is between two versions, and the request is of its own
 abbrev pub MovesOn : Seen → TryState → Type 0
@@ -123,13 +127,35 @@ without_moving p seen t its keeps shares = by_wait (is_wait its) refl
         never true none = cc
         never false none = record { keeps = keeps; takes = tt; shares = shares }
 
-ends_with : (p : Places) (seen : Seen) (t : TryState) (its : TryAnswer) → KeepsMoving seen t → (is_wait its ≡ true → HasShare t) → IsTryMoving seen (ends p t its)
-unfolding ends
-ends_with p seen t its keeps shares = by_alone t.has_exclusive refl
+ends_so_with : (p : Places) (seen : Seen) (t : TryState) (its : TryAnswer) → KeepsMoving seen t → (is_wait its ≡ true → HasShare t) → IsTryMoving seen (ends_so p t its)
+unfolding ends_so
+ends_so_with p seen t its keeps shares = by_alone t.has_exclusive refl
   where
     by_alone : (b : Bool) → t.has_exclusive ≡ b → IsTryMoving seen (if b then with_latch p (record t { has_exclusive = false }) DropExclusive (DropsExclusive its) else ended_without p t its)
     by_alone true e = record { keeps = (keeps.0, λ x. no_drop x, λ x. keeps.1 e); takes = tt; shares = shares }
     by_alone false e = without_moving p seen t its keeps shares
+
+-- it looks for room before it waits
+looks_with : (p : Places) (seen : Seen) (t : TryState) (its : TryAnswer) (waiting : Waiting) → KeepsMoving seen t → HasShare t → IsTryMoving seen (ends_by p t its (Some waiting))
+looks_with p seen t its waiting keeps shares =
+    either_moving (is_bounded t) seen (record t { step = LoadsTail waiting }) (ends_so p t its) (record { keeps = keeps; takes = tt; shares = shares }) (ends_so_with p seen t its keeps (λ wait. shares))
+
+ends_with : (p : Places) (seen : Seen) (t : TryState) (its : TryAnswer) → KeepsMoving seen t → (is_wait its ≡ true → HasShare t) → IsTryMoving seen (ends p t its)
+unfolding ends
+ends_with p seen t (answer.Wait it) keeps shares = looks_with p seen t (answer.Wait it) (For it) keeps (shares refl)
+ends_with p seen t (answer.AwaitsDisk it) keeps shares = looks_with p seen t (answer.AwaitsDisk it) (ForRecord it) keeps (shares refl)
+ends_with p seen t its keeps shares = ends_so_with p seen t its keeps shares
+
+tail_moving : (p : Places) (seen : Seen) (t : TryState) (waiting : Waiting) (tail : ℕ) → Inner seen t → IsTryMoving seen (tail_loaded p t waiting tail)
+unfolding tail_loaded
+tail_moving p seen t waiting tail keeps =
+    either_moving (is_past_tail (bounds_at t.occasion) tail) seen (ends_so p t answer.LogFull) _ (ends_so_with p seen t answer.LogFull (keeps.0, keeps.1, keeps.2) (λ wait. keeps.3))
+    (either_moving (t.walk.entry == 0) seen (record t { step = LoadsTaken waiting }) (ends_so p t (told_of waiting)) (record { keeps = (keeps.0, keeps.1, keeps.2); takes = tt; shares = keeps.3 }) (ends_so_with p seen t (told_of waiting) (keeps.0, keeps.1, keeps.2) (λ wait. keeps.3)))
+
+taken_moving : (p : Places) (seen : Seen) (t : TryState) (waiting : Waiting) (taken : ℕ) → Inner seen t → IsTryMoving seen (taken_loaded p t waiting taken)
+unfolding taken_loaded
+taken_moving p seen t waiting taken keeps =
+    either_moving (is_past_taken (bounds_at t.occasion) taken) seen (ends_so p t answer.IndexFull) (ends_so p t (told_of waiting)) (ends_so_with p seen t answer.IndexFull (keeps.0, keeps.1, keeps.2) (λ wait. keeps.3)) (ends_so_with p seen t (told_of waiting) (keeps.0, keeps.1, keeps.2) (λ wait. keeps.3))
 
 ends_moving : (p : Places) (seen : Seen) (t : TryState) (its : TryAnswer) → Inner seen t → IsTryMoving seen (ends p t its)
 ends_moving p seen t its keeps = ends_with p seen t its (keeps.0, keeps.1, keeps.2) (λ wait. keeps.3)
@@ -174,7 +200,13 @@ held_moving p seen t addr (Some held) keeps =
     (ends_moving p seen t _ keeps)
 
 nowhere_moving : (p : Places) (seen : Seen) (t : TryState) → Inner seen t → IsTryMoving seen (met_nowhere p t)
-nowhere_moving p seen t keeps = either_moving (is_read t.request.op) seen (ends p t answer.Absent) (copies p t (Known absent_word) false) (ends_moving p seen t answer.Absent keeps) (copies_moving p seen t (Known absent_word) false keeps)
+nowhere_moving p seen t keeps =
+    either_moving (is_read t.request.op) seen (ends p t answer.Absent) _ (ends_moving p seen t answer.Absent keeps)
+    (either_moving (must_count p t) seen (record t { step = CountsTaken }) (copies p t (Known absent_word) false) (record { keeps = (keeps.0, keeps.1, keeps.2); takes = tt; shares = keeps.3 }) (copies_moving p seen t (Known absent_word) false keeps))
+
+count_moving : (p : Places) (seen : Seen) (t : TryState) (taken : ℕ) → Inner seen t → IsTryMoving seen (count_loaded p t taken)
+unfolding count_loaded
+count_moving p seen t taken keeps = either_moving (is_past_taken (bounds_at t.occasion) taken) seen (ends p t answer.IndexFull) (copies p t (Known absent_word) false) (ends_moving p seen t answer.IndexFull keeps) (copies_moving p seen t (Known absent_word) false keeps)
 
 disk_moving : (p : Places) (seen : Seen) (t : TryState) (addr : Addr) → Inner seen t → IsTryMoving seen (met_disk p t addr)
 disk_moving p seen t addr keeps =
@@ -199,6 +231,7 @@ walked_moving p seen t walk.Nowhere keeps = nowhere_moving p seen t keeps
 walked_moving p seen t (walk.OnDisk addr) keeps = disk_moving p seen t addr keeps
 walked_moving p seen t (walk.Value value) keeps = ends_moving p seen t _ keeps
 walked_moving p seen t walk.Full keeps = ends_moving p seen t _ keeps
+walked_moving p seen t walk.Kept keeps = ends_moving p seen t _ keeps
 walked_moving p seen t walk.Contended keeps = ends_moving p seen t _ keeps
 
 walk_ledto_moving : (p : Places) (seen : Seen) (t : TryState) (ask : Ask WalkAnswer) → t.step ≡ Walks → Inner seen t → IsTryMoving seen (walk_ledto p t ask)
@@ -285,6 +318,7 @@ next_moving p room seen t (Ended its) reply at keeps takes shares = stays_moving
 next_moving p room seen t TakesShared reply at keeps takes shares = shared_moving p seen (latch_moved t reply) (latch_next_ask t.latching reply) at (latch_keeps seen t reply keeps) shares
 next_moving p room seen t LoadsPhase reply at keeps takes shares = phase_moving p seen t (phase_said reply) (keeps.0, keeps.1, keeps.2, shares)
 next_moving p room seen t Walks reply at keeps takes shares = walk_ledto_moving p seen (record t { walk = walk_next p t.walk reply }) (walk_ask p (walk_next p t.walk reply)) at (keeps.0, keeps.1, keeps.2, shares)
+next_moving p room seen t CountsTaken reply at keeps takes shares = count_moving p seen t reply (keeps.0, keeps.1, keeps.2, shares)
 next_moving p room seen t (LoadsSafe addr version) reply at keeps takes shares = safe_moving p seen t addr version reply (keeps.0, keeps.1, keeps.2, shares)
 next_moving p room seen t (SwapsValue addr) reply at keeps takes shares = ends_moving p seen (record t { effect = Some (reply_from None t.request.op) }) _ (keeps.0, keeps.1, keeps.2, shares)
 next_moving p room seen t (LoadsCurrent addr) reply at keeps takes shares = current_moving p seen (record t { walk = walk_next p t.walk reply }) addr (walk_ask p (walk_next p t.walk reply)) at (keeps.0, keeps.1, keeps.2, shares)
@@ -293,6 +327,8 @@ next_moving p room seen t LoadsAnswer reply at keeps takes shares = answer_movin
 next_moving p room seen t (TakesExclusive old) reply at keeps takes shares = exclusive_moving p seen (latch_moved t reply) old (latch_next_ask t.latching reply) at (let k = latch_keeps seen t reply keeps in (k.0, k.1, k.2, shares)) takes
 next_moving p room seen t LoadsOld reply at keeps takes shares = old_moving p seen (record t { walk = walk_next p t.walk reply }) (walk_ask p (walk_next p t.walk reply)) at (keeps.0, keeps.1, keeps.2, shares)
 next_moving p room seen t (Appends its) reply at keeps takes shares = append_ledto_moving p seen (record t { append = append_next p room t.append reply }) its (append_ask p (append_next p room t.append reply)) at (keeps.0, keeps.1, keeps.2, shares)
+next_moving p room seen t (LoadsTail waiting) reply at keeps takes shares = tail_moving p seen t waiting reply (keeps.0, keeps.1, keeps.2, shares)
+next_moving p room seen t (LoadsTaken waiting) reply at keeps takes shares = taken_moving p seen t waiting reply (keeps.0, keeps.1, keeps.2, shares)
 next_moving p room seen t (DropsExclusive its) reply at keeps takes shares = dropped_moving p seen (latch_moved t reply) its (latch_next_ask t.latching reply) at (latch_keeps seen t reply keeps) shares
 next_moving p room seen t (DropsShared its) reply at keeps takes shares = unshared_moving seen (latch_moved t reply) its (latch_next_ask t.latching reply) at (latch_keeps seen t reply keeps) shares
 
@@ -301,6 +337,7 @@ effect_shares t (Ended its) shares = shares
 effect_shares t TakesShared shares = shares
 effect_shares t LoadsPhase shares = shares
 effect_shares t Walks shares = shares
+effect_shares t CountsTaken shares = shares
 effect_shares t (LoadsSafe addr version) shares = shares
 effect_shares t (SwapsValue addr) shares = shares
 effect_shares t (LoadsCurrent addr) shares = shares
@@ -309,6 +346,8 @@ effect_shares t LoadsAnswer shares = shares
 effect_shares t (TakesExclusive old) shares = shares
 effect_shares t LoadsOld shares = shares
 effect_shares t (Appends its) shares = shares
+effect_shares t (LoadsTail waiting) shares = shares
+effect_shares t (LoadsTaken waiting) shares = shares
 effect_shares t (DropsExclusive its) shares = shares
 effect_shares t (DropsShared its) shares = shares
 

@@ -36,6 +36,7 @@ use Rattle.fkv_session.proofs.Shown.{attempt_keeps}
 use Rattle.law_local.specs.Sessions.Inputs.{IsAttemptAtCall, IsAttemptInPoll, AttemptsBy, AttemptsSo}
 use Rattle.law_local.specs.Sessions.Known.{attempt_comes_to}
 use Rattle.law_local.proofs.OfSessions.AttemptInputs.{attempt_goes, begun_goes, begun_pending}
+use Rattle.fkv_ops.specs.Bounds.{bounds_of}
 
 either_by : (c : Bool) (k : Seat) (a b : SessionState) → AttemptsSo k a → AttemptsSo k b → AttemptsSo k (if c then a else b)
 either_by true k a b one other = one
@@ -52,9 +53,9 @@ turn_by k s its = either_by s.wants_turn k (record s { own_turn = own_turn_begun
 attempts_by : (k : Seat) (s : SessionState) (has_shifted : Bool) → AttemptsSo k (attempts k s has_shifted)
 unfolding attempts
 attempts_by k s has_shifted =
-    let same = begun_pending k.places (bits_of k) (request_in_hand s) s.seen AtCall s.spare s.is_orphaned in
+    let same = begun_pending k.places (bits_of k) (request_in_hand s) s.seen (AtCall (bounds_of k.shape)) s.spare s.is_orphaned in
     record {
-      goes = begun_goes (bits_of k) s.seen AtCall k.places (request_in_hand s) s.spare s.is_orphaned;
+      goes = begun_goes (bits_of k) s.seen (AtCall (bounds_of k.shape)) k.places (request_in_hand s) s.spare s.is_orphaned;
       same = record {
         name = ap (λ (pending : PendingRequest). pending.name) same;
         op = ap (λ (pending : PendingRequest). pending.request.op) same;
@@ -155,7 +156,7 @@ moved_call : (k : Seat) (s : SessionState) (asks reply : ℕ) → IsAttemptAtCal
 moved_call k s asks reply its =
     let same = attempt_keeps k.places (bits_of k) (room_of k) k.number s.attempt reply in
     record {
-      goes = attempt_goes (bits_of k) s.seen AtCall k.places (room_of k) k.number s.attempt reply its.goes;
+      goes = attempt_goes (bits_of k) s.seen (AtCall (bounds_of k.shape)) k.places (room_of k) k.number s.attempt reply its.goes;
       same = record { name = same.name ∙ its.same.name; op = same.op ∙ its.same.op; version = same.version ∙ its.same.version };
     }
 

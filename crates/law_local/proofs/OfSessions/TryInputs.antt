@@ -30,17 +30,20 @@ use Rattle.fkv_ops.specs.declared.requests.Seen.{Seen}
 use Rattle.fkv_ops.specs.declared.trying.OldValue.{OldValue}
 use Rattle.fkv_ops.specs.declared.trying.OldValue.TheVariants.{InMemory, Known}
 use Rattle.fkv_ops.specs.declared.trying.Trying.{Trying}
-use Rattle.fkv_ops.specs.declared.trying.Trying.TheVariants.{Ended, TakesShared, LoadsPhase, Walks, LoadsSafe, SwapsValue, LoadsCurrent, ChangesValue, LoadsAnswer, TakesExclusive, LoadsOld, Appends, DropsExclusive, DropsShared}
+use Rattle.fkv_ops.specs.declared.trying.Trying.TheVariants.{Ended, TakesShared, LoadsPhase, Walks, CountsTaken, LoadsSafe, SwapsValue, LoadsCurrent, ChangesValue, LoadsAnswer, TakesExclusive, LoadsOld, Appends, LoadsTail, LoadsTaken, DropsExclusive, DropsShared}
 use Rattle.fkv_ops.specs.declared.walking.WalkAnswer.{WalkAnswer}
 use Rattle.fkv_ops.specs.declared.walking.WalkAnswer.TheVariants as walk
 use Rattle.fkv_ops.specs.Requests.{is_read, is_blind}
 use Rattle.fkv_ops.specs.Values.{value_of}
 use Rattle.fkv_ops.specs.Walking.{walk_ask, walk_next, walk_on}
 use Rattle.fkv_ops.specs.Appending.{append_ask, append_next}
-use Rattle.fkv_ops.specs.Trying.{TryState, with_latch, is_wait, ended_without, ends, takes_effect, full_at, wants_shared, walks, try_begun, is_next_marked, shared_ledto, is_still_in, phase_loaded, is_surely_own, must_shift, wants_exclusive, appends, copies_from, copies, awaits, held_used, changes, is_own_version, region_met, walked, has_walked, walk_ledto, safe_loaded, current_ledto, value_changed, told_value, answer_ledto, exclusive_ledto, old_ledto, append_ledto, exclusive_dropped, shared_dropped, latch_moved, walk_moved, trying_next, try_next, new_try}
+use Rattle.fkv_ops.specs.Trying.{TryState, with_latch, is_wait, ended_without, ends_so as ends_now, ends_by, is_bounded, tail_loaded, taken_loaded, must_count, count_loaded, ends, takes_effect, full_at, wants_shared, walks, try_begun, is_next_marked, shared_ledto, is_still_in, phase_loaded, is_surely_own, must_shift, wants_exclusive, appends, copies_from, copies, awaits, held_used, changes, is_own_version, region_met, walked, has_walked, walk_ledto, safe_loaded, current_ledto, value_changed, told_value, answer_ledto, exclusive_ledto, old_ledto, append_ledto, exclusive_dropped, shared_dropped, latch_moved, walk_moved, trying_next, try_next, new_try}
 use Rattle.law_local.specs.Sessions.Inputs.{WalksFor, IsTryFor}
 use Rattle.law_local.specs.Tries.TryRows.{IsWalkFor}
 use Rattle.law_local.proofs.OfSessions.WalkInputs.{walk_for, walk_on_for}
+use Rattle.fkv_ops.specs.Bounds.{bounds_at, is_past_taken, is_past_tail}
+use Rattle.fkv_ops.specs.Waiting.{told_of, waiting_of}
+use Rattle.fkv_ops.specs.declared.answers.Waiting.{Waiting}
 
 module _ (bits : ℕ) (request : Request) (seen : Seen) (occasion : Occasion) where
   -- what it was given
@@ -73,11 +76,35 @@ module _ (bits : ℕ) (request : Request) (seen : Seen) (occasion : Occasion) wh
       let drops : TryState = with_latch p (record t { has_shared = false }) DropShared (DropsShared its) in
       either_so (t.has_shared && not (is_wait its)) drops (record t { step = Ended its }) (made drops (DropsShared its) refl given tt) (made (record t { step = Ended its }) (Ended its) refl given tt)
 
-  ends_so : (p : Places) (t : TryState) (its : TryAnswer) → IsGiven t → IsSo (ends p t its)
-  unfolding ends
-  ends_so p t its given =
+  ends_now_so : (p : Places) (t : TryState) (its : TryAnswer) → IsGiven t → IsSo (ends_now p t its)
+  unfolding ends_now
+  ends_now_so p t its given =
       let drops : TryState = with_latch p (record t { has_exclusive = false }) DropExclusive (DropsExclusive its) in
       either_so t.has_exclusive drops (ended_without p t its) (made drops (DropsExclusive its) refl given tt) (ended_so p t its given)
+
+  -- it looks for room before it waits
+  ends_by_so : (p : Places) (t : TryState) (its : TryAnswer) (waiting : Option Waiting) → IsGiven t → IsSo (ends_by p t its waiting)
+  ends_by_so p t its None given = ends_now_so p t its given
+  ends_by_so p t its (Some waiting) given =
+      let looks : TryState = record t { step = LoadsTail waiting } in
+      either_so (is_bounded t) looks (ends_now p t its) (made looks (LoadsTail waiting) refl given tt) (ends_now_so p t its given)
+
+  ends_so : (p : Places) (t : TryState) (its : TryAnswer) → IsGiven t → IsSo (ends p t its)
+  unfolding ends
+  ends_so p t its given = ends_by_so p t its (waiting_of its) given
+
+  tail_so : (p : Places) (t : TryState) (waiting : Waiting) (tail : ℕ) → IsGiven t → IsSo (tail_loaded p t waiting tail)
+  unfolding tail_loaded
+  tail_so p t waiting tail given =
+      let looks : TryState = record t { step = LoadsTaken waiting } in
+      let next : TryState = if t.walk.entry == 0 then looks else ends_now p t (told_of waiting) in
+      either_so (is_past_tail (bounds_at t.occasion) tail) (ends_now p t answer.LogFull) next (ends_now_so p t answer.LogFull given)
+      (either_so (t.walk.entry == 0) looks (ends_now p t (told_of waiting)) (made looks (LoadsTaken waiting) refl given tt) (ends_now_so p t (told_of waiting) given))
+
+  taken_so : (p : Places) (t : TryState) (waiting : Waiting) (taken : ℕ) → IsGiven t → IsSo (taken_loaded p t waiting taken)
+  unfolding taken_loaded
+  taken_so p t waiting taken given =
+      either_so (is_past_taken (bounds_at t.occasion) taken) (ends_now p t answer.IndexFull) (ends_now p t (told_of waiting)) (ends_now_so p t answer.IndexFull given) (ends_now_so p t (told_of waiting) given)
 
   takes_so : (p : Places) (t : TryState) (its : Reply) → IsGiven t → IsSo (takes_effect p t its)
   takes_so p t its given = ends_so p (record t { effect = Some its }) (answer.Done its) given
@@ -133,14 +160,23 @@ module _ (bits : ℕ) (request : Request) (seen : Seen) (occasion : Occasion) wh
       either_so (is_read t.request.op) loads (region_met p t addr version (seen_region_of addr.0 t.seen.offsets)) (made loads LoadsAnswer refl given (walk_on_for request seen t.walk its))
       (region_so p t addr version (seen_region_of addr.0 t.seen.offsets) given its)
   walked_so p t walk.Nowhere given its =
-      either_so (is_read t.request.op) (ends p t answer.Absent) (copies p t (Known absent_word) false) (ends_so p t answer.Absent given) (copies_so p t (Known absent_word) false given its)
+      let counts : TryState = record t { step = CountsTaken } in
+      let update : TryState = if must_count p t then counts else copies p t (Known absent_word) false in
+      either_so (is_read t.request.op) (ends p t answer.Absent) update (ends_so p t answer.Absent given)
+      (either_so (must_count p t) counts (copies p t (Known absent_word) false) (made counts CountsTaken refl given its) (copies_so p t (Known absent_word) false given its))
   walked_so p t (walk.OnDisk addr) given its =
       let update : TryState = if is_blind t.request.op then copies p t (Known absent_word) false else held_used p t addr t.request.held in
       either_so (is_read t.request.op) (awaits p t addr) update (ends_so p t _ given)
       (either_so (is_blind t.request.op) (copies p t (Known absent_word) false) (held_used p t addr t.request.held) (copies_so p t (Known absent_word) false given its) (held_so p t addr t.request.held given its))
   walked_so p t (walk.Value value) given its = ends_so p t (answer.Wait reason.Contended) given
   walked_so p t walk.Full given its = ends_so p t (full_at t.occasion answer.IndexFull) given
+  walked_so p t walk.Kept given its = ends_so p t (full_at t.occasion answer.IndexFull) given
   walked_so p t walk.Contended given its = ends_so p t (answer.Wait reason.Contended) given
+
+  count_so : (p : Places) (t : TryState) (taken : ℕ) → IsGiven t → IsWalking t → IsSo (count_loaded p t taken)
+  unfolding count_loaded
+  count_so p t taken given its =
+      either_so (is_past_taken (bounds_at t.occasion) taken) (ends p t answer.IndexFull) (copies p t (Known absent_word) false) (ends_so p t answer.IndexFull given) (copies_so p t (Known absent_word) false given its)
 
   shared_so : (p : Places) (t : TryState) (ask : Ask LatchAnswer) → t.step ≡ TakesShared → IsGiven t → IsSo (shared_ledto p t ask)
   unfolding shared_ledto
@@ -217,6 +253,7 @@ module _ (bits : ℕ) (request : Request) (seen : Seen) (occasion : Occasion) wh
   step_so p room t TakesShared reply at given walking = shared_so p (latch_moved t reply) (latch_next_ask t.latching reply) at given
   step_so p room t LoadsPhase reply at given walking = phase_so p t (phase_said reply) given
   step_so p room t Walks reply at given walking = walk_so p (walk_moved p t reply) (walk_ask p (walk_next p t.walk reply)) at given (walk_for p request seen t.walk reply walking)
+  step_so p room t CountsTaken reply at given walking = count_so p t reply given walking
   step_so p room t (LoadsSafe addr version) reply at given walking = safe_so p t addr version reply given walking
   step_so p room t (SwapsValue addr) reply at given walking = takes_so p t _ given
   step_so p room t (LoadsCurrent addr) reply at given walking = current_so p (walk_moved p t reply) addr (walk_ask p (walk_next p t.walk reply)) at given (walk_for p request seen t.walk reply walking)
@@ -225,6 +262,8 @@ module _ (bits : ℕ) (request : Request) (seen : Seen) (occasion : Occasion) wh
   step_so p room t (TakesExclusive old) reply at given walking = exclusive_so p (latch_moved t reply) old (latch_next_ask t.latching reply) at given walking
   step_so p room t LoadsOld reply at given walking = old_so p (walk_moved p t reply) (walk_ask p (walk_next p t.walk reply)) at given (walk_for p request seen t.walk reply walking)
   step_so p room t (Appends its) reply at given walking = append_so p (record t { append = append_next p room t.append reply }) its (append_ask p (append_next p room t.append reply)) at given walking
+  step_so p room t (LoadsTail waiting) reply at given walking = tail_so p t waiting reply given
+  step_so p room t (LoadsTaken waiting) reply at given walking = taken_so p t waiting reply given
   step_so p room t (DropsExclusive its) reply at given walking = exclusive_dropped_so p (latch_moved t reply) its (latch_next_ask t.latching reply) at given
   step_so p room t (DropsShared its) reply at given walking = shared_dropped_so (latch_moved t reply) its (latch_next_ask t.latching reply) at given
 

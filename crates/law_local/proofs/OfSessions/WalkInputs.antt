@@ -46,6 +46,7 @@ slot_same : (p : Places) (w : WalkState) (its : Found) → IsSameWalk w (slot_fo
 slot_same p w (found.Slot place word) = reached_same p (record w { place = place; entry = word }) (entry_addr word)
 slot_same p w found.NoSlot = (refl, refl)
 slot_same p w found.Full = (refl, refl)
+slot_same p w found.Kept = (refl, refl)
 slot_same p w found.Contended = (refl, refl)
 
 find_same : (p : Places) (w : WalkState) (ask : Ask FindAnswer) → IsSameWalk w (find_ledto p w ask)

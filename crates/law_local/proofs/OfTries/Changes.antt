@@ -57,7 +57,7 @@ where_found log tail found addr above e = by_test (found == tail) refl e
 reserved_above : (log : Log) (room : ℕ) (step : Reserving) (reply : ℕ) (addr : Addr) → IsTrueOfReserve log step reply → reserve_next_ask room step reply ≡ Done (answer.Reserved addr) → IsAboveAll log addr.0
 unfolding reserve_next_ask reserve_next reserve_ask
 reserved_above log room reserving.AtRest reply addr says e = cc
-reserved_above log room reserving.LoadsLimit reply addr says e = cc
+reserved_above log room (reserving.LoadsLimit bound) reply addr says e = cc
 reserved_above log room (reserving.LoadsTail limit) reply addr says e = by_test (nat_lt reply limit) e
   where
     by_test : (b : Bool) → (if b then reserve_ask (reserving.TakesTail reply) else Done (no_room_at room reply)) ≡ Done (answer.Reserved addr) → IsAboveAll log addr.0

@@ -26,13 +26,15 @@ use Rattle.fkv_ops.specs.declared.appending.Appending.TheVariants as appending
 use Rattle.fkv_ops.specs.declared.trying.Trying.TheVariants as try
 use Rattle.fkv_ops.specs.Values.{value_of}
 use Rattle.fkv_ops.specs.Appending.{AppendState, append_ended, addr_reserved, reserve_ledto, publish_ledto, invalidate_ledto, appending_next, append_ask, append_next}
-use Rattle.fkv_ops.specs.Trying.{TryState, is_wait, with_latch, ended_without, ends, takes_effect, full_at, value_changed, append_ledto, trying_next, try_ask, try_next}
+use Rattle.fkv_ops.specs.Trying.{TryState, is_wait, with_latch, ended_without, ends_so, ends_by, is_bounded, ends, takes_effect, full_at, value_changed, append_ledto, trying_next, try_ask, try_next}
 use Rattle.fkv_pending.specs.declared.attempting.Attempting.TheVariants.{Tries}
 use Rattle.fkv_pending.specs.Attempting.{AttemptState, attempt_next, attempting_next, waits_for_disk, puts_addr, puts, awaits_record, held_kept, tried, try_ledto}
 use Rattle.fkv_pending.specs.Pending.{with_sought, with_held, with_latch as with_share}
 use Rattle.law_local.specs.Tries.TryRows.{cell_of}
 use Rattle.law_local.specs.Tries.Kept.{KeepsForAppend, KeepsForTry, ChangesLog, Swaps, Changes, TakesAddress, Publishes, GivesUp}
 use Rattle.law_local.specs.Tries.AttemptRows.{KeepsForAttempt}
+use Rattle.fkv_ops.specs.Waiting.{waiting_of}
+use Rattle.fkv_ops.specs.declared.answers.Waiting.{Waiting}
 
 -- what a state needs
 abbrev pub Needs : (ℕ → ℕ) → Log → Log → TryState → Type 0
@@ -45,13 +47,25 @@ ended_needs home log after p t its = by_test (t.has_shared && not (is_wait its))
     by_test true = tt
     by_test false = tt
 
-ends_need : (home : ℕ → ℕ) (log after : Log) (p : Places) (t : TryState) (its : TryAnswer) → Needs home log after (ends p t its)
-unfolding ends
-ends_need home log after p t its = by_test t.has_exclusive
+ends_so_need : (home : ℕ → ℕ) (log after : Log) (p : Places) (t : TryState) (its : TryAnswer) → Needs home log after (ends_so p t its)
+unfolding ends_so
+ends_so_need home log after p t its = by_test t.has_exclusive
   where
     by_test : (b : Bool) → Needs home log after (if b then with_latch p (record t { has_exclusive = false }) DropExclusive (try.DropsExclusive its) else ended_without p t its)
     by_test true = tt
     by_test false = ended_needs home log after p t its
+
+ends_by_need : (home : ℕ → ℕ) (log after : Log) (p : Places) (t : TryState) (its : TryAnswer) (waiting : Option Waiting) → Needs home log after (ends_by p t its waiting)
+ends_by_need home log after p t its None = ends_so_need home log after p t its
+ends_by_need home log after p t its (Some waiting) = by_test (is_bounded t)
+  where
+    by_test : (b : Bool) → Needs home log after (if b then record t { step = try.LoadsTail waiting } else ends_so p t its)
+    by_test true = tt
+    by_test false = ends_so_need home log after p t its
+
+ends_need : (home : ℕ → ℕ) (log after : Log) (p : Places) (t : TryState) (its : TryAnswer) → Needs home log after (ends p t its)
+unfolding ends
+ends_need home log after p t its = ends_by_need home log after p t its (waiting_of its)
 
 changed_needs : (home : ℕ → ℕ) (log after : Log) (p : Places) (t : TryState) (old found : ℕ) → Needs home log after (value_changed p t old found)
 changed_needs home log after p t old found = by_test (found == old)

@@ -31,7 +31,7 @@ use Rattle.fkv_ops.specs.declared.walking.Walking.TheVariants.{Ended, Finds, Mee
 use Rattle.fkv_ops.specs.Requests.{is_read, is_blind}
 use Rattle.fkv_ops.specs.Values.{value_of}
 use Rattle.fkv_ops.specs.Walking.{WalkState, walking_ask, walk_ask, slot_found, find_ledto, load_ledto, value_ledto, walking_next, walk_next, walk_on}
-use Rattle.fkv_ops.specs.Trying.{TryState, trying_ask, try_ask, ends, full_at, must_shift, copies, awaits, held_used, region_met, walked, has_walked, walk_ledto, told_value, answer_ledto, trying_next, try_next}
+use Rattle.fkv_ops.specs.Trying.{TryState, trying_ask, try_ask, must_count, ends, full_at, must_shift, copies, awaits, held_used, region_met, walked, has_walked, walk_ledto, told_value, answer_ledto, trying_next, try_next}
 use Rattle.law_local.specs.Tries.Replies.{IsTrueOfWalk, IsTrueReply}
 use Rattle.law_local.specs.Tries.WalkRows.{begin_of, WalkRow, WalkKnows}
 use Rattle.law_local.specs.Tries.Tells.{BeginsAtFound, BeginsBehind}
@@ -81,6 +81,7 @@ slot_reads : (home : ℕ → ℕ) (log : Log) (p : Places) (reading : Reading) (
 slot_reads home log p reading w (found.Slot place word) called begins = at_head home log w.key.0 reading (slot_found p w (found.Slot place word)) (slot_found p w (found.Slot place word)).step called begins
 slot_reads home log p reading w found.NoSlot called begins = at_head home log w.key.0 reading (slot_found p w found.NoSlot) (slot_found p w found.NoSlot).step called begins
 slot_reads home log p reading w found.Full called begins = called
+slot_reads home log p reading w found.Kept called begins = called
 slot_reads home log p reading w found.Contended called begins = called
 
 find_reads : (home : ℕ → ℕ) (log : Log) (p : Places) (reading : Reading) (w : WalkState) (ask : Ask FindAnswer) → w.step ≡ Finds → IsCalledFor reading w.key.0 → BeginsBehind (head_of (log.chains (home w.key.0))) (begin_of (find_ledto p w ask)) ask
@@ -144,7 +145,7 @@ unfolding trying_ask
 ended_on key reading p t its reads = record { row = tt; answers = λ told e. subst (AnswerReads key reading (begin_of t.walk)) (the_answer its told e) reads }
 
 ends_on : (key : ℕ) (reading : Reading) (p : Places) (t : TryState) (its : TryAnswer) → is_read t.request.op ≡ true → IsFree t.request t.has_shared t.has_exclusive → AnswerReads key reading (begin_of t.walk) its → TryReadsOn key reading p (ends p t its)
-ends_on key reading p t its reads free goes = subst (TryReadsOn key reading p) (sym (ends_free p t its (free reads).0 (free reads).1)) (ended_on key reading p t its goes)
+ends_on key reading p t its reads free goes = subst (TryReadsOn key reading p) (sym (ends_free p t its reads (free reads).0 (free reads).1)) (ended_on key reading p t its goes)
 
 -- what is under way tells no value
 under_way : (key : ℕ) (reading : Reading) (from : ℕ) (ask : Ask WalkAnswer) (its : TryAnswer) → IsCalledFor reading key → passed ask answer.Shift ≡ Done its → AnswerReads key reading from its
@@ -162,7 +163,7 @@ walking_on_reads key reading p t at reads = record {
 }
 
 full_on : (key : ℕ) (reading : Reading) (p : Places) (t : TryState) (occasion : Occasion) → is_read t.request.op ≡ true → IsFree t.request t.has_shared t.has_exclusive → IsCalledFor reading key → TryReadsOn key reading p (ends p t (full_at occasion answer.IndexFull))
-full_on key reading p t Call reads free called = ends_on key reading p t answer.IndexFull reads free called
+full_on key reading p t (Call bounds) reads free called = ends_on key reading p t answer.IndexFull reads free called
 full_on key reading p t Poll reads free called = ends_on key reading p t (answer.Wait reason.Full) reads free called
 
 walked_on : (key : ℕ) (reading : Reading) (p : Places) (t : TryState) (its : WalkAnswer) → is_read t.request.op ≡ true → IsFree t.request t.has_shared t.has_exclusive → EndReads key reading (begin_of t.walk) (has_walked its) → TryReadsOn key reading p (walked p t its)
@@ -174,7 +175,7 @@ walked_on key reading p t (walk.Found addr version) reads free goes = by_read (i
     by_read false e = cc
 walked_on key reading p t walk.Nowhere reads free goes = by_read (is_read t.request.op) reads
   where
-    by_read : (b : Bool) → b ≡ true → TryReadsOn key reading p (if b then ends p t answer.Absent else copies p t (Known absent_word) false)
+    by_read : (b : Bool) → b ≡ true → TryReadsOn key reading p (if b then ends p t answer.Absent else if must_count p t then record t { step = try.CountsTaken } else copies p t (Known absent_word) false)
     by_read true e = ends_on key reading p t answer.Absent reads free goes
     by_read false e = cc
 walked_on key reading p t (walk.OnDisk addr) reads free goes = by_read (is_read t.request.op) reads
@@ -184,6 +185,7 @@ walked_on key reading p t (walk.OnDisk addr) reads free goes = by_read (is_read 
     by_read false e = cc
 walked_on key reading p t (walk.Value value) reads free called = ends_on key reading p t (answer.Wait reason.Contended) reads free called
 walked_on key reading p t walk.Full reads free called = full_on key reading p t t.occasion reads free called
+walked_on key reading p t walk.Kept reads free called = full_on key reading p t t.occasion reads free called
 walked_on key reading p t walk.Contended reads free called = ends_on key reading p t (answer.Wait reason.Contended) reads free called
 
 walk_led_on : (key : ℕ) (reading : Reading) (p : Places) (t : TryState) (ask : Ask WalkAnswer) → is_read t.request.op ≡ true → IsFree t.request t.has_shared t.has_exclusive → t.step ≡ try.Walks → WalkReads key reading t.walk t.walk.step → walk_ask p t.walk ≡ ask
@@ -218,6 +220,7 @@ trying_reads home log p room reading t try.Walks reply reads free at row asks sa
     walk_led_on (key_in t.request) (started home log reading (walk_starts p t.walk t.walk.step reply)) p (record t { effect = None; walk = walk_next p t.walk reply }) (walk_ask p (walk_next p t.walk reply)) reads free at
     (subst (λ (k : Key). WalkReads k.0 (started home log reading (walk_starts p t.walk t.walk.step reply)) (walk_next p t.walk reply) (walk_next p t.walk reply).step) row.0.its_key
     (walk_reads home log p reading t.walk reply row.1 says (subst (λ (k : Key). WalkReads k.0 reading t.walk t.walk.step) (sym row.0.its_key) goes))) refl
+trying_reads home log p room reading t try.CountsTaken reply reads free at row asks says goes = not_both (is_read t.request.op) reads row.0
 trying_reads home log p room reading t (try.LoadsSafe addr version) reply reads free at row asks says goes = not_both (is_read t.request.op) reads row.0
 trying_reads home log p room reading t (try.SwapsValue addr) reply reads free at row asks says goes = not_both (is_read t.request.op) reads row.0
 trying_reads home log p room reading t (try.LoadsCurrent addr) reply reads free at row asks says goes = not_both (is_read t.request.op) reads row.0
@@ -229,6 +232,8 @@ trying_reads home log p room reading t try.LoadsAnswer reply reads free at row a
 trying_reads home log p room reading t (try.TakesExclusive old) reply reads free at row asks says goes = not_both (is_read t.request.op) reads row.0
 trying_reads home log p room reading t try.LoadsOld reply reads free at row asks says goes = not_both (is_read t.request.op) reads row.0
 trying_reads home log p room reading t (try.Appends its) reply reads free at row asks says goes = not_both (is_read t.request.op) reads row.0
+trying_reads home log p room reading t (try.LoadsTail waiting) reply reads free at row asks says goes = not_both (is_read t.request.op) reads row.0
+trying_reads home log p room reading t (try.LoadsTaken waiting) reply reads free at row asks says goes = not_both (is_read t.request.op) reads row.0
 trying_reads home log p room reading t (try.DropsExclusive its) reply reads free at row asks says goes = not_both (is_read t.request.op) reads row.0
 trying_reads home log p room reading t (try.DropsShared its) reply reads free at row asks says goes = not_both (is_read t.request.op) reads row.0
 

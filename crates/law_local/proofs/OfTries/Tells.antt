@@ -43,7 +43,7 @@ use Rattle.fkv_ops.specs.Requests.{is_read, is_blind}
 use Rattle.fkv_ops.specs.Values.{value_of}
 use Rattle.fkv_ops.specs.Walking.{WalkState, walk_ask, reached, slot_found, find_ledto, first_met, record_met, load_ledto, value_ledto, walking_next, walk_next, walk_on}
 use Rattle.fkv_ops.specs.Appending.{append_ask}
-use Rattle.fkv_ops.specs.Trying.{TryState, trying_ask, try_ask, is_wait, with_latch, ended_without, ends, full_at, must_shift, copies, awaits, held_used, region_met, walked, has_walked, walk_ledto, told_value, answer_ledto, trying_next, try_next}
+use Rattle.fkv_ops.specs.Trying.{TryState, trying_ask, try_ask, is_wait, with_latch, ended_without, ends_so, ends_by, must_count, ends, full_at, must_shift, copies, awaits, held_used, region_met, walked, has_walked, walk_ledto, told_value, answer_ledto, trying_next, try_next}
 use Rattle.law_local.specs.Tries.OnWay.{ComesBelow, FindsNone, IsOrderly}
 use Rattle.law_local.specs.Tries.Replies.{LeadsToHead, EndsAtHead, IsTrueOfWalk, IsTrueReply}
 use Rattle.law_local.specs.Tries.WalkRows.{begin_of, WalkRow, WalkKnows, WalkTells}
@@ -53,6 +53,9 @@ use Rattle.law_local.proofs.OfTries.Tests.{not_both}
 use Rattle.law_local.proofs.OfTries.WalkRows.{walk_leads, walk_tells, loads_value, loads_same}
 use Rattle.law_local.proofs.OfTries.WalkKept.{KeepsKey, walk_keeps}
 use Rattle.law_local.proofs.OfTries.TrySteps.{found_value}
+use Rattle.fkv_ops.specs.Bounds.{bounds_at, has_bounds}
+use Rattle.fkv_ops.specs.Waiting.{waiting_of}
+use Rattle.fkv_ops.specs.declared.answers.Waiting.{Waiting}
 
 -- ---- where a walk goes down from
 abbrev pub KeepsEntry : WalkState → WalkState → Type 0
@@ -85,6 +88,7 @@ slot_begins : (home : ℕ → ℕ) (log : Log) (p : Places) (w : WalkState) (its
 slot_begins home log p w (found.Slot place word) none leads = ap entry_addr (reached_same p (record w { place = place; entry = word }) (entry_addr word)) ∙ leads
 slot_begins home log p w found.NoSlot none leads = ap entry_addr none ∙ sym leads
 slot_begins home log p w found.Full none leads = tt
+slot_begins home log p w found.Kept none leads = tt
 slot_begins home log p w found.Contended none leads = tt
 
 pub find_begins : (home : ℕ → ℕ) (log : Log) (p : Places) (w : WalkState) (ask : Ask FindAnswer) → w.entry ≡ 0 → EndsAtHead (head_of (log.chains (home w.key.0))) ask → BeginsBehind (head_of (log.chains (home w.key.0))) (begin_of (find_ledto p w ask)) ask
@@ -115,9 +119,9 @@ passed_answer (Done its) a b e = cc
 passed_answer ask a b e = cc
 
 -- a read that ends holds no latch, and is at its end at once
-pub ends_free : (p : Places) (t : TryState) (its : TryAnswer) → t.has_shared ≡ false → t.has_exclusive ≡ false → ends p t its ≡ record t { step = try.Ended its }
-unfolding ends
-ends_free p t its shared alone = by_alone t.has_exclusive alone
+ends_so_free : (p : Places) (t : TryState) (its : TryAnswer) → t.has_shared ≡ false → t.has_exclusive ≡ false → ends_so p t its ≡ record t { step = try.Ended its }
+unfolding ends_so
+ends_so_free p t its shared alone = by_alone t.has_exclusive alone
   where
     by_shared : (b : Bool) → b ≡ false → (if b && not (is_wait its) then with_latch p (record t { has_shared = false }) DropShared (try.DropsShared its) else record t { step = try.Ended its }) ≡ record t { step = try.Ended its }
     by_shared true e = cc
@@ -127,13 +131,27 @@ ends_free p t its shared alone = by_alone t.has_exclusive alone
     by_alone true e = cc
     by_alone false e = by_shared t.has_shared shared
 
+-- and it looks for no room
+none_bounded : (b read : Bool) → read ≡ true → (b && not read) ≡ false
+none_bounded true true e = refl
+none_bounded false true e = refl
+none_bounded b false e = cc
+
+ends_by_free : (p : Places) (t : TryState) (its : TryAnswer) (waiting : Option Waiting) → is_read t.request.op ≡ true → ends_by p t its waiting ≡ ends_so p t its
+ends_by_free p t its None reads = refl
+ends_by_free p t its (Some waiting) reads = rw (none_bounded (has_bounds (bounds_at t.occasion)) (is_read t.request.op) reads) refl
+
+pub ends_free : (p : Places) (t : TryState) (its : TryAnswer) → is_read t.request.op ≡ true → t.has_shared ≡ false → t.has_exclusive ≡ false → ends p t its ≡ record t { step = try.Ended its }
+unfolding ends
+ends_free p t its reads shared alone = ends_by_free p t its (waiting_of its) reads ∙ ends_so_free p t its shared alone
+
 ended_tells : (home : ℕ → ℕ) (log : Log) (p : Places) (t : TryState) (its : TryAnswer) → ReadTells home log t.request t.seen (begin_of t.walk) its → TryTells home log p (record t { step = try.Ended its })
 unfolding trying_ask
 ended_tells home log p t its tells = λ told e. subst (ReadTells home log t.request t.seen (begin_of t.walk)) (the_answer its told e) tells
 
 end_tells : (home : ℕ → ℕ) (log : Log) (p : Places) (t : TryState) (its : TryAnswer) → is_read t.request.op ≡ true → IsFree t.request t.has_shared t.has_exclusive → ReadTells home log t.request t.seen (begin_of t.walk) its
     → TryTells home log p (ends p t its)
-end_tells home log p t its reads free tells = subst (TryTells home log p) (sym (ends_free p t its (free reads).0 (free reads).1)) (ended_tells home log p t its tells)
+end_tells home log p t its reads free tells = subst (TryTells home log p) (sym (ends_free p t its reads (free reads).0 (free reads).1)) (ended_tells home log p t its tells)
 
 -- what is under way tells nothing
 shift_tells : (home : ℕ → ℕ) (log : Log) (p : Places) (t : TryState) → ((its : TryAnswer) → try_ask p t ≡ Done its → its ≡ answer.Shift) → TryTells home log p t
@@ -148,7 +166,7 @@ unfolding trying_ask
 answer_under_way home log p t at = shift_tells home log p t (λ its e. passed_answer (walk_ask p t.walk) answer.Shift its (ap (trying_ask p t) (sym at) ∙ e))
 
 full_tells : (home : ℕ → ℕ) (log : Log) (p : Places) (t : TryState) (occasion : Occasion) → is_read t.request.op ≡ true → IsFree t.request t.has_shared t.has_exclusive → TryTells home log p (ends p t (full_at occasion answer.IndexFull))
-full_tells home log p t Call reads free = end_tells home log p t answer.IndexFull reads free tt
+full_tells home log p t (Call bounds) reads free = end_tells home log p t answer.IndexFull reads free tt
 full_tells home log p t Poll reads free = end_tells home log p t (answer.Wait reason.Full) reads free tt
 
 walked_tells : (home : ℕ → ℕ) (log : Log) (p : Places) (t : TryState) (its : WalkAnswer) → IsOrderly home log → is_read t.request.op ≡ true → IsFree t.request t.has_shared t.has_exclusive → IsWalkFor t.request t.seen t.walk → WalkTells home log t.walk its
@@ -164,7 +182,7 @@ walked_tells home log p t walk.Nowhere orderly reads free walks tells = by_read 
     none : FindsNone home log (key_in t.request) (begin_of t.walk)
     none = subst (λ (k : Key). FindsNone home log k.0 (begin_of t.walk)) walks.its_key tells
 
-    by_read : (b : Bool) → b ≡ true → TryTells home log p (if b then ends p t answer.Absent else copies p t (Known absent_word) false)
+    by_read : (b : Bool) → b ≡ true → TryTells home log p (if b then ends p t answer.Absent else if must_count p t then record t { step = try.CountsTaken } else copies p t (Known absent_word) false)
     by_read true e = end_tells home log p t answer.Absent reads free (ap (λ a. value_at (log.cells a)) none.none ∙ ap value_at orderly.none)
     by_read false e = cc
 walked_tells home log p t (walk.OnDisk addr) orderly reads free walks tells = by_read (is_read t.request.op) reads
@@ -177,6 +195,7 @@ walked_tells home log p t (walk.OnDisk addr) orderly reads free walks tells = by
     by_read false e = cc
 walked_tells home log p t (walk.Value value) orderly reads free walks tells = end_tells home log p t (answer.Wait reason.Contended) reads free tt
 walked_tells home log p t walk.Full orderly reads free walks tells = full_tells home log p t t.occasion reads free
+walked_tells home log p t walk.Kept orderly reads free walks tells = full_tells home log p t t.occasion reads free
 walked_tells home log p t walk.Contended orderly reads free walks tells = end_tells home log p t (answer.Wait reason.Contended) reads free tt
 
 walk_led_tells : (home : ℕ → ℕ) (log : Log) (p : Places) (t : TryState) (ask : Ask WalkAnswer) → IsOrderly home log → is_read t.request.op ≡ true → IsFree t.request t.has_shared t.has_exclusive → t.step ≡ try.Walks → IsWalkFor t.request t.seen t.walk
@@ -213,6 +232,7 @@ row_tells home log p room t try.Walks reply orderly reads free at row asks says 
   where
     kept : KeepsKey t.walk (walk_next p t.walk reply)
     kept = walk_keeps p t.walk reply
+row_tells home log p room t try.CountsTaken reply orderly reads free at row asks says = not_both (is_read t.request.op) reads row.0
 row_tells home log p room t (try.LoadsSafe addr version) reply orderly reads free at row asks says = not_both (is_read t.request.op) reads row.0
 row_tells home log p room t (try.SwapsValue addr) reply orderly reads free at row asks says = not_both (is_read t.request.op) reads row.0
 row_tells home log p room t (try.LoadsCurrent addr) reply orderly reads free at row asks says = not_both (is_read t.request.op) reads row.0
@@ -224,6 +244,8 @@ row_tells home log p room t try.LoadsAnswer reply orderly reads free at row asks
 row_tells home log p room t (try.TakesExclusive old) reply orderly reads free at row asks says = not_both (is_read t.request.op) reads row.0
 row_tells home log p room t try.LoadsOld reply orderly reads free at row asks says = not_both (is_read t.request.op) reads row.0
 row_tells home log p room t (try.Appends its) reply orderly reads free at row asks says = not_both (is_read t.request.op) reads row.0
+row_tells home log p room t (try.LoadsTail waiting) reply orderly reads free at row asks says = not_both (is_read t.request.op) reads row.0
+row_tells home log p room t (try.LoadsTaken waiting) reply orderly reads free at row asks says = not_both (is_read t.request.op) reads row.0
 row_tells home log p room t (try.DropsExclusive its) reply orderly reads free at row asks says = not_both (is_read t.request.op) reads row.0
 row_tells home log p room t (try.DropsShared its) reply orderly reads free at row asks says = not_both (is_read t.request.op) reads row.0
 
@@ -247,6 +269,7 @@ row_seeks home log p t (try.Ended its) it row e = awaited home log t.request t.s
 row_seeks home log p t try.TakesShared it row e = sought_not (latch_ask t.latching) it e
 row_seeks home log p t try.LoadsPhase it row e = cc
 row_seeks home log p t try.Walks it row e = sought_not (walk_ask p t.walk) it e
+row_seeks home log p t try.CountsTaken it row e = cc
 row_seeks home log p t (try.LoadsSafe addr version) it row e = cc
 row_seeks home log p t (try.SwapsValue addr) it row e = cc
 row_seeks home log p t (try.LoadsCurrent addr) it row e = sought_not (walk_ask p t.walk) it e
@@ -255,6 +278,8 @@ row_seeks home log p t try.LoadsAnswer it row e = sought_not (walk_ask p t.walk)
 row_seeks home log p t (try.TakesExclusive old) it row e = sought_not (latch_ask t.latching) it e
 row_seeks home log p t try.LoadsOld it row e = sought_not (walk_ask p t.walk) it e
 row_seeks home log p t (try.Appends its) it row e = sought_not (append_ask p t.append) it e
+row_seeks home log p t (try.LoadsTail waiting) it row e = cc
+row_seeks home log p t (try.LoadsTaken waiting) it row e = cc
 row_seeks home log p t (try.DropsExclusive its) it row e = awaited home log t.request t.seen its it (sym (passed_answer (latch_ask t.latching) its (answer.AwaitsDisk it) e)) row.1
 row_seeks home log p t (try.DropsShared its) it row e = awaited home log t.request t.seen its it (sym (passed_answer (latch_ask t.latching) its (answer.AwaitsDisk it) e)) row.1
 

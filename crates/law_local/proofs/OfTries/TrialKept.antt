@@ -38,9 +38,12 @@ use Rattle.fkv_ops.specs.Requests.{is_read, is_blind}
 use Rattle.fkv_ops.specs.Values.{value_of}
 use Rattle.fkv_ops.specs.Walking.{walk_ask, walk_next, walk_on}
 use Rattle.fkv_ops.specs.Appending.{append_ask, append_next}
-use Rattle.fkv_ops.specs.Trying.{TryState, is_wait, with_latch, ended_without, ends, takes_effect, full_at, walks, wants_shared, try_begun, is_marked, is_next_marked, shared_ledto, is_still_in, phase_loaded, must_shift, wants_exclusive, appends, copies_from, copies, awaits, held_used, met_nowhere, met_disk, changes, is_own_version, region_met, met_record, walked, has_walked, walk_ledto, current_ledto, told_value, answer_ledto, exclusive_ledto, old_ledto, append_ledto, exclusive_dropped, shared_dropped, trying_next, try_next, new_try}
+use Rattle.fkv_ops.specs.Trying.{TryState, is_wait, with_latch, ended_without, ends_so, ends_by, is_bounded, tail_loaded, taken_loaded, must_count, count_loaded, ends, takes_effect, full_at, walks, wants_shared, try_begun, is_marked, is_next_marked, shared_ledto, is_still_in, phase_loaded, must_shift, wants_exclusive, appends, copies_from, copies, awaits, held_used, met_nowhere, met_disk, changes, is_own_version, region_met, met_record, walked, has_walked, walk_ledto, current_ledto, told_value, answer_ledto, exclusive_ledto, old_ledto, append_ledto, exclusive_dropped, shared_dropped, trying_next, try_next, new_try}
 use Rattle.law_local.specs.Tries.Tells.{TryGoesFrom}
 use Rattle.law_local.proofs.OfTries.WalkRows.{same_on}
+use Rattle.fkv_ops.specs.Bounds.{bounds_at, is_past_taken, is_past_tail}
+use Rattle.fkv_ops.specs.Waiting.{told_of, waiting_of}
+use Rattle.fkv_ops.specs.declared.answers.Waiting.{Waiting}
 
 pub record KeepsTrial (t t' : TryState) : Type 0 where
   pub request : t'.request ≡ t.request
@@ -62,9 +65,26 @@ ended_keeps : (p : Places) (t : TryState) (its : TryAnswer) → KeepsTrial t (en
 ended_keeps p t its = by_test t (t.has_shared && not (is_wait its)) (with_latch p (record t { has_shared = false }) DropShared (try.DropsShared its)) (record t { step = try.Ended its })
     (record { request = refl; seen = refl; entry = refl }) (record { request = refl; seen = refl; entry = refl })
 
+ends_so_keeps : (p : Places) (t : TryState) (its : TryAnswer) → KeepsTrial t (ends_so p t its)
+unfolding ends_so
+ends_so_keeps p t its = by_test t t.has_exclusive (with_latch p (record t { has_exclusive = false }) DropExclusive (try.DropsExclusive its)) (ended_without p t its) (record { request = refl; seen = refl; entry = refl }) (ended_keeps p t its)
+
+ends_by_keeps : (p : Places) (t : TryState) (its : TryAnswer) (waiting : Option Waiting) → KeepsTrial t (ends_by p t its waiting)
+ends_by_keeps p t its None = ends_so_keeps p t its
+ends_by_keeps p t its (Some waiting) = by_test t (is_bounded t) (record t { step = try.LoadsTail waiting }) (ends_so p t its) (record { request = refl; seen = refl; entry = refl }) (ends_so_keeps p t its)
+
 ends_keeps : (p : Places) (t : TryState) (its : TryAnswer) → KeepsTrial t (ends p t its)
 unfolding ends
-ends_keeps p t its = by_test t t.has_exclusive (with_latch p (record t { has_exclusive = false }) DropExclusive (try.DropsExclusive its)) (ended_without p t its) (record { request = refl; seen = refl; entry = refl }) (ended_keeps p t its)
+ends_keeps p t its = ends_by_keeps p t its (waiting_of its)
+
+tail_keeps : (p : Places) (t : TryState) (waiting : Waiting) (tail : ℕ) → KeepsTrial t (tail_loaded p t waiting tail)
+unfolding tail_loaded
+tail_keeps p t waiting tail =
+    by_test t (is_past_tail (bounds_at t.occasion) tail) (ends_so p t answer.LogFull) (if t.walk.entry == 0 then record t { step = try.LoadsTaken waiting } else ends_so p t (told_of waiting)) (ends_so_keeps p t answer.LogFull) (by_test t (t.walk.entry == 0) (record t { step = try.LoadsTaken waiting }) (ends_so p t (told_of waiting)) (record { request = refl; seen = refl; entry = refl }) (ends_so_keeps p t (told_of waiting)))
+
+taken_keeps : (p : Places) (t : TryState) (waiting : Waiting) (taken : ℕ) → KeepsTrial t (taken_loaded p t waiting taken)
+unfolding taken_loaded
+taken_keeps p t waiting taken = by_test t (is_past_taken (bounds_at t.occasion) taken) (ends_so p t answer.IndexFull) (ends_so p t (told_of waiting)) (ends_so_keeps p t answer.IndexFull) (ends_so_keeps p t (told_of waiting))
 
 appends_keeps : (t : TryState) (old : ℕ) → KeepsTrial t (appends t old)
 unfolding appends
@@ -92,7 +112,13 @@ held_keeps p t addr (Some held) =
     (awaits_keeps p t addr)
 
 nowhere_keeps : (p : Places) (t : TryState) → KeepsTrial t (met_nowhere p t)
-nowhere_keeps p t = by_test t (is_read t.request.op) (ends p t answer.Absent) (copies p t (Known absent_word) false) (ends_keeps p t answer.Absent) (copies_keeps p t (Known absent_word) false)
+nowhere_keeps p t =
+    by_test t (is_read t.request.op) (ends p t answer.Absent) (if must_count p t then record t { step = try.CountsTaken } else copies p t (Known absent_word) false) (ends_keeps p t answer.Absent)
+    (by_test t (must_count p t) (record t { step = try.CountsTaken }) (copies p t (Known absent_word) false) (record { request = refl; seen = refl; entry = refl }) (copies_keeps p t (Known absent_word) false))
+
+count_keeps : (p : Places) (t : TryState) (taken : ℕ) → KeepsTrial t (count_loaded p t taken)
+unfolding count_loaded
+count_keeps p t taken = by_test t (is_past_taken (bounds_at t.occasion) taken) (ends p t answer.IndexFull) (copies p t (Known absent_word) false) (ends_keeps p t answer.IndexFull) (copies_keeps p t (Known absent_word) false)
 
 disk_keeps : (p : Places) (t : TryState) (addr : Addr) → KeepsTrial t (met_disk p t addr)
 disk_keeps p t addr =
@@ -119,6 +145,7 @@ walked_keeps p t walk.Nowhere = nowhere_keeps p t
 walked_keeps p t (walk.OnDisk addr) = disk_keeps p t addr
 walked_keeps p t (walk.Value value) = ends_keeps p t (answer.Wait reason.Contended)
 walked_keeps p t walk.Full = full_keeps p t t.occasion answer.IndexFull
+walked_keeps p t walk.Kept = full_keeps p t t.occasion answer.IndexFull
 walked_keeps p t walk.Contended = ends_keeps p t (answer.Wait reason.Contended)
 
 spared : (t t' : TryState) (spare : ℕ) → KeepsTrial (record t { spare = spare }) t' → KeepsTrial t t'
@@ -208,6 +235,7 @@ row_kept p room t (try.Ended its) reply = record { request = refl; seen = refl }
 row_kept p room t try.TakesShared reply = let kept = shared_kept p (record t { effect = None; latching = latch_next t.latching reply }) (latch_next_ask t.latching reply) in record { request = kept.request; seen = kept.seen }
 row_kept p room t try.LoadsPhase reply = let kept = phase_kept p (record t { effect = None }) (phase_said reply) in record { request = kept.request; seen = kept.seen }
 row_kept p room t try.Walks reply = let kept = walk_led_keeps p (record t { effect = None; walk = walk_next p t.walk reply }) (walk_ask p (walk_next p t.walk reply)) in record { request = kept.request; seen = kept.seen }
+row_kept p room t try.CountsTaken reply = let kept = count_keeps p (record t { effect = None }) reply in record { request = kept.request; seen = kept.seen }
 row_kept p room t (try.LoadsSafe addr version) reply =
     by_choice t (nat_le reply addr.0) (ends p (record t { effect = None }) (answer.Wait reason.Fuzzy)) (copies p (record t { effect = None }) InMemory (not (is_marked t.request.version) && version.0 == mark t.request.version.0))
     (as_kept t (record t { effect = None }) (ends p (record t { effect = None }) (answer.Wait reason.Fuzzy)) refl refl (ends_keeps p (record t { effect = None }) (answer.Wait reason.Fuzzy)))
@@ -222,6 +250,8 @@ row_kept p room t try.LoadsAnswer reply = let kept = answer_keeps p (record t { 
 row_kept p room t (try.TakesExclusive old) reply = let kept = exclusive_kept p (record t { effect = None; latching = latch_next t.latching reply }) old (latch_next_ask t.latching reply) in record { request = kept.request; seen = kept.seen }
 row_kept p room t try.LoadsOld reply = let kept = old_keeps p (record t { effect = None; walk = walk_next p t.walk reply }) (walk_ask p (walk_next p t.walk reply)) in record { request = kept.request; seen = kept.seen }
 row_kept p room t (try.Appends its) reply = let kept = append_kept p (record t { effect = None; append = append_next p room t.append reply }) its (append_ask p (append_next p room t.append reply)) in record { request = kept.request; seen = kept.seen }
+row_kept p room t (try.LoadsTail waiting) reply = let kept = tail_keeps p (record t { effect = None }) waiting reply in record { request = kept.request; seen = kept.seen }
+row_kept p room t (try.LoadsTaken waiting) reply = let kept = taken_keeps p (record t { effect = None }) waiting reply in record { request = kept.request; seen = kept.seen }
 row_kept p room t (try.DropsExclusive its) reply = let kept = dropped_kept p (record t { effect = None; latching = latch_next t.latching reply }) its (latch_next_ask t.latching reply) in record { request = kept.request; seen = kept.seen }
 row_kept p room t (try.DropsShared its) reply = let kept = unshared_kept (record t { effect = None; latching = latch_next t.latching reply }) its (latch_next_ask t.latching reply) in record { request = kept.request; seen = kept.seen }
 
@@ -250,6 +280,7 @@ row_goes p room t try.LoadsAnswer reply at = ap (λ step. (trying_next p room (r
 row_goes p room t (try.Ended its) reply at = tt
 row_goes p room t try.TakesShared reply at = tt
 row_goes p room t try.LoadsPhase reply at = tt
+row_goes p room t try.CountsTaken reply at = tt
 row_goes p room t (try.LoadsSafe addr version) reply at = tt
 row_goes p room t (try.SwapsValue addr) reply at = tt
 row_goes p room t (try.LoadsCurrent addr) reply at = tt
@@ -257,6 +288,8 @@ row_goes p room t (try.ChangesValue addr old) reply at = tt
 row_goes p room t (try.TakesExclusive old) reply at = tt
 row_goes p room t try.LoadsOld reply at = tt
 row_goes p room t (try.Appends its) reply at = tt
+row_goes p room t (try.LoadsTail waiting) reply at = tt
+row_goes p room t (try.LoadsTaken waiting) reply at = tt
 row_goes p room t (try.DropsExclusive its) reply at = tt
 row_goes p room t (try.DropsShared its) reply at = tt
 

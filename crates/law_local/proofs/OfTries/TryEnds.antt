@@ -1,6 +1,6 @@
 -- How a try comes to its end, to its walk, and to a new record.
 use Rattle.std.proofs.Common.{◌≡◌, ℕ, ◌≤◌, refl, inl, sym, subst, Bool, true, false}
-use Rattle.std.specs.Prelude.{◌&&◌, not, if◌then◌else◌}
+use Rattle.std.specs.Prelude.{◌&&◌, not, if◌then◌else◌, Some}
 use Rattle.fkv_base.specs.declared.numbers.Addr.{Addr}
 use Rattle.fkv_base.specs.declared.numbers.Key.{Key}
 use Rattle.fkv_base.specs.declared.numbers.Version.{Version}
@@ -20,16 +20,20 @@ use Rattle.fkv_ops.specs.declared.requests.Request.{Request}
 use Rattle.fkv_ops.specs.declared.requests.Seen.{Seen}
 use Rattle.fkv_ops.specs.declared.trying.OldValue.{OldValue}
 use Rattle.fkv_ops.specs.declared.trying.OldValue.TheVariants.{InMemory, Known}
-use Rattle.fkv_ops.specs.declared.trying.Trying.TheVariants.{Ended, LoadsOld, TakesExclusive, DropsExclusive, DropsShared}
+use Rattle.fkv_ops.specs.declared.trying.Trying.TheVariants.{Ended, LoadsOld, TakesExclusive, LoadsTail, DropsExclusive, DropsShared}
 use Rattle.fkv_ops.specs.Requests.{is_read, is_blind}
 use Rattle.fkv_ops.specs.Walking.{WalkState, walk_on}
-use Rattle.fkv_ops.specs.Trying.{TryState, is_wait, with_latch, ended_without, ends, full_at, walks, wants_exclusive, appends, copies_from, copies}
+use Rattle.fkv_ops.specs.Trying.{TryState, is_wait, with_latch, ended_without, ends_so, ends_by, is_bounded, ends, full_at, walks, wants_exclusive, appends, copies_from, copies}
 use Rattle.law_local.specs.Tries.OnWay.{IsFoundAt}
 use Rattle.law_local.specs.Tries.WalkRows.{begin_of}
 use Rattle.law_local.specs.Tries.TryRows.{key_in, first_of, RequestKnows, StandsAt, LoadsFound, CopiesStill, IsOldFor, OldKnows, AnswerKnows, IsUpdate, IsFree, TryKnows}
 use Rattle.law_local.proofs.OfTries.Tests.{not_both}
 use Rattle.law_local.proofs.OfTries.WalkRows.{loads_on, same_on}
 use Rattle.law_local.proofs.OfTries.Made.{blind_old, made_so}
+use Rattle.fkv_ops.specs.declared.answers.Waiting.{Waiting}
+use Rattle.fkv_ops.specs.declared.answers.Waiting.TheVariants.{For, ForRecord}
+use Rattle.fkv_ops.specs.Bounds.{bounds_at, has_bounds}
+use Rattle.fkv_ops.specs.Waiting.{told_of}
 
 -- ---- the end
 -- what holds a latch is no read
@@ -52,17 +56,37 @@ ended_knows home log p t its request free knows = by_test (t.has_shared && not (
     }
     by_test false e = record { request = request; free = free; row = knows }
 
-pub ends_knows : (home : ℕ → ℕ) (log : Log) (p : Places) (t : TryState) (its : TryAnswer) → RequestKnows home log t.request t.seen → IsFree t.request t.has_shared t.has_exclusive → AnswerKnows home log t.request t.seen its → TryKnows home log (ends p t its)
-unfolding ends
-ends_knows home log p t its request free knows = by_test t.has_exclusive refl
+pub ends_so_knows : (home : ℕ → ℕ) (log : Log) (p : Places) (t : TryState) (its : TryAnswer) → RequestKnows home log t.request t.seen → IsFree t.request t.has_shared t.has_exclusive → AnswerKnows home log t.request t.seen its → TryKnows home log (ends_so p t its)
+unfolding ends_so
+ends_so_knows home log p t its request free knows = by_test t.has_exclusive refl
   where
     by_test : (b : Bool) → t.has_exclusive ≡ b → TryKnows home log (if b then with_latch p (record t { has_exclusive = false }) DropExclusive (DropsExclusive its) else ended_without p t its)
     by_test true e = record { request = request; free = λ read. ((free read).0, refl); row = (holds_update (is_read t.request.op) t.has_exclusive (λ read. (free read).1) e, knows) }
     by_test false e = ended_knows home log p t its request free knows
 
+-- what looks for room is an update
+bounded_update : (b read : Bool) → (b && not read) ≡ true → read ≡ false
+bounded_update b false e = refl
+bounded_update true true e = cc
+bounded_update false true e = cc
+
+waits_knows : (home : ℕ → ℕ) (log : Log) (p : Places) (t : TryState) (its : TryAnswer) (waiting : Waiting) → RequestKnows home log t.request t.seen → IsFree t.request t.has_shared t.has_exclusive → AnswerKnows home log t.request t.seen its → AnswerKnows home log t.request t.seen (told_of waiting)
+    → TryKnows home log (ends_by p t its (Some waiting))
+waits_knows home log p t its waiting request free knows told = by_test (is_bounded t) refl
+  where
+    by_test : (b : Bool) → is_bounded t ≡ b → TryKnows home log (if b then record t { step = LoadsTail waiting } else ends_so p t its)
+    by_test true e = record { request = request; free = free; row = (bounded_update (has_bounds (bounds_at t.occasion)) (is_read t.request.op) e, told) }
+    by_test false e = ends_so_knows home log p t its request free knows
+
+pub ends_knows : (home : ℕ → ℕ) (log : Log) (p : Places) (t : TryState) (its : TryAnswer) → RequestKnows home log t.request t.seen → IsFree t.request t.has_shared t.has_exclusive → AnswerKnows home log t.request t.seen its → TryKnows home log (ends p t its)
+unfolding ends
+ends_knows home log p t (answer.Wait it) request free knows = waits_knows home log p t (answer.Wait it) (For it) request free knows tt
+ends_knows home log p t (answer.AwaitsDisk it) request free knows = waits_knows home log p t (answer.AwaitsDisk it) (ForRecord it) request free knows knows
+ends_knows home log p t its request free knows = ends_so_knows home log p t its request free knows
+
 pub full_knows : (home : ℕ → ℕ) (log : Log) (p : Places) (t : TryState) (refused : TryAnswer) (occasion : Occasion) → RequestKnows home log t.request t.seen → IsFree t.request t.has_shared t.has_exclusive → AnswerKnows home log t.request t.seen refused
     → TryKnows home log (ends p t (full_at occasion refused))
-full_knows home log p t refused Call request free knows = ends_knows home log p t refused request free knows
+full_knows home log p t refused (Call bounds) request free knows = ends_knows home log p t refused request free knows
 full_knows home log p t refused Poll request free knows = ends_knows home log p t (answer.Wait reason.Full) request free tt
 
 -- ---- the walk

@@ -4,7 +4,7 @@ use Rattle.fkv_base.specs.declared.numbers.Addr.{Addr}
 use Rattle.fkv_base.specs.declared.numbers.Version.{Version}
 use Rattle.fkv_map.specs.declared.history.HistoryEntry.{HistoryEntry}
 use Rattle.fkv_map.specs.declared.operations.Reply.{Reply}
-use Rattle.fkv_map.specs.Map.{Map}
+use Rattle.fkv_map.specs.Map.{Map, absent_word}
 use Rattle.fkv_index.specs.Slots.{entry_addr}
 use Rattle.law_log.specs.Chains.{Cell}
 use Rattle.law_log.specs.Ghosts.{Log, first_from}
@@ -21,7 +21,7 @@ use Rattle.fkv_ops.specs.declared.requests.Seen.{Seen}
 use Rattle.fkv_ops.specs.declared.trying.OldValue.{OldValue}
 use Rattle.fkv_ops.specs.declared.trying.OldValue.TheVariants.{InMemory, Known}
 use Rattle.fkv_ops.specs.declared.trying.Trying.{Trying}
-use Rattle.fkv_ops.specs.declared.trying.Trying.TheVariants.{Ended, TakesShared, LoadsPhase, Walks, LoadsSafe, SwapsValue, LoadsCurrent, ChangesValue, LoadsAnswer, TakesExclusive, LoadsOld, Appends, DropsExclusive, DropsShared}
+use Rattle.fkv_ops.specs.declared.trying.Trying.TheVariants.{Ended, TakesShared, LoadsPhase, Walks, CountsTaken, LoadsSafe, SwapsValue, LoadsCurrent, ChangesValue, LoadsAnswer, TakesExclusive, LoadsOld, Appends, LoadsTail, LoadsTaken, DropsExclusive, DropsShared}
 use Rattle.fkv_ops.specs.Walking.{WalkState}
 use Rattle.fkv_ops.specs.Trying.{TryState}
 use Rattle.law_local.specs.Tries.OnWay.{ComesBelow}
@@ -31,6 +31,7 @@ use Rattle.law_local.specs.Tries.TryRows.{key_in, head_in, first_of, RequestKnow
 use Rattle.law_local.specs.Tries.Kept.{KeepsSource, KeepsForAppend, KeepsForTry}
 use Rattle.law_local.proofs.OfTries.OnWay.{within_grows, first_grows, fixed_grows, low_grows, below_grows, none_grows, found_grows, still_grows, value_grows}
 use Rattle.law_local.proofs.OfTries.WalkRows.{found_knows_grows, walk_grows}
+use Rattle.fkv_ops.specs.Waiting.{told_of}
 
 -- ---- what a request holds and seeks
 value_below_grows : (home : ℕ → ℕ) (m : Map) (log log' : Log) (key from word low : ℕ) → Held home m log → Grows home m log log' → low ≤ log.fixed → IsValueBelow home log key from word low → IsValueBelow home log' key from word low
@@ -145,6 +146,7 @@ row_grows home m log log' t (Ended its) held grows keeps row = answer_grows home
 row_grows home m log log' t TakesShared held grows keeps row = row
 row_grows home m log log' t LoadsPhase held grows keeps row = row
 row_grows home m log log' t Walks held grows keeps row = (row.0, walk_grows home m log log' t.walk held grows row.1)
+row_grows home m log log' t CountsTaken held grows keeps row = (row.0, old_grows home m log log' t.request t.seen t.walk (Known absent_word) held grows row.1)
 row_grows home m log log' t (LoadsSafe addr version) held grows keeps row = (row.0, stands_grows home m log log' t.request t.seen t.walk addr version held grows row.1)
 row_grows home m log log' t (SwapsValue addr) held grows keeps row = (row.0, row.1, may_grows home m log log' t.request t.seen (begin_of t.walk) addr.0 held grows row.2)
 row_grows home m log log' t (LoadsCurrent addr) held grows keeps row = (row.0, row.1, may_grows home m log log' t.request t.seen (begin_of t.walk) addr.0 held grows row.2)
@@ -160,6 +162,8 @@ row_grows home m log log' t LoadsOld held grows keeps row = (
   },
 )
 row_grows home m log log' t (Appends its) held grows keeps row = (row.0, append_grows home m log log' t.request its _ t.append.step held grows keeps row.1)
+row_grows home m log log' t (LoadsTail waiting) held grows keeps row = (row.0, answer_grows home m log log' t.request t.seen (told_of waiting) held grows row.1)
+row_grows home m log log' t (LoadsTaken waiting) held grows keeps row = (row.0, answer_grows home m log log' t.request t.seen (told_of waiting) held grows row.1)
 row_grows home m log log' t (DropsExclusive its) held grows keeps row = (row.0, answer_grows home m log log' t.request t.seen its held grows row.1)
 row_grows home m log log' t (DropsShared its) held grows keeps row = (row.0, answer_grows home m log log' t.request t.seen its held grows row.1)
 

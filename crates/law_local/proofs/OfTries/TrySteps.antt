@@ -37,14 +37,14 @@ use Rattle.fkv_ops.specs.declared.requests.Request.{Request}
 use Rattle.fkv_ops.specs.declared.requests.Seen.{Seen}
 use Rattle.fkv_ops.specs.declared.trying.OldValue.{OldValue}
 use Rattle.fkv_ops.specs.declared.trying.Trying.{Trying}
-use Rattle.fkv_ops.specs.declared.trying.Trying.TheVariants.{Ended, TakesShared, LoadsPhase, Walks, LoadsSafe, SwapsValue, LoadsCurrent, ChangesValue, LoadsAnswer, TakesExclusive, LoadsOld, Appends, DropsExclusive, DropsShared}
+use Rattle.fkv_ops.specs.declared.trying.Trying.TheVariants.{Ended, TakesShared, LoadsPhase, Walks, CountsTaken, LoadsSafe, SwapsValue, LoadsCurrent, ChangesValue, LoadsAnswer, TakesExclusive, LoadsOld, Appends, LoadsTail, LoadsTaken, DropsExclusive, DropsShared}
 use Rattle.fkv_ops.specs.declared.walking.WalkAnswer.TheVariants as walk
 use Rattle.fkv_ops.specs.declared.walking.Walking.{Walking}
 use Rattle.fkv_ops.specs.declared.walking.Walking.TheVariants as walking
 use Rattle.fkv_ops.specs.Values.{value_of}
 use Rattle.fkv_ops.specs.Walking.{WalkState, walk_ask, walk_next}
 use Rattle.fkv_ops.specs.Appending.{AppendState, append_ended, addr_reserved, reserve_ledto, fill_ledto, publish_ledto, invalidate_ledto, appending_next, append_ask, append_next}
-use Rattle.fkv_ops.specs.Trying.{TryState, ends, takes_effect, walks, is_next_marked, latch_shared, shared_ledto, is_still_in, phase_loaded, current_ledto, value_changed, told_value, answer_ledto, exclusive_ledto, old_ledto, append_ledto, exclusive_dropped, shared_dropped, trying_next, try_next}
+use Rattle.fkv_ops.specs.Trying.{TryState, ends_so, tail_loaded, taken_loaded, count_loaded, copies, ends, takes_effect, walks, is_next_marked, latch_shared, shared_ledto, is_still_in, phase_loaded, current_ledto, value_changed, told_value, answer_ledto, exclusive_ledto, old_ledto, append_ledto, exclusive_dropped, shared_dropped, trying_next, try_next}
 use Rattle.law_local.specs.Tries.OnWay.{IsFoundAt, IsOrderly}
 use Rattle.law_local.specs.Tries.Replies.{IsTrueOfLoad, IsTrueOfWalk, IsTrueReply}
 use Rattle.law_local.specs.Tries.WalkRows.{begin_of, LoadsFrom}
@@ -52,8 +52,13 @@ use Rattle.law_local.specs.Tries.TryRows.{key_in, first_of, RequestKnows, LoadsF
 use Rattle.law_local.proofs.OfTries.WalkRows.{walk_leads, loads_value, loads_same}
 use Rattle.law_local.proofs.OfTries.WalkKept.{KeepsKey, walk_keeps}
 use Rattle.law_local.proofs.OfTries.Made.{same_old}
-use Rattle.law_local.proofs.OfTries.TryEnds.{ended_knows, ends_knows, full_knows, walks_knows, update_free, appends_knows, copies_from_knows}
+use Rattle.law_local.proofs.OfTries.TryEnds.{ended_knows, ends_knows, full_knows, walks_knows, update_free, appends_knows, copies_from_knows, ends_so_knows, copies_knows}
 use Rattle.law_local.proofs.OfTries.TryWalks.{walk_led_knows, safe_knows}
+use Rattle.fkv_ops.specs.Bounds.{bounds_at, is_past_taken, is_past_tail}
+use Rattle.fkv_ops.specs.Waiting.{told_of}
+use Rattle.fkv_ops.specs.declared.answers.Waiting.{Waiting}
+use Rattle.fkv_map.specs.Map.{absent_word}
+use Rattle.fkv_ops.specs.declared.trying.OldValue.TheVariants.{Known}
 
 -- ---- the value that is loaded
 -- a true reply is the value of the record that the walk has found
@@ -90,6 +95,32 @@ phase_knows home log p t said request update = by_word (is_still_in said t.reque
     by_word : (b : Bool) → TryKnows home log (if b then walks p t else ends p t answer.Shift)
     by_word true = walks_knows home log p t request (update_free t.request t.has_shared t.has_exclusive update)
     by_word false = ends_knows home log p t answer.Shift request (update_free t.request t.has_shared t.has_exclusive update) tt
+
+-- ---- the looks for room
+count_knows : (home : ℕ → ℕ) (log : Log) (p : Places) (t : TryState) (taken : ℕ) → RequestKnows home log t.request t.seen → IsUpdate t.request → OldKnows home log t.request t.seen t.walk (Known absent_word) → TryKnows home log (count_loaded p t taken)
+unfolding count_loaded
+count_knows home log p t taken request update knows = by_test (is_past_taken (bounds_at t.occasion) taken)
+  where
+    by_test : (b : Bool) → TryKnows home log (if b then ends p t answer.IndexFull else copies p t (Known absent_word) false)
+    by_test true = ends_knows home log p t answer.IndexFull request (update_free t.request t.has_shared t.has_exclusive update) tt
+    by_test false = copies_knows home log p t (Known absent_word) false request update knows
+
+tail_knows : (home : ℕ → ℕ) (log : Log) (p : Places) (t : TryState) (waiting : Waiting) (tail : ℕ) → RequestKnows home log t.request t.seen → IsUpdate t.request → AnswerKnows home log t.request t.seen (told_of waiting) → TryKnows home log (tail_loaded p t waiting tail)
+unfolding tail_loaded
+tail_knows home log p t waiting tail request update knows = by_tests (is_past_tail (bounds_at t.occasion) tail) (t.walk.entry == 0)
+  where
+    by_tests : (a b : Bool) → TryKnows home log (if a then ends_so p t answer.LogFull else if b then record t { step = LoadsTaken waiting } else ends_so p t (told_of waiting))
+    by_tests true b = ends_so_knows home log p t answer.LogFull request (update_free t.request t.has_shared t.has_exclusive update) tt
+    by_tests false true = record { request = request; free = update_free t.request t.has_shared t.has_exclusive update; row = (update, knows) }
+    by_tests false false = ends_so_knows home log p t (told_of waiting) request (update_free t.request t.has_shared t.has_exclusive update) knows
+
+taken_knows : (home : ℕ → ℕ) (log : Log) (p : Places) (t : TryState) (waiting : Waiting) (taken : ℕ) → RequestKnows home log t.request t.seen → IsUpdate t.request → AnswerKnows home log t.request t.seen (told_of waiting) → TryKnows home log (taken_loaded p t waiting taken)
+unfolding taken_loaded
+taken_knows home log p t waiting taken request update knows = by_test (is_past_taken (bounds_at t.occasion) taken)
+  where
+    by_test : (b : Bool) → TryKnows home log (if b then ends_so p t answer.IndexFull else ends_so p t (told_of waiting))
+    by_test true = ends_so_knows home log p t answer.IndexFull request (update_free t.request t.has_shared t.has_exclusive update) tt
+    by_test false = ends_so_knows home log p t (told_of waiting) request (update_free t.request t.has_shared t.has_exclusive update) knows
 
 shared_knows : (home : ℕ → ℕ) (log : Log) (p : Places) (t : TryState) (ask : Ask LatchAnswer) → RequestKnows home log t.request t.seen → IsUpdate t.request → t.step ≡ TakesShared → TryKnows home log (shared_ledto p t ask)
 unfolding shared_ledto
@@ -217,6 +248,7 @@ row_leads home log p room t Walks reply orderly newest marks request free at row
   where
     kept : KeepsKey t.walk (walk_next p t.walk reply)
     kept = walk_keeps p t.walk reply
+row_leads home log p room t CountsTaken reply orderly newest marks request free at row says = count_knows home log p (record t { effect = None }) reply request row.0 row.1
 row_leads home log p room t (LoadsSafe addr version) reply orderly newest marks request free at row says = safe_knows home log p (record t { effect = None }) addr version reply request row.0 row.1 says
 row_leads home log p room t (SwapsValue addr) reply orderly newest marks request free at row says =
     ends_knows home log p (record t { effect = Some (reply_from None t.request.op) }) (answer.Done (reply_from None t.request.op)) request free tt
@@ -238,6 +270,8 @@ row_leads home log p room t LoadsOld reply orderly newest marks request free at 
     same = loads_same p t.walk row.1.addr reply row.1.its.loads
 row_leads home log p room t (Appends its) reply orderly newest marks request free at row says =
     append_knows home log p (record t { effect = None; append = append_next p room t.append reply }) its (append_ask p (append_next p room t.append reply)) request row.0 at (append_row home log p room t.request its t.append t.append.step reply row.1)
+row_leads home log p room t (LoadsTail waiting) reply orderly newest marks request free at row says = tail_knows home log p (record t { effect = None }) waiting reply request row.0 row.1
+row_leads home log p room t (LoadsTaken waiting) reply orderly newest marks request free at row says = taken_knows home log p (record t { effect = None }) waiting reply request row.0 row.1
 row_leads home log p room t (DropsExclusive its) reply orderly newest marks request free at row says = dropped_knows home log p (record t { effect = None; latching = latch_next t.latching reply }) its (latch_next_ask t.latching reply) request free at row.0 row.1
 row_leads home log p room t (DropsShared its) reply orderly newest marks request free at row says = unshared_knows home log (record t { effect = None; latching = latch_next t.latching reply }) its (latch_next_ask t.latching reply) request free at row.0 row.1
 

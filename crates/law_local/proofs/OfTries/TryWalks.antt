@@ -22,12 +22,12 @@ use Rattle.fkv_ops.specs.declared.requests.HeldRecord.{HeldRecord}
 use Rattle.fkv_ops.specs.declared.requests.Request.{Request}
 use Rattle.fkv_ops.specs.declared.requests.Seen.{Seen}
 use Rattle.fkv_ops.specs.declared.trying.OldValue.TheVariants.{InMemory, Known}
-use Rattle.fkv_ops.specs.declared.trying.Trying.TheVariants.{Walks, SwapsValue, LoadsCurrent, LoadsAnswer}
+use Rattle.fkv_ops.specs.declared.trying.Trying.TheVariants.{Walks, CountsTaken, SwapsValue, LoadsCurrent, LoadsAnswer}
 use Rattle.fkv_ops.specs.declared.walking.WalkAnswer.{WalkAnswer}
 use Rattle.fkv_ops.specs.declared.walking.WalkAnswer.TheVariants as walk
 use Rattle.fkv_ops.specs.Requests.{is_read, is_blind}
 use Rattle.fkv_ops.specs.Walking.{walk_ask, walk_on}
-use Rattle.fkv_ops.specs.Trying.{TryState, ends, is_marked, must_shift, copies, awaits, held_used, met_nowhere, met_disk, changes, region_met, met_record, walked, has_walked, walk_ledto, safe_loaded}
+use Rattle.fkv_ops.specs.Trying.{TryState, ends, must_count, is_marked, must_shift, copies, awaits, held_used, met_nowhere, met_disk, changes, region_met, met_record, walked, has_walked, walk_ledto, safe_loaded}
 use Rattle.law_local.specs.Tries.OnWay.{ComesBelow, FindsNone, IsFoundAt, IsOrderly}
 use Rattle.law_local.specs.Tries.WalkRows.{begin_of, WalkKnows, WalkTells}
 use Rattle.law_local.specs.Tries.HeldRows.{IsValueBelow, GoesOnBelow, HeldKnows}
@@ -118,9 +118,13 @@ nowhere_knows : (home : ℕ → ℕ) (log : Log) (p : Places) (t : TryState) →
     → TryKnows home log (met_nowhere p t)
 nowhere_knows home log p t orderly request free finds = by_read (is_read t.request.op) refl
   where
-    by_read : (b : Bool) → is_read t.request.op ≡ b → TryKnows home log (if b then ends p t answer.Absent else copies p t (Known absent_word) false)
+    by_count : (b : Bool) → is_read t.request.op ≡ false → TryKnows home log (if b then record t { step = CountsTaken } else copies p t (Known absent_word) false)
+    by_count true e = record { request = request; free = free; row = (e, none_old home log t.request (begin_of t.walk) orderly finds) }
+    by_count false e = copies_knows home log p t (Known absent_word) false request e (none_old home log t.request (begin_of t.walk) orderly finds)
+
+    by_read : (b : Bool) → is_read t.request.op ≡ b → TryKnows home log (if b then ends p t answer.Absent else if must_count p t then record t { step = CountsTaken } else copies p t (Known absent_word) false)
     by_read true e = ends_knows home log p t answer.Absent request free tt
-    by_read false e = copies_knows home log p t (Known absent_word) false request e (none_old home log t.request (begin_of t.walk) orderly finds)
+    by_read false e = by_count (must_count p t) e
 
 -- ---- a record in memory
 -- the version with which it is found is that of the record there
@@ -207,6 +211,7 @@ walked_knows home log p t (walk.OnDisk addr) orderly newest marks request free w
     (subst (λ (a : Addr). ComesBelow home log (key_in t.request) (begin_of t.walk) addr.0 a.0) walks.its_head (subst (λ (k : Key). ComesBelow home log k.0 (begin_of t.walk) addr.0 t.walk.head.0) walks.its_key tells))
 walked_knows home log p t (walk.Value value) orderly newest marks request free walks tells = ends_knows home log p t (answer.Wait reason.Contended) request free tt
 walked_knows home log p t walk.Full orderly newest marks request free walks tells = full_knows home log p t answer.IndexFull t.occasion request free tt
+walked_knows home log p t walk.Kept orderly newest marks request free walks tells = full_knows home log p t answer.IndexFull t.occasion request free tt
 walked_knows home log p t walk.Contended orderly newest marks request free walks tells = ends_knows home log p t (answer.Wait reason.Contended) request free tt
 
 -- a walk that has ended at a record has passed the test where the try goes on

@@ -40,6 +40,7 @@ slot_keeps : (p : Places) (w : WalkState) (its : Found) → KeepsKey w (slot_fou
 slot_keeps p w (found.Slot place word) = reached_keeps p w (record w { place = place; entry = word }) (entry_addr word) (record { key = refl; head = refl })
 slot_keeps p w found.NoSlot = record { key = refl; head = refl }
 slot_keeps p w found.Full = record { key = refl; head = refl }
+slot_keeps p w found.Kept = record { key = refl; head = refl }
 slot_keeps p w found.Contended = record { key = refl; head = refl }
 
 find_keeps : (p : Places) (w : WalkState) (ask : Ask FindAnswer) → KeepsKey w (find_ledto p w ask)

@@ -61,6 +61,7 @@ end_grows home m log log' w walk.Nowhere held grows knows = none_grows home m lo
 end_grows home m log log' w (walk.OnDisk addr) held grows knows = below_grows home m log log' w.key.0 (begin_of w) addr.0 w.head.0 held grows knows
 end_grows home m log log' w (walk.Value word) held grows knows = tt
 end_grows home m log log' w walk.Full held grows knows = tt
+end_grows home m log log' w walk.Kept held grows knows = tt
 end_grows home m log log' w walk.Contended held grows knows = tt
 
 walk_row_grows : (home : ℕ → ℕ) (m : Map) (log log' : Log) (w : WalkState) (step : Walking) → Held home m log → Grows home m log log' → WalkRow home log w step → WalkRow home log' w step
@@ -109,6 +110,7 @@ slot_knows : (home : ℕ → ℕ) (log : Log) (p : Places) (w : WalkState) (its 
 slot_knows home log p w (found.Slot place word) chains none leads = reached_knows home log p (record w { place = place; entry = word }) (entry_addr word) chains (from_start home log w.key.0 (entry_addr word) leads)
 slot_knows home log p w found.NoSlot chains none leads = subst (λ n. FindsNone home log w.key.0 (entry_addr n)) (sym none) (none_from_none home log w.key.0 chains)
 slot_knows home log p w found.Full chains none leads = tt
+slot_knows home log p w found.Kept chains none leads = tt
 slot_knows home log p w found.Contended chains none leads = tt
 
 find_knows : (home : ℕ → ℕ) (log : Log) (p : Places) (w : WalkState) (ask : Ask FindAnswer) → AreChains home log → w.step ≡ Finds → w.entry ≡ 0 → EndsAtHead (head_of (log.chains (home w.key.0))) ask → WalkKnows home log (find_ledto p w ask)

@@ -74,7 +74,7 @@ reserve_true : (log : Log) (p : Places) (seen : Seen) (words : List ℕ) (step :
 unfolding reserve_ask
 reserve_true log p seen words (reserving.TakesTail tail) show = show.tail
 reserve_true log p seen words reserving.AtRest show = tt
-reserve_true log p seen words reserving.LoadsLimit show = tt
+reserve_true log p seen words (reserving.LoadsLimit bound) show = tt
 reserve_true log p seen words (reserving.LoadsTail limit) show = tt
 
 append_true : (log : Log) (p : Places) (seen : Seen) (words : List ℕ) (a : AppendState) (step : Appending) → WordsShow log p seen words → IsTrueOfAppend log a.reserving step (reply_to words (appending_ask p a step))
@@ -95,6 +95,7 @@ row_true home log p words t try.LoadsPhase show row searches = tt
 row_true home log p words t try.Walks show row searches =
     subst (IsTrueOfWalk home log p t.walk t.walk.step) (sym (passed_reply words (walk_ask p t.walk) answer.Shift))
     (walking_true home log p t.request t.seen words t.walk t.walk.step show row.0 row.1 (subst (WalkSearches home log p t.walk t.walk.step) (passed_reply words (walk_ask p t.walk) answer.Shift) searches))
+row_true home log p words t try.CountsTaken show row searches = tt
 row_true home log p words t (try.LoadsSafe addr version) show row searches = show.fixed
 row_true home log p words t (try.SwapsValue addr) show row searches = show.value addr.0 (inr row.2.mutable)
 row_true home log p words t (try.LoadsCurrent addr) show row searches = tt
@@ -106,6 +107,8 @@ row_true home log p words t try.LoadsOld show row searches =
     subst (IsTrueOfWalk home log p t.walk t.walk.step) (sym (passed_reply words (walk_ask p t.walk) answer.Shift)) (found_true home log p t.request t.seen words t.walk row.1.addr show row.1.its)
 row_true home log p words t (try.Appends its) show row searches =
     subst (IsTrueOfAppend log t.append.reserving t.append.step) (sym (passed_reply words (append_ask p t.append) answer.Shift)) (append_true log p t.seen words t.append t.append.step show)
+row_true home log p words t (try.LoadsTail waiting) show row searches = tt
+row_true home log p words t (try.LoadsTaken waiting) show row searches = tt
 row_true home log p words t (try.DropsExclusive its) show row searches = tt
 row_true home log p words t (try.DropsShared its) show row searches = tt
 

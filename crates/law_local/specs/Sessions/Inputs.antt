@@ -7,7 +7,7 @@ use Rattle.fkv_ops.specs.declared.requests.Occasion.TheVariants.{Call as AtCall,
 use Rattle.fkv_ops.specs.declared.requests.Request.{Request}
 use Rattle.fkv_ops.specs.declared.requests.Seen.{Seen}
 use Rattle.fkv_ops.specs.declared.trying.Trying.{Trying}
-use Rattle.fkv_ops.specs.declared.trying.Trying.TheVariants.{Ended, TakesShared, LoadsPhase, DropsExclusive, DropsShared}
+use Rattle.fkv_ops.specs.declared.trying.Trying.TheVariants.{Ended, TakesShared, LoadsPhase, LoadsTail, LoadsTaken, DropsExclusive, DropsShared}
 use Rattle.fkv_ops.specs.Trying.{TryState}
 use Rattle.fkv_ops.specs.Walking.{WalkState}
 use Rattle.fkv_pending.specs.declared.attempting.Attempting.{Attempting}
@@ -19,12 +19,15 @@ use Rattle.fkv_session.specs.Polls.{IsSameRequest}
 use Rattle.fkv_session.specs.Sessions.{SessionState, Seat, bits_of, request_in_hand}
 use Rattle.fkv_session.specs.Versions.{IsAttemptOfRequest}
 use Rattle.law_local.specs.Tries.TryRows.{IsWalkFor}
+use Rattle.fkv_ops.specs.Bounds.{bounds_of}
 
 -- the walk of a try is for its request, from where it has begun up to the end
 abbrev pub WalksFor : Request → Seen → WalkState → Trying → Type 0
 WalksFor request seen w (Ended its) = ⊤
 WalksFor request seen w TakesShared = ⊤
 WalksFor request seen w LoadsPhase = ⊤
+WalksFor request seen w (LoadsTail waiting) = ⊤
+WalksFor request seen w (LoadsTaken waiting) = ⊤
 WalksFor request seen w (DropsExclusive its) = ⊤
 WalksFor request seen w (DropsShared its) = ⊤
 WalksFor request seen w step = IsWalkFor request seen w
@@ -50,7 +53,7 @@ pub record GoesBy (bits : ℕ) (seen : Seen) (occasion : Occasion) (a : AttemptS
 
 -- at a call it is of the operation in hand, as a request by the session's next name and of its version
 pub record IsAttemptAtCall (k : Seat) (s : SessionState) : Type 0 where
-  pub goes : GoesBy (bits_of k) s.seen AtCall s.attempt
+  pub goes : GoesBy (bits_of k) s.seen (AtCall (bounds_of k.shape)) s.attempt
   pub same : IsSameRequest (request_in_hand s) s.attempt.pending
 
 -- and in a poll of the request that waits at an index

@@ -18,6 +18,7 @@ use Rattle.fkv_session.specs.declared.sessions.Sitting.{Sitting}
 use Rattle.fkv_session.specs.declared.sessions.Sitting.TheVariants.{Attempts, CatchesUp, ClearsMail, Polls, StoresOwing}
 use Rattle.fkv_session.specs.CatchingUp.{CatchState, catch_ask, catch_next, catch_requests}
 use Rattle.fkv_session.specs.Sessions.{SessionState, Seat, bits_of, room_of, is_finished, refusal_of, request_in_hand}
+use Rattle.fkv_ops.specs.Bounds.{bounds_of}
 
 -- an attempt is under way
 abbrev pub is_attempting : Sitting → Bool
@@ -44,7 +45,7 @@ IsHandedOver k seen P Q = (pending : PendingRequest) (spare : ℕ) (is_orphaned 
 
 -- and of an attempt that a call begins it is known as well
 abbrev pub IsKnownAnew : Seat → PendingRequest → Seen → (AttemptState → Type 0) → Type 0
-IsKnownAnew k pending seen Q = (spare : ℕ) (is_orphaned : Bool) → Q (attempt_begun k.places (bits_of k) pending seen AtCall spare is_orphaned)
+IsKnownAnew k pending seen Q = (spare : ℕ) (is_orphaned : Bool) → Q (attempt_begun k.places (bits_of k) pending seen (AtCall (bounds_of k.shape)) spare is_orphaned)
 
 -- the answers with which a call's request is accepted and waits: a second shift is one of them
 abbrev pub is_accepted : Bool → TryAnswer → Bool

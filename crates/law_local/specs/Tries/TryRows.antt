@@ -21,7 +21,7 @@ use Rattle.fkv_ops.specs.declared.requests.Seen.{Seen}
 use Rattle.fkv_ops.specs.declared.trying.OldValue.{OldValue}
 use Rattle.fkv_ops.specs.declared.trying.OldValue.TheVariants.{InMemory, Known}
 use Rattle.fkv_ops.specs.declared.trying.Trying.{Trying}
-use Rattle.fkv_ops.specs.declared.trying.Trying.TheVariants.{Ended, TakesShared, LoadsPhase, Walks, LoadsSafe, SwapsValue, LoadsCurrent, ChangesValue, LoadsAnswer, TakesExclusive, LoadsOld, Appends, DropsExclusive, DropsShared}
+use Rattle.fkv_ops.specs.declared.trying.Trying.TheVariants.{Ended, TakesShared, LoadsPhase, Walks, CountsTaken, LoadsSafe, SwapsValue, LoadsCurrent, ChangesValue, LoadsAnswer, TakesExclusive, LoadsOld, Appends, LoadsTail, LoadsTaken, DropsExclusive, DropsShared}
 use Rattle.fkv_ops.specs.declared.walking.Walking.TheVariants.{HasFound}
 use Rattle.fkv_ops.specs.Requests.{is_read, is_blind}
 use Rattle.fkv_ops.specs.Values.{value_of}
@@ -33,6 +33,8 @@ use Rattle.fkv_plane.specs.declared.places.Places.{Places}
 use Rattle.law_local.specs.Tries.OnWay.{IsFoundAt}
 use Rattle.law_local.specs.Tries.WalkRows.{begin_of, FoundKnows, LoadsFrom, WalkKnows}
 use Rattle.law_local.specs.Tries.HeldRows.{HeldKnows, IsSoughtFrom}
+use Rattle.fkv_ops.specs.Waiting.{told_of}
+use Rattle.fkv_map.specs.Map.{absent_word}
 
 abbrev pub key_in : Request → ℕ
 key_in request = (key_of request.op).0
@@ -151,6 +153,7 @@ TryRow home log t (Ended its) = AnswerKnows home log t.request t.seen its
 TryRow home log t TakesShared = IsUpdate t.request
 TryRow home log t LoadsPhase = IsUpdate t.request
 TryRow home log t Walks = IsWalkFor t.request t.seen t.walk × WalkKnows home log t.walk
+TryRow home log t CountsTaken = IsUpdate t.request × OldKnows home log t.request t.seen t.walk (Known absent_word)
 TryRow home log t (LoadsSafe addr version) = IsUpdate t.request × StandsAt home log t.request t.seen t.walk addr version
 TryRow home log t (SwapsValue addr) = IsUpdate t.request × (is_blind t.request.op ≡ true) × MayChange home log t.request t.seen (begin_of t.walk) addr.0
 TryRow home log t (LoadsCurrent addr) = IsUpdate t.request × LoadsFrom t.walk addr × MayChange home log t.request t.seen (begin_of t.walk) addr.0
@@ -159,6 +162,8 @@ TryRow home log t LoadsAnswer = AnswersFrom home log t.request t.seen t.walk
 TryRow home log t (TakesExclusive old) = IsUpdate t.request × OldKnows home log t.request t.seen t.walk old
 TryRow home log t LoadsOld = IsUpdate t.request × LoadsStill home log t.request t.seen t.walk
 TryRow home log t (Appends its) = IsUpdate t.request × AppendKnows home log t.request its (cell_of t.request.version.0 t.append.its_words) t.append.step
+TryRow home log t (LoadsTail waiting) = IsUpdate t.request × AnswerKnows home log t.request t.seen (told_of waiting)
+TryRow home log t (LoadsTaken waiting) = IsUpdate t.request × AnswerKnows home log t.request t.seen (told_of waiting)
 TryRow home log t (DropsExclusive its) = IsUpdate t.request × AnswerKnows home log t.request t.seen its
 TryRow home log t (DropsShared its) = IsUpdate t.request × AnswerKnows home log t.request t.seen its
 

@@ -41,6 +41,7 @@ use Rattle.law_opening.proofs.OfChanges.OfSessions.Comes.{SessionComes, Stays, B
 use Rattle.law_opening.proofs.OfChanges.LifeLogs.{life_linked, life_stays}
 use Rattle.law_opening.proofs.OfChanges.Rows.{AttemptKnown, AttemptSo, TrySo, attempt_grows, made_previous}
 use Rattle.law_opening.proofs.OfChanges.Told.{headers_lead, session_told}
+use Rattle.law_refine.specs.Below.fkv_ops.Bounds.{bounds_of}
 
 -- nothing need be known of a request that waits: each try begins with an entry of the index
 abbrev pub NoneNeeded : PendingRequest → Type 0
@@ -131,7 +132,7 @@ module _ (opening : World) (start : ℕ) (lists : ℕ → List ℕ) (ghosts : Gh
           accepts = λ has_shifted its at comes accepted then. tt;
           keeps = λ index its at comes waits then. tt;
           hands_over = λ polling pending spare is_orphaned its. attempt_begins L' K.places (bits_of K) pending s.seen AtPoll spare is_orphaned;
-          begins_anew = λ its at done spare is_orphaned. attempt_begins L' K.places (bits_of K) (request_in_hand (caught_up_at K s (reply_to N.words (session_ask K s)))) (catch_after K s (reply_to N.words (session_ask K s))).seen AtCall spare is_orphaned;
+          begins_anew = λ its at done spare is_orphaned. attempt_begins L' K.places (bits_of K) (request_in_hand (caught_up_at K s (reply_to N.words (session_ask K s)))) (catch_after K s (reply_to N.words (session_ask K s))).seen (AtCall (bounds_of K.shape)) spare is_orphaned;
           latches = λ cause pending at its. tt;
         })
 
@@ -146,7 +147,7 @@ module _ (opening : World) (start : ℕ) (lists : ℕ → List ℕ) (ghosts : Gh
     comes (Begins its idle is) = subst (SessionKnown L') (sym is)
         (begun_known NoneNeeded (λ a. AttemptKnown L' a) K s its idle stays
         (record {
-          calls = λ op made none spare is_orphaned. attempt_begins L' K.places (bits_of K) (request_in_hand (with_op s op)) s.seen AtCall spare is_orphaned;
+          calls = λ op made none spare is_orphaned. attempt_begins L' K.places (bits_of K) (request_in_hand (with_op s op)) s.seen (AtCall (bounds_of K.shape)) spare is_orphaned;
           polls = λ made awake pending spare is_orphaned known_then. attempt_begins L' K.places (bits_of K) pending s.seen AtPoll spare is_orphaned;
         }))
     comes (Steps is) = moved is (is_calm s.step) refl

@@ -11,7 +11,7 @@ use Rattle.law_refine.specs.Below.fkv_flush.GuardLevels.{levels_of}
 use Rattle.law_refine.specs.Below.fkv_log.Loading.{load_ask}
 use Rattle.law_refine.specs.Below.fkv_log.TheLoading.{Loading}
 use Rattle.law_refine.specs.Below.fkv_log.TheLoading.TheVariants as load
-use Rattle.law_refine.specs.Below.fkv_ops.Requests.{purpose_of}
+use Rattle.law_refine.specs.Below.fkv_ops.Requests.{purpose_at}
 use Rattle.law_refine.specs.Below.fkv_ops.Trying.{TryState, try_ask, trying_ask}
 use Rattle.law_refine.specs.Below.fkv_ops.Walking.{walk_ask, walking_ask}
 use Rattle.law_refine.specs.Below.fkv_ops.TryAnswer.TheVariants as answer
@@ -81,7 +81,7 @@ module _ (log : Log) (p : Places) (seen : Seen) (words : List ℕ) (lead : Heade
 
   walk_told : (t : TryState) (step : Walking) → t.walk.head ≡ seen.offsets.head → reply ≡ reply_to words (walking_ask p t.walk step) → FindsBy p head reply (walk_work t step) → WalkTold log p t.walk step reply
   unfolding walking_ask
-  walk_told t Finds same e finds = find_so log head (find_next_ask p t.walk.finding reply) led (finds (record { finding = t.walk.finding; purpose = purpose_of t.request.op }) refl)
+  walk_told t Finds same e finds = find_so log head (find_next_ask p t.walk.finding reply) led (finds (record { finding = t.walk.finding; purpose = purpose_at t.occasion t.request.op }) refl)
   walk_told t (Meets addr) same e finds = subst (λ (h : Addr). LoadTold log h.0 t.walk.loading reply) (sym same) (load_told t.walk.loading (e ∙ passed_reply words (load_ask p t.walk.loading) walk.Contended))
   walk_told t step same e finds = tt
 

@@ -29,7 +29,7 @@ use Rattle.law_refine.specs.Below.fkv_log.ReserveAnswer.{ReserveAnswer}
 use Rattle.law_refine.specs.Below.fkv_log.ReserveAnswer.TheVariants as reserve
 use Rattle.law_refine.specs.Below.fkv_ops.Appending.{AppendState, addr_reserved, append_ask, append_ended, append_next, appending_next, fill_ledto, invalidate_ledto, publish_ledto, reserve_ledto}
 use Rattle.law_refine.specs.Below.fkv_ops.Requests.{is_blind, is_read}
-use Rattle.law_refine.specs.Below.fkv_ops.Trying.{TryState, answer_ledto, append_ledto, awaits, changes, copies, copies_from, current_ledto, ended_without, ends, appends, exclusive_dropped, exclusive_ledto, full_at, has_walked, held_used, is_own_version, is_wait, met_disk, met_nowhere, met_record, must_shift, new_try, old_ledto, region_met, safe_loaded, shared_dropped, shared_ledto, takes_effect, told_value, try_begun, try_next, trying_next, value_changed, walk_ledto, walked, walks, wants_exclusive, wants_shared, with_latch, is_next_marked, latch_shared, is_still_in, phase_loaded, is_surely_own}
+use Rattle.law_refine.specs.Below.fkv_ops.Trying.{TryState, answer_ledto, append_ledto, awaits, changes, copies, copies_from, current_ledto, ended_without, ends_so as ends_now, ends_by, is_bounded, tail_loaded, taken_loaded, must_count, count_loaded, ends, appends, exclusive_dropped, exclusive_ledto, full_at, has_walked, held_used, is_own_version, is_wait, met_disk, met_nowhere, met_record, must_shift, new_try, old_ledto, region_met, safe_loaded, shared_dropped, shared_ledto, takes_effect, told_value, try_begun, try_next, trying_next, value_changed, walk_ledto, walked, walks, wants_exclusive, wants_shared, with_latch, is_next_marked, latch_shared, is_still_in, phase_loaded, is_surely_own}
 use Rattle.law_refine.specs.Below.fkv_ops.Values.{value_of}
 use Rattle.law_refine.specs.Below.fkv_ops.Walking.{WalkState, walk_ask, walk_next, walk_on, walk_rested}
 use Rattle.law_refine.specs.Below.fkv_ops.Reason.TheVariants as reason
@@ -47,13 +47,16 @@ use Rattle.law_refine.specs.Below.fkv_ops.Seen.{Seen}
 use Rattle.law_refine.specs.Below.fkv_ops.OldValue.{OldValue}
 use Rattle.law_refine.specs.Below.fkv_ops.OldValue.TheVariants.{InMemory, Known}
 use Rattle.law_refine.specs.Below.fkv_ops.TheTrying.{Trying}
-use Rattle.law_refine.specs.Below.fkv_ops.TheTrying.TheVariants.{Ended, TakesShared, LoadsPhase, Walks, LoadsSafe, SwapsValue, LoadsCurrent, ChangesValue, LoadsAnswer, TakesExclusive, LoadsOld, Appends, DropsExclusive, DropsShared}
+use Rattle.law_refine.specs.Below.fkv_ops.TheTrying.TheVariants.{Ended, TakesShared, LoadsPhase, Walks, CountsTaken, LoadsSafe, SwapsValue, LoadsCurrent, ChangesValue, LoadsAnswer, TakesExclusive, LoadsOld, Appends, LoadsTail, LoadsTaken, DropsExclusive, DropsShared}
 use Rattle.law_refine.specs.Below.fkv_ops.WalkAnswer.{WalkAnswer}
 use Rattle.law_refine.specs.Below.fkv_ops.WalkAnswer.TheVariants as walk
 use Rattle.law_log.specs.Ghosts.{Log}
 use Rattle.law_opening.specs.Changes.Linked.{IsLed}
 use Rattle.law_opening.proofs.OfChanges.Rows.{IsAt, IsFound, IsPast, OldSo, TryKnown, TrySo, WalkSo, made_previous}
 use Rattle.law_opening.proofs.OfChanges.Walks.{AnswerSo, KeepsWay, WalkTold, past_next, past_on, walk_answers, walk_so}
+use Rattle.law_refine.specs.Below.fkv_ops.TheWaiting.{Waiting}
+use Rattle.law_refine.specs.Below.fkv_ops.Bounds.{bounds_at, is_past_tail, is_past_taken}
+use Rattle.law_refine.specs.Below.fkv_ops.Waiting.{told_of, waiting_of}
 
 abbrev pub TryTold : Log → Places → TryState → Trying → ℕ → Type 0
 TryTold log p t Walks reply = WalkTold log p t.walk t.walk.step reply
@@ -117,16 +120,45 @@ module _ (log : Log) (p : Places) where
       by_test true = (entry, tt)
       by_test false = (entry, tt)
 
-  ends_so : (t : TryState) (its : TryAnswer) → EntrySo t → TryKnown log (ends p t its)
-  unfolding ends
-  ends_so t its entry = by_test t.has_exclusive
+  ends_now_so : (t : TryState) (its : TryAnswer) → EntrySo t → TryKnown log (ends_now p t its)
+  unfolding ends_now
+  ends_now_so t its entry = by_test t.has_exclusive
     where
       by_test : (b : Bool) → TryKnown log (if b then with_latch p (record t { has_exclusive = false }) DropExclusive (DropsExclusive its) else ended_without p t its)
       by_test true = (entry, tt)
       by_test false = ended_so t its entry
 
+  ends_by_so : (t : TryState) (its : TryAnswer) (waiting : Option Waiting) → EntrySo t → TryKnown log (ends_by p t its waiting)
+  ends_by_so t its None entry = ends_now_so t its entry
+  ends_by_so t its (Some waiting) entry = by_test (is_bounded t)
+    where
+      by_test : (b : Bool) → TryKnown log (if b then record t { step = LoadsTail waiting } else ends_now p t its)
+      by_test true = (entry, tt)
+      by_test false = ends_now_so t its entry
+
+  ends_so : (t : TryState) (its : TryAnswer) → EntrySo t → TryKnown log (ends p t its)
+  unfolding ends
+  ends_so t its entry = ends_by_so t its (waiting_of its) entry
+
+  tail_so : (t : TryState) (waiting : Waiting) (tail : ℕ) → EntrySo t → TryKnown log (tail_loaded p t waiting tail)
+  unfolding tail_loaded
+  tail_so t waiting tail entry = by_tests (is_past_tail (bounds_at t.occasion) tail) (t.walk.entry == 0)
+    where
+      by_tests : (a b : Bool) → TryKnown log (if a then ends_now p t answer.LogFull else if b then record t { step = LoadsTaken waiting } else ends_now p t (told_of waiting))
+      by_tests true b = ends_now_so t answer.LogFull entry
+      by_tests false true = (entry, tt)
+      by_tests false false = ends_now_so t (told_of waiting) entry
+
+  taken_so : (t : TryState) (waiting : Waiting) (taken : ℕ) → EntrySo t → TryKnown log (taken_loaded p t waiting taken)
+  unfolding taken_loaded
+  taken_so t waiting taken entry = by_test (is_past_taken (bounds_at t.occasion) taken)
+    where
+      by_test : (b : Bool) → TryKnown log (if b then ends_now p t answer.IndexFull else ends_now p t (told_of waiting))
+      by_test true = ends_now_so t answer.IndexFull entry
+      by_test false = ends_now_so t (told_of waiting) entry
+
   full_so : (t : TryState) (refused : TryAnswer) (occasion : Occasion) → EntrySo t → TryKnown log (ends p t (full_at occasion refused))
-  full_so t refused Call entry = ends_so t refused entry
+  full_so t refused (Call bounds) entry = ends_so t refused entry
   full_so t refused Poll entry = ends_so t (answer.Wait reason.Full) entry
 
   -- ---- a new record leads to where the entry did
@@ -185,11 +217,20 @@ module _ (log : Log) (p : Places) where
       by_read false = by_blind (is_blind t.request.op)
 
   nowhere_so : (t : TryState) → EntrySo t → TryKnown log (met_nowhere p t)
-  nowhere_so t entry = by_read (is_read t.request.op)
+  nowhere_so t entry = by_tests (is_read t.request.op) (must_count p t)
     where
-      by_read : (b : Bool) → TryKnown log (if b then ends p t answer.Absent else copies p t (Known absent_word) false)
-      by_read true = ends_so t answer.Absent entry
-      by_read false = copies_so t (Known absent_word) false entry tt
+      by_tests : (a b : Bool) → TryKnown log (if a then ends p t answer.Absent else if b then record t { step = CountsTaken } else copies p t (Known absent_word) false)
+      by_tests true b = ends_so t answer.Absent entry
+      by_tests false true = (entry, tt)
+      by_tests false false = copies_so t (Known absent_word) false entry tt
+
+  count_so : (t : TryState) (taken : ℕ) → EntrySo t → TryKnown log (count_loaded p t taken)
+  unfolding count_loaded
+  count_so t taken entry = by_test (is_past_taken (bounds_at t.occasion) taken)
+    where
+      by_test : (b : Bool) → TryKnown log (if b then ends p t answer.IndexFull else copies p t (Known absent_word) false)
+      by_test true = ends_so t answer.IndexFull entry
+      by_test false = copies_so t (Known absent_word) false entry tt
 
   module _ (t : TryState) (addr : Addr) (entry : EntrySo t) (found : IsFound t.walk.step) (at : IsAt log t.walk.head.0 addr.0) where
     kept_on : KeepsWay t.walk (walk_on t.walk)
@@ -223,6 +264,7 @@ module _ (log : Log) (p : Places) where
   walked_so t (walk.OnDisk addr) entry so = disk_so t addr entry
   walked_so t (walk.Value value) entry so = ends_so t (answer.Wait reason.Contended) entry
   walked_so t walk.Full entry so = full_so t answer.IndexFull t.occasion entry
+  walked_so t walk.Kept entry so = full_so t answer.IndexFull t.occasion entry
   walked_so t walk.Contended entry so = ends_so t (answer.Wait reason.Contended) entry
 
   walk_led_so : (t : TryState) (ask : Ask WalkAnswer) → t.step ≡ Walks → EntrySo t → WalkSo log t.walk.head.0 t.walk.loading t.walk.step → walk_ask p t.walk ≡ ask → TryKnown log (walk_ledto p t ask)
@@ -322,6 +364,7 @@ module _ (log : Log) (p : Places) where
   row_so room t Walks reply at entry so told =
       let its = walk_so log p t.walk reply (entry, so) told in
       walk_led_so (record t { effect = None; walk = walk_next p t.walk reply }) (walk_ask p (walk_next p t.walk reply)) at its.0 its.1 refl
+  row_so room t CountsTaken reply at entry so told = count_so (record t { effect = None }) reply entry
   row_so room t (LoadsSafe addr version) reply at entry so told = safe_so (record t { effect = None }) addr version reply entry so
   row_so room t (SwapsValue addr) reply at entry so told = ends_so (record t { effect = Some (reply_from None t.request.op) }) (answer.Done (reply_from None t.request.op)) entry
   row_so room t (LoadsCurrent addr) reply at entry so told =
@@ -338,6 +381,8 @@ module _ (log : Log) (p : Places) where
   row_so room t (Appends its) reply at entry so told =
       append_so (record t { effect = None; append = append_next p room t.append reply }) its (append_ask p (append_next p room t.append reply)) at entry
       (subst (λ (words : RecordWords). IsLed log words.header.previous.0) (sym (append_same p room t.append t.append.step reply)) so)
+  row_so room t (LoadsTail waiting) reply at entry so told = tail_so (record t { effect = None }) waiting reply entry
+  row_so room t (LoadsTaken waiting) reply at entry so told = taken_so (record t { effect = None }) waiting reply entry
   row_so room t (DropsExclusive its) reply at entry so told = dropped_so (record t { effect = None; latching = latch_next t.latching reply }) its (latch_next_ask t.latching reply) at entry
   row_so room t (DropsShared its) reply at entry so told = unshared_so (record t { effect = None; latching = latch_next t.latching reply }) its (latch_next_ask t.latching reply) at entry
 

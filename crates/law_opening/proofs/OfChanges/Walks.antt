@@ -92,6 +92,7 @@ module _ (log : Log) (p : Places) where
   slot_so w (found.Slot place word) entry so = reached_so (record w { place = place; entry = word }) (entry_addr word) so so
   slot_so w found.NoSlot entry so = (entry, tt)
   slot_so w found.Full entry so = (entry, tt)
+  slot_so w found.Kept entry so = (entry, tt)
   slot_so w found.Contended entry so = (entry, tt)
 
   find_so : (w : WalkState) (ask : Ask FindAnswer) → w.step ≡ Finds → IsLed log (entry_addr w.entry) → FindSo log ask → WalkKnown log (find_ledto p w ask)

@@ -26,13 +26,13 @@ use Rattle.fkv_index.specs.Slots.{home_of, link_of}
 use Rattle.fkv_index.proofs.Shown.{IsBegun, IsReading, IsSound, sound_lost}
 use Rattle.fkv_index.specs.declared.finding.Purpose.TheVariants as slot
 use Rattle.fkv_map.specs.declared.operations.Op.{Op}
-use Rattle.fkv_map.specs.declared.operations.Op.TheVariants as operation
 use Rattle.fkv_map.specs.Keys.{key_of}
 use Rattle.law_commit.specs.Below.fkv_ops.Request.{Request}
+use Rattle.law_commit.specs.Below.fkv_ops.Occasion.{Occasion}
 use Rattle.law_commit.specs.Below.fkv_ops.Seen.{Seen}
 use Rattle.law_commit.specs.Below.fkv_ops.TheTrying.TheVariants.{LoadsPhase, Walks}
 use Rattle.law_commit.specs.Below.fkv_ops.TheWalking.TheVariants.{Finds}
-use Rattle.law_commit.specs.Below.fkv_ops.Requests.{is_read, purpose_of}
+use Rattle.law_commit.specs.Below.fkv_ops.Requests.{is_read, purpose_at}
 use Rattle.law_commit.specs.Below.fkv_ops.Trying.{TryState, is_moving_on, is_prepare, is_still_in, trying_ask}
 use Rattle.law_commit.specs.Below.fkv_pending.TheAttempting.TheVariants.{Tries}
 use Rattle.law_commit.specs.Below.fkv_pending.Attempting.{attempting_ask}
@@ -48,7 +48,7 @@ use Rattle.law_commit.specs.Below.fkv_world.Runs.{run}
 use Rattle.law_commit.specs.Below.fkv_world.World.{Event, Now, seat_at}
 use Rattle.law_commit.proofs.Below.fkv_world.Shown.{shape_stays}
 use Rattle.law_apart.specs.Apart.Rows.{AttemptApart, IsLater, SearchTells, TellsApart, TellsPhase, TellsSharer, TryApart, VersionsNear, has_linked, is_linking, is_lost}
-use Rattle.law_apart.proofs.OfApart.Links.{full_links}
+use Rattle.law_apart.proofs.OfApart.Links.{full_links, is_full}
 use Rattle.law_apart.proofs.OfApart.Tries.{marks_told, sharers_pass}
 use Rattle.law_opening.proofs.OfChanges.OfSessions.Attempting.{attempting_is}
 use Rattle.law_commit.specs.PhaseVersions.{phase_version, version_said}
@@ -118,9 +118,8 @@ reading_links f (find.LoadsTaken word) its = absurd its.loads
 reading_links f (find.TakesBucket word taken) its = absurd its.loads
 reading_links f (find.LinksBucket word) its = absurd its.loads
 
-read_purpose : (op : Op) → is_read op ≡ true → purpose_of op ≡ slot.Read
-read_purpose (operation.Read key) reads = refl
-read_purpose op reads = cc
+read_purpose : (occasion : Occasion) (op : Op) → is_read op ≡ true → purpose_at occasion op ≡ slot.Read
+read_purpose occasion op reads = rw reads refl
 
 attempt_share : (s : SessionState) (step : Sitting) → is_attempting step ≡ true → SharesInHand s step → SharesAttempting s.seen s.attempt s.attempt.step
 attempt_share s (Attempts has_shifted) attempts so = so
@@ -128,7 +127,7 @@ attempt_share s (Polls index) attempts so = so
 attempt_share s step attempts so = cc
 
 sitting_work : (s : SessionState) (step : Sitting) → is_attempting step ≡ true → s.attempt.step ≡ Tries → s.attempt.trial.step ≡ Walks → s.attempt.trial.walk.step ≡ Finds
-    → (finders.sitting_part s step).work ≡ Searches (record { finding = s.attempt.trial.walk.finding; purpose = purpose_of s.attempt.trial.request.op })
+    → (finders.sitting_part s step).work ≡ Searches (record { finding = s.attempt.trial.walk.finding; purpose = purpose_at s.attempt.trial.occasion s.attempt.trial.request.op })
 sitting_work s (Attempts has_shifted) attempts tries walks finds = rw (tries, walks, finds) refl
 sitting_work s (Polls index) attempts tries walks finds = rw (tries, walks, finds) refl
 sitting_work s step attempts tries walks finds = cc
@@ -298,7 +297,7 @@ module _ (given : Given) (life : BegunLife) (apart : OpensApart life) (before : 
     search walks finds = record { lost = lost; empty = empty }
       where
         its : Search
-        its = record { finding = t.walk.finding; purpose = purpose_of t.request.op }
+        its = record { finding = t.walk.finding; purpose = purpose_at t.occasion t.request.op }
 
         searches : (session_part s).work ≡ Searches its
         searches = sitting_work s s.step attempts tries walks finds
@@ -327,7 +326,8 @@ module _ (given : Given) (life : BegunLife) (apart : OpensApart life) (before : 
             by_found : (its_found : Found) → told.found ≡ its_found → is_lost its_found ≡ true → is_linking t.walk.finding ≡ true
             by_found (found.Slot place word) is so = cc
             by_found found.NoSlot is so = cc
-            by_found found.Full is so = full_links N.places t.walk.finding (reply_in N session s) told e is
+            by_found found.Full is so = full_links N.places t.walk.finding (reply_in N session s) told e (ap is_full is)
+            by_found found.Kept is so = full_links N.places t.walk.finding (reply_in N session s) told e (ap is_full is)
             by_found found.Contended is so = contended is
 
         empty : t.walk.finding.step ≡ find.LoadsLink → link_of (reply_in N session s) ≡ 0 → head_of (L.chains (H (key_in t.request))) ≡ 0
@@ -341,12 +341,12 @@ module _ (given : Given) (life : BegunLife) (apart : OpensApart life) (before : 
     -- that of a read links nothing
     pub links_none : t.step ≡ Walks → t.walk.step ≡ Finds → is_read t.request.op ≡ true → is_linking t.walk.finding ≡ false
     links_none walks finds reads =
-        let its : Search = record { finding = t.walk.finding; purpose = purpose_of t.request.op } in
+        let its : Search = record { finding = t.walk.finding; purpose = purpose_at t.occasion t.request.op } in
         let searches : (session_part s).work ≡ Searches its = sitting_work s s.step attempts tries walks finds in
         let actor = (shows_then life.opening life.start life.lists life.ghosts before has_heads).actors session s is_there in
         let work : IsWork (Searches its) actor.actor = subst (λ (x : SessionWork). IsWork x actor.actor) searches actor.its.work in
         let begun : IsBegun actor.actor = (life_sound life.opening life.lists before life.begins.index).begun session actor.actor actor.got in
-        reading_links t.walk.finding t.walk.finding.step (subst IsReading work.1 (begun.its_reading (work.2 ∙ read_purpose t.request.op reads)))
+        reading_links t.walk.finding t.walk.finding.step (subst IsReading work.1 (begun.its_reading (work.2 ∙ read_purpose t.occasion t.request.op reads)))
 
     pub tells : TellsSharer H L N.places t (reply_in N session s)
     tells walks has prepares = by_op (is_read t.request.op) refl

@@ -23,6 +23,7 @@ use Rattle.law_commit.specs.Below.fkv_ops.TryAnswer.{TryAnswer}
 use Rattle.law_commit.specs.Below.fkv_ops.TryAnswer.TheVariants as tried
 use Rattle.law_commit.specs.Below.fkv_ops.Occasion.{Occasion}
 use Rattle.law_commit.specs.Below.fkv_ops.Occasion.TheVariants.{Call as AtCall, Poll as AtPoll}
+use Rattle.law_commit.specs.Below.fkv_ops.Bounds.{bounds_of}
 use Rattle.law_commit.specs.Below.fkv_ops.Requests.{is_read}
 use Rattle.law_commit.specs.Below.fkv_pending.TheAttempting.{Attempting}
 use Rattle.law_commit.specs.Below.fkv_pending.TheAttempting.TheVariants as attempting
@@ -76,7 +77,7 @@ module _ (k : Seat) (buckets : HasItsBuckets k) where
     pub rests : AttemptRestsOrAsks a
 
   abbrev pub SitsAsking : Option Addr → Option MailTask → SessionState → Sitting → Type 0
-  SitsAsking asked task s (Attempts has_shifted) = IsAttempt asked task s.requests AtCall s.attempt
+  SitsAsking asked task s (Attempts has_shifted) = IsAttempt asked task s.requests (AtCall (bounds_of k.shape)) s.attempt
   SitsAsking asked task s (Polls index) = IsAttempt asked task (remove s.requests index) AtPoll s.attempt
   SitsAsking asked task s ClearsMail = Await asked s.requests s.is_orphaned × (s.is_orphaned ≡ true) × IsAt task Clear s.mailing
   SitsAsking asked task s step = Await asked s.requests s.is_orphaned
@@ -108,8 +109,8 @@ module _ (k : Seat) (buckets : HasItsBuckets k) where
         let few : askers s.requests + asker s.is_orphaned ≤ asked_count asked = waits.few in
         record {
           all = waits.all;
-          asks = begun_asks k.places (bits_of k) (room_of k) buckets asked task (askers s.requests) AtCall (request_in_hand s) s.seen s.spare s.is_orphaned (none_asked asked (request_in_hand s) refl) (omega (arith, few));
-          rests = attempt_begun_rests k.places (bits_of k) (request_in_hand s) s.seen AtCall s.spare s.is_orphaned;
+          asks = begun_asks k.places (bits_of k) (room_of k) buckets asked task (askers s.requests) (AtCall (bounds_of k.shape)) (request_in_hand s) s.seen s.spare s.is_orphaned (none_asked asked (request_in_hand s) refl) (omega (arith, few));
+          rests = attempt_begun_rests k.places (bits_of k) (request_in_hand s) s.seen (AtCall (bounds_of k.shape)) s.spare s.is_orphaned;
         }
 
     polls_found : (s : SessionState) (index : ℕ) (found : Option PendingRequest) → slice_get s.requests index ≡ found → Waits s → Asks (polls_request k s index found)
@@ -162,7 +163,7 @@ module _ (k : Seat) (buckets : HasItsBuckets k) where
     shifts_asks s false all sought few = record { all = all; few = omega (arith, few) }
     shifts_asks s true all sought few = accepts_asks s reason.Contended all sought few
 
-    attempted_asks : (s : SessionState) (has_shifted : Bool) (its : TryAnswer) → HasEnded s.requests AtCall s.attempt its → Asks (attempted (attempt_left s) has_shifted its)
+    attempted_asks : (s : SessionState) (has_shifted : Bool) (its : TryAnswer) → HasEnded s.requests (AtCall (bounds_of k.shape)) s.attempt its → Asks (attempted (attempt_left s) has_shifted its)
     attempted_asks s has_shifted (tried.Done reply) is =
         let waits : Await asked s.requests s.attempt.is_orphaned = dropped s.requests s.attempt.is_orphaned is.all is.few in
         either_asks (is_read s.op) (answers (attempt_left s) told.Absent) (update_done (attempt_left s) reply) waits waits
@@ -174,9 +175,9 @@ module _ (k : Seat) (buckets : HasItsBuckets k) where
     attempted_asks s has_shifted tried.IndexFull is = dropped s.requests s.attempt.is_orphaned is.all is.few
     attempted_asks s has_shifted tried.LogFull is = dropped s.requests s.attempt.is_orphaned is.all is.few
 
-    called_asks : (s : SessionState) (has_shifted : Bool) (ask : Ask TryAnswer) → s.step ≡ Attempts has_shifted → IsAttempt asked task s.requests AtCall s.attempt → attempt_ask k.places k.number s.attempt ≡ ask → Asks (attempt_ledto s has_shifted ask)
+    called_asks : (s : SessionState) (has_shifted : Bool) (ask : Ask TryAnswer) → s.step ≡ Attempts has_shifted → IsAttempt asked task s.requests (AtCall (bounds_of k.shape)) s.attempt → attempt_ask k.places k.number s.attempt ≡ ask → Asks (attempt_ledto s has_shifted ask)
     unfolding attempt_ledto
-    called_asks s has_shifted (Done its) at is e = attempted_asks s has_shifted its (ended s.requests AtCall s.attempt its is e)
+    called_asks s has_shifted (Done its) at is e = attempted_asks s has_shifted its (ended s.requests (AtCall (bounds_of k.shape)) s.attempt its is e)
     called_asks s has_shifted ask at is e = still s (Attempts has_shifted) at is
 
     finishes_asks : (s : SessionState) (index : ℕ) (its : TryAnswer) → Await asked (remove s.requests index) s.is_orphaned → Asks (finishes_request k s index its)
@@ -194,9 +195,6 @@ module _ (k : Seat) (buckets : HasItsBuckets k) where
         let set : askers (slice_set s.requests index s.attempt.pending) ≤ askers (remove s.requests index) + asker s.attempt.pending.has_asked = askers_set s.requests index s.attempt.pending in
         keeps_asks s index its (record { all = all_set asked s.requests index s.attempt.pending all sought; few = omega (arith, set, few) })
 
-    no_call : {A : Type 0} → AtPoll ≡ AtCall → A
-    no_call e = cc
-
     polled_asks : (s : SessionState) (index : ℕ) (its : TryAnswer) → HasEnded (remove s.requests index) AtPoll s.attempt its → Asks (poll_ledto k s index (Done its))
     unfolding poll_ledto
     polled_asks s index (tried.Done reply) is = finishes_asks (attempt_left s) index (tried.Done reply) (dropped (remove s.requests index) s.attempt.is_orphaned is.all is.few)
@@ -205,8 +203,8 @@ module _ (k : Seat) (buckets : HasItsBuckets k) where
     polled_asks s index (tried.Wait why) is = kept_asks (attempt_left s) index (tried.Wait why) is.all is.sought is.few
     polled_asks s index (tried.AwaitsDisk sought) is = absurd is.ends
     polled_asks s index tried.Shift is = kept_asks (attempt_left s) index tried.Shift is.all is.sought is.few
-    polled_asks s index tried.IndexFull is = no_call is.ends
-    polled_asks s index tried.LogFull is = no_call is.ends
+    polled_asks s index tried.IndexFull is = absurd is.ends
+    polled_asks s index tried.LogFull is = absurd is.ends
 
     poll_asks : (s : SessionState) (index : ℕ) (ask : Ask TryAnswer) → s.step ≡ Polls index → IsAttempt asked task (remove s.requests index) AtPoll s.attempt → attempt_ask k.places k.number s.attempt ≡ ask → Asks (poll_ledto k s index ask)
     unfolding poll_ledto
@@ -338,7 +336,7 @@ module _ (k : Seat) (buckets : HasItsBuckets k) where
     unfolding sitting_next
     row_asks s asks (Idle its) reply at waits tells = still asked' task (record s { asks = asks; effect = None }) (Idle its) at (then_await s.requests s.is_orphaned tells waits)
     row_asks s asks (Attempts has_shifted) reply at is tells =
-        called_asks asked' task (attempt_moved k (record s { asks = asks; effect = None }) reply) has_shifted _ at (moved_attempt s.requests AtCall s.attempt reply is tells) refl
+        called_asks asked' task (attempt_moved k (record s { asks = asks; effect = None }) reply) has_shifted _ at (moved_attempt s.requests (AtCall (bounds_of k.shape)) s.attempt reply is tells) refl
     row_asks s asks (CatchesUp cause) reply at waits tells =
         catch_asks asked' task (caught k (record s { asks = asks; effect = None }) reply) cause _ at (caught_await asked' task s.catching s.requests s.is_orphaned s.catching.step reply (then_await s.requests s.is_orphaned tells waits))
     row_asks s asks ClearsMail reply at sits tells =

@@ -8,7 +8,7 @@ use Rattle.fkv_plane.specs.Passing.{passed}
 use Rattle.law_commit.specs.Below.fkv_ops.TryAnswer.{TryAnswer}
 use Rattle.law_commit.specs.Below.fkv_ops.TryAnswer.TheVariants as answer
 use Rattle.law_commit.specs.Below.fkv_ops.Occasion.{Occasion}
-use Rattle.law_commit.specs.Below.fkv_ops.Occasion.TheVariants.{Call}
+use Rattle.law_commit.specs.Below.fkv_ops.Bounds.{IsCall}
 use Rattle.law_commit.specs.Below.fkv_ops.Request.{Request}
 use Rattle.law_commit.specs.Below.fkv_ops.Seen.{Seen}
 use Rattle.law_commit.specs.Below.fkv_ops.EachAsk.{AskIsSo}
@@ -38,8 +38,8 @@ ask_slot c told ask reply effect so = refl
 
 -- how it may end
 abbrev pub TryEndsSo : Occasion → TryAnswer → Type 0
-TryEndsSo occasion answer.IndexFull = occasion ≡ Call
-TryEndsSo occasion answer.LogFull = occasion ≡ Call
+TryEndsSo occasion answer.IndexFull = IsCall occasion
+TryEndsSo occasion answer.LogFull = IsCall occasion
 TryEndsSo occasion its = ⊤
 
 true_ends : (c : Trial) (told : Told) (its : TryAnswer) → IsTrue c told its → TryEndsSo c.occasion its

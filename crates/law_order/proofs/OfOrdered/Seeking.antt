@@ -6,6 +6,7 @@ use Rattle.law_commit.specs.Below.fkv_ops.TryAnswer.{TryAnswer}
 use Rattle.law_commit.specs.Below.fkv_ops.TryAnswer.TheVariants as answer
 use Rattle.law_commit.specs.Below.fkv_ops.Occasion.{Occasion}
 use Rattle.law_commit.specs.Below.fkv_ops.Occasion.TheVariants.{Call as AtCall, Poll as AtPoll}
+use Rattle.law_commit.specs.Below.fkv_ops.Bounds.{bounds_of}
 use Rattle.law_commit.specs.Below.fkv_ops.Seen.{Seen}
 use Rattle.law_commit.specs.Below.fkv_pending.TheAttempting.TheVariants.{Tries}
 use Rattle.law_commit.specs.Below.fkv_pending.PendingRequest.{PendingRequest}
@@ -75,7 +76,7 @@ next_so k s reply met all =
       accepts = λ has_shifted its at comes accepted after. accepted_one (attempt_after k s reply).pending has_shifted its accepted (comes_one k (attempt_after k s reply) its comes after);
       keeps = λ index its at comes waits after. kept_one (attempt_after k s reply).pending its waits (comes_one k (attempt_after k s reply) its comes after);
       hands_over = λ polling pending spare is_orphaned seeks. begun_so k pending s.seen AtPoll spare is_orphaned (λ read asked. seeks read) (λ poll. seeks);
-      begins_anew = λ its at done spare is_orphaned. begun_so k (request_in_hand (caught_up_at k s reply)) (catch_after k s reply).seen AtCall spare is_orphaned (anew_seeks (caught_up_at k s reply)) (λ poll. cc);
+      begins_anew = λ its at done spare is_orphaned. begun_so k (request_in_hand (caught_up_at k s reply)) (catch_after k s reply).seen (AtCall (bounds_of k.shape)) spare is_orphaned (anew_seeks (caught_up_at k s reply)) (λ poll. cc);
       latches = λ cause pending at its. latch_one pending its;
     })
 
@@ -83,7 +84,7 @@ call_so : (k : Seat) (s : SessionState) (its : Call) → is_busy s.step ≡ fals
 call_so k s its idle all =
     begun_known SeeksOne WaitsSo k s its idle all
     (record {
-      calls = λ op is none spare is_orphaned. begun_so k (request_in_hand (with_op s op)) s.seen AtCall spare is_orphaned (anew_seeks (with_op s op)) (λ poll. cc);
+      calls = λ op is none spare is_orphaned. begun_so k (request_in_hand (with_op s op)) s.seen (AtCall (bounds_of k.shape)) spare is_orphaned (anew_seeks (with_op s op)) (λ poll. cc);
       polls = λ is awake pending spare is_orphaned seeks. begun_so k pending s.seen AtPoll spare is_orphaned (λ read asked. seeks read) (λ poll. seeks);
     })
 

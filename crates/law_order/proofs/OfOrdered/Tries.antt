@@ -167,6 +167,7 @@ module _ (home : ℕ → ℕ) (log : Log) (p : Places) (orderly : IsOrderly home
       at_head [] a e some = absurd (omega (arith, e, some))
   slot_tells w found.NoSlot in_ring leads lost = ended w walk.Nowhere tt
   slot_tells w found.Full in_ring leads lost = absurd (lost refl)
+  slot_tells w found.Kept in_ring leads lost = absurd (lost refl)
   slot_tells w found.Contended in_ring leads lost = absurd (lost refl)
 
   find_tells : (w : WalkState) (ask : Ask FindAnswer) → w.step ≡ Finds → InRing w → EndsAtHead (head_of (log.chains (home w.key.0))) ask → ((its : FindAnswer) → ask ≡ Done its → is_lost its.found ≡ true → ⊥)
@@ -230,8 +231,8 @@ at_end : (t : TryState) (its : TryAnswer) → IsMet its → EndsMet (record t { 
 at_end t its met = λ told e. subst IsMet (the_end its told e) met
 
 module _ (p : Places) where
-  end_met : (t : TryState) (its : TryAnswer) → t.has_shared ≡ false → t.has_exclusive ≡ false → IsMet its → EndsMet (ends p t its)
-  end_met t its shared alone met = subst EndsMet (sym (ends_free p t its shared alone)) (at_end t its met)
+  end_met : (t : TryState) (its : TryAnswer) → is_read t.request.op ≡ true → t.has_shared ≡ false → t.has_exclusive ≡ false → IsMet its → EndsMet (ends p t its)
+  end_met t its reads shared alone met = subst EndsMet (sym (ends_free p t its reads shared alone)) (at_end t its met)
 
   either_met : (b : Bool) (one other : TryState) → b ≡ true → EndsMet one → EndsMet (if b then one else other)
   either_met true one other e met = met
@@ -239,8 +240,8 @@ module _ (p : Places) where
 
   walked_met : (t : TryState) (its : WalkAnswer) → is_read t.request.op ≡ true → t.has_shared ≡ false → t.has_exclusive ≡ false → IsWalkMet its → EndsMet (walked p t its)
   walked_met t (walk.Found addr version) reads shared alone met = either_met (is_read t.request.op) _ _ reads (λ its e. cc)
-  walked_met t walk.Nowhere reads shared alone met = either_met (is_read t.request.op) _ _ reads (end_met t answer.Absent shared alone tt)
-  walked_met t (walk.OnDisk addr) reads shared alone met = either_met (is_read t.request.op) _ _ reads (end_met t (answer.AwaitsDisk (record { entry = t.walk.entry; addr = addr })) shared alone tt)
+  walked_met t walk.Nowhere reads shared alone met = either_met (is_read t.request.op) _ _ reads (end_met t answer.Absent reads shared alone tt)
+  walked_met t (walk.OnDisk addr) reads shared alone met = either_met (is_read t.request.op) _ _ reads (end_met t (answer.AwaitsDisk (record { entry = t.walk.entry; addr = addr })) reads shared alone tt)
   walked_met t its reads shared alone met = absurd met
 
   -- a read doesn't shift
@@ -259,13 +260,13 @@ module _ (p : Places) where
       by_shift false e = walked_met (record t { spare = t.walk.spare }) its reads shared alone (met its refl)
   led_met t ask at reads shared alone met = λ its e. (let over : try.Walks ≡ try.Ended its = sym at ∙ e in cc)
 
-  told_met : (t : TryState) (its : Option ℕ) → t.has_shared ≡ false → t.has_exclusive ≡ false → EndsMet (ends p t (told_value its))
-  told_met t None shared alone = end_met t answer.Absent shared alone tt
-  told_met t (Some value) shared alone = end_met t (answer.Found (record { 0 = value })) shared alone tt
+  told_met : (t : TryState) (its : Option ℕ) → is_read t.request.op ≡ true → t.has_shared ≡ false → t.has_exclusive ≡ false → EndsMet (ends p t (told_value its))
+  told_met t None reads shared alone = end_met t answer.Absent reads shared alone tt
+  told_met t (Some value) reads shared alone = end_met t (answer.Found (record { 0 = value })) reads shared alone tt
 
-  answer_met : (t : TryState) (value : ℕ) → t.has_shared ≡ false → t.has_exclusive ≡ false → EndsMet (answer_ledto p t (Done (walk.Value value)))
+  answer_met : (t : TryState) (value : ℕ) → is_read t.request.op ≡ true → t.has_shared ≡ false → t.has_exclusive ≡ false → EndsMet (answer_ledto p t (Done (walk.Value value)))
   unfolding answer_ledto
-  answer_met t value shared alone = told_met t (value_of value) shared alone
+  answer_met t value reads shared alone = told_met t (value_of value) reads shared alone
 
   -- what its walk is told, while it walks
   pub record WalksOn (home : ℕ → ℕ) (log : Log) (t : TryState) (reply : ℕ) : Type 0 where
@@ -283,9 +284,10 @@ module _ (p : Places) where
       (walk_tells home log p orderly t.walk reply so.in_ring row.1 says so.none (sym (passed_done (walk_ask p t.walk) answer.Shift) ∙ going) so.found)
   row_met home log room t try.LoadsAnswer reply orderly at reads shared alone row says going walks =
       subst (λ ask. EndsMet (answer_ledto p (record t { effect = None; walk = walk_next p t.walk reply }) ask)) (sym (loads_value p t.walk row.addr reply row.its.loads))
-      (answer_met (record t { effect = None; walk = walk_next p t.walk reply }) reply shared alone)
+      (answer_met (record t { effect = None; walk = walk_next p t.walk reply }) reply reads shared alone)
   row_met home log room t try.TakesShared reply orderly at reads shared alone row says going walks = not_both (is_read t.request.op) reads row
   row_met home log room t try.LoadsPhase reply orderly at reads shared alone row says going walks = not_both (is_read t.request.op) reads row
+  row_met home log room t try.CountsTaken reply orderly at reads shared alone row says going walks = not_both (is_read t.request.op) reads row.0
   row_met home log room t (try.LoadsSafe addr version) reply orderly at reads shared alone row says going walks = not_both (is_read t.request.op) reads row.0
   row_met home log room t (try.SwapsValue addr) reply orderly at reads shared alone row says going walks = not_both (is_read t.request.op) reads row.0
   row_met home log room t (try.LoadsCurrent addr) reply orderly at reads shared alone row says going walks = not_both (is_read t.request.op) reads row.0
@@ -293,6 +295,8 @@ module _ (p : Places) where
   row_met home log room t (try.TakesExclusive old) reply orderly at reads shared alone row says going walks = not_both (is_read t.request.op) reads row.0
   row_met home log room t try.LoadsOld reply orderly at reads shared alone row says going walks = not_both (is_read t.request.op) reads row.0
   row_met home log room t (try.Appends its) reply orderly at reads shared alone row says going walks = not_both (is_read t.request.op) reads row.0
+  row_met home log room t (try.LoadsTail waiting) reply orderly at reads shared alone row says going walks = not_both (is_read t.request.op) reads row.0
+  row_met home log room t (try.LoadsTaken waiting) reply orderly at reads shared alone row says going walks = not_both (is_read t.request.op) reads row.0
   row_met home log room t (try.DropsExclusive its) reply orderly at reads shared alone row says going walks = not_both (is_read t.request.op) reads row.0
   row_met home log room t (try.DropsShared its) reply orderly at reads shared alone row says going walks = not_both (is_read t.request.op) reads row.0
 

@@ -26,6 +26,7 @@ use Rattle.law_commit.specs.Below.fkv_ops.TryAnswer.{TryAnswer}
 use Rattle.law_commit.specs.Below.fkv_ops.TryAnswer.TheVariants as tried
 use Rattle.law_commit.specs.Below.fkv_ops.Occasion.{Occasion}
 use Rattle.law_commit.specs.Below.fkv_ops.Occasion.TheVariants.{Call as AtCall, Poll as AtPoll}
+use Rattle.law_commit.specs.Below.fkv_ops.Bounds.{bounds_of}
 use Rattle.law_commit.specs.Below.fkv_ops.Seen.{Seen}
 use Rattle.law_commit.specs.Below.fkv_ops.Requests.{is_read}
 use Rattle.law_commit.specs.Below.fkv_pending.MailAnswer.{MailAnswer}
@@ -109,7 +110,7 @@ begun_tried r k pending seen occasion spare is_orphaned its =
 
 attempts_come : (r : SessionReadings) (k : Seat) (s : SessionState) (has_shifted : Bool) → AllWait r s.requests → (is_read s.op ≡ true → IsCalledFor r.in_hand (key_of s.op).0) → Comes r (attempts k s has_shifted)
 unfolding attempts
-attempts_come r k s has_shifted all called = (all, begun_tried r k (request_in_hand s) s.seen AtCall s.spare s.is_orphaned (λ read. (λ e. never e, λ e. refl, called read)))
+attempts_come r k s has_shifted all called = (all, begun_tried r k (request_in_hand s) s.seen (AtCall (bounds_of k.shape)) s.spare s.is_orphaned (λ read. (λ e. never e, λ e. refl, called read)))
   where
     never : {X : Type 0} → false ≡ true → X
     never e = cc

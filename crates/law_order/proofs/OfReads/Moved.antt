@@ -13,6 +13,7 @@ use Rattle.law_commit.specs.Below.fkv_ops.TryAnswer.{TryAnswer}
 use Rattle.law_commit.specs.Below.fkv_ops.TryAnswer.TheVariants as tried
 use Rattle.law_commit.specs.Below.fkv_ops.Occasion.{Occasion}
 use Rattle.law_commit.specs.Below.fkv_ops.Occasion.TheVariants.{Call as AtCall, Poll as AtPoll}
+use Rattle.law_commit.specs.Below.fkv_ops.Bounds.{bounds_of}
 use Rattle.law_commit.specs.Below.fkv_ops.Requests.{is_read}
 use Rattle.law_commit.specs.Below.fkv_pending.TheAttempting.TheVariants.{Ended}
 use Rattle.law_commit.specs.Below.fkv_pending.PendingRequest.{PendingRequest}
@@ -146,7 +147,7 @@ pub call_moves : (home : ℕ → ℕ) (g : Ghosts) (k : Seat) (trace : List Trac
     → SitsReads (readings_of g.reads trace k.number) s (Attempts has_shifted) → MovedSo (readings_of (hand_ghosts home g k trace s.attempt reply).reads trace k.number) k s (Attempts has_shifted) reply
 call_moves home g k trace s has_shifted reply facts at named numbered so =
     let r : SessionReadings = readings_of (hand_ghosts home g k trace s.attempt reply).reads trace k.number in
-    let goes = attempt_goes (bits_of k) s.seen AtCall k.places (room_of k) k.number s.attempt reply at.goes in (
+    let goes = attempt_goes (bits_of k) s.seen (AtCall (bounds_of k.shape)) k.places (room_of k) k.number s.attempt reply at.goes in (
       λ index pending got. waits_still home g (attempt_ghosts k (read_in_hand k.number trace) s.attempt reply) trace k.number (IsItsRead s.attempt.pending.request.op (read_in_hand k.number trace)) pending (attempt_touch k (read_in_hand k.number trace) s.attempt reply)
           (λ read given such. let low = numbered.later refl (ticket_of pending.name) given in let same = such.1 in omega (arith, low, same)) (so.0 index pending got),
       subst (λ (o : Occasion). TriedAs r (attempt_after k s reply).pending (is_poll o) (attempt_after k s reply)) (sym goes.its_occasion) (call_tried home g k trace s reply facts at so.1),

@@ -12,6 +12,8 @@ use Rattle.law_commit.specs.Below.fkv_ops.DiskRecord.{DiskRecord}
 use Rattle.law_commit.specs.Below.fkv_ops.Reason.TheVariants as reason
 use Rattle.law_commit.specs.Below.fkv_ops.TryAnswer.{TryAnswer}
 use Rattle.law_commit.specs.Below.fkv_ops.TryAnswer.TheVariants as answer
+use Rattle.law_commit.specs.Below.fkv_ops.TheWaiting.{Waiting}
+use Rattle.law_commit.specs.Below.fkv_ops.Waiting.{waiting_of}
 use Rattle.law_commit.specs.Below.fkv_ops.HeaderSaid.{HeaderSaid}
 use Rattle.law_commit.specs.Below.fkv_ops.HeaderSaid.TheVariants.{Says, Spoiled}
 use Rattle.law_commit.specs.Below.fkv_ops.Occasion.{Occasion}
@@ -22,7 +24,7 @@ use Rattle.law_commit.specs.Below.fkv_ops.WalkAnswer.{WalkAnswer}
 use Rattle.law_commit.specs.Below.fkv_ops.WalkAnswer.TheVariants as walk
 use Rattle.law_commit.specs.Below.fkv_ops.HeaderWords.{header_said}
 use Rattle.law_commit.specs.Below.fkv_ops.Requests.{is_read}
-use Rattle.law_commit.specs.Below.fkv_ops.Trying.{TryState, with_latch, is_wait, ended_without, ends, full_at, walked, has_walked, must_shift, walk_ledto, told_value, answer_ledto, trying_ask, try_ask, trying_next, try_next}
+use Rattle.law_commit.specs.Below.fkv_ops.Trying.{TryState, with_latch, is_wait, ended_without, ends_so as ends_now, ends_by, is_bounded, ends, full_at, walked, has_walked, must_shift, walk_ledto, told_value, answer_ledto, trying_ask, try_ask, trying_next, try_next}
 use Rattle.law_commit.specs.Below.fkv_ops.Values.{value_of}
 use Rattle.law_commit.specs.Below.fkv_ops.Walking.{walk_on, walk_ask, walk_next}
 use Rattle.law_commit.specs.Below.fkv_pending.TheAttempting.{Attempting}
@@ -53,14 +55,22 @@ then_so : (c : Bool) (a b : TryState) → c ≡ true → EndsSo a.step → EndsS
 then_so true a b e one = one
 then_so false a b e one = cc
 
-ends_so : (p : Places) (t : TryState) (its : TryAnswer) → IsReadEnd its → EndsSo (ends p t its).step
-unfolding ends
-ends_so p t its end =
+ends_now_so : (p : Places) (t : TryState) (its : TryAnswer) → IsReadEnd its → EndsSo (ends_now p t its).step
+unfolding ends_now
+ends_now_so p t its end =
     either_so t.has_exclusive (with_latch p (record t { has_exclusive = false }) DropExclusive (try.DropsExclusive its)) (ended_without p t its) end
     (either_so (t.has_shared && not (is_wait its)) (with_latch p (record t { has_shared = false }) DropShared (try.DropsShared its)) (record t { step = try.Ended its }) end end)
 
+ends_by_so : (p : Places) (t : TryState) (its : TryAnswer) (waiting : Option Waiting) → IsReadEnd its → EndsSo (ends_by p t its waiting).step
+ends_by_so p t its None end = ends_now_so p t its end
+ends_by_so p t its (Some waiting) end = either_so (is_bounded t) (record t { step = try.LoadsTail waiting }) (ends_now p t its) tt (ends_now_so p t its end)
+
+ends_so : (p : Places) (t : TryState) (its : TryAnswer) → IsReadEnd its → EndsSo (ends p t its).step
+unfolding ends
+ends_so p t its end = ends_by_so p t its (waiting_of its) end
+
 full_so : (occasion : Occasion) → IsReadEnd (full_at occasion answer.IndexFull)
-full_so Call = tt
+full_so (Call bounds) = tt
 full_so Poll = tt
 
 told_so : (value : Option ℕ) → IsReadEnd (told_value value)
@@ -73,6 +83,7 @@ walked_so p t walk.Nowhere read = then_so (is_read t.request.op) (ends p t answe
 walked_so p t (walk.OnDisk addr) read = then_so (is_read t.request.op) (ends p t (answer.AwaitsDisk (record { entry = t.walk.entry; addr = addr }))) _ read (ends_so p t (answer.AwaitsDisk (record { entry = t.walk.entry; addr = addr })) tt)
 walked_so p t (walk.Value value) read = ends_so p t (answer.Wait reason.Contended) tt
 walked_so p t walk.Full read = ends_so p t (full_at t.occasion answer.IndexFull) (full_so t.occasion)
+walked_so p t walk.Kept read = ends_so p t (full_at t.occasion answer.IndexFull) (full_so t.occasion)
 walked_so p t walk.Contended read = ends_so p t (answer.Wait reason.Contended) tt
 
 at_so : (t : TryState) (step : Trying) → t.step ≡ step → EndsSo step → EndsSo t.step
@@ -104,6 +115,7 @@ trying_so home log p room t (try.Ended its) reply at read row asks = done_not it
 trying_so home log p room t try.TakesShared reply at read row asks = not_both (is_read t.request.op) read row
 trying_so home log p room t try.LoadsPhase reply at read row asks = not_both (is_read t.request.op) read row
 trying_so home log p room t try.Walks reply at read row asks = walk_so p (record t { effect = None; walk = walk_next p t.walk reply }) (walk_ask p (walk_next p t.walk reply)) at read
+trying_so home log p room t try.CountsTaken reply at read row asks = not_both (is_read t.request.op) read row.0
 trying_so home log p room t (try.LoadsSafe addr version) reply at read row asks = not_both (is_read t.request.op) read row.0
 trying_so home log p room t (try.SwapsValue addr) reply at read row asks = not_both (is_read t.request.op) read row.0
 trying_so home log p room t (try.LoadsCurrent addr) reply at read row asks = not_both (is_read t.request.op) read row.0
@@ -112,6 +124,8 @@ trying_so home log p room t try.LoadsAnswer reply at read row asks = answer_so p
 trying_so home log p room t (try.TakesExclusive old) reply at read row asks = not_both (is_read t.request.op) read row.0
 trying_so home log p room t try.LoadsOld reply at read row asks = not_both (is_read t.request.op) read row.0
 trying_so home log p room t (try.Appends its) reply at read row asks = not_both (is_read t.request.op) read row.0
+trying_so home log p room t (try.LoadsTail waiting) reply at read row asks = not_both (is_read t.request.op) read row.0
+trying_so home log p room t (try.LoadsTaken waiting) reply at read row asks = not_both (is_read t.request.op) read row.0
 trying_so home log p room t (try.DropsExclusive its) reply at read row asks = not_both (is_read t.request.op) read row.0
 trying_so home log p room t (try.DropsShared its) reply at read row asks = not_both (is_read t.request.op) read row.0
 
@@ -127,6 +141,7 @@ told_end p t (try.Ended end) its so e = let same : end ≡ its = cc in subst IsR
 told_end p t try.TakesShared its so e = passed_end _ answer.Shift its tt e
 told_end p t try.Walks its so e = passed_end _ answer.Shift its tt e
 told_end p t try.LoadsPhase its so e = cc
+told_end p t try.CountsTaken its so e = cc
 told_end p t (try.LoadsSafe addr version) its so e = cc
 told_end p t (try.SwapsValue addr) its so e = cc
 told_end p t (try.LoadsCurrent addr) its so e = passed_end _ answer.Shift its tt e
@@ -135,6 +150,8 @@ told_end p t try.LoadsAnswer its so e = passed_end _ answer.Shift its tt e
 told_end p t (try.TakesExclusive old) its so e = passed_end _ answer.Shift its tt e
 told_end p t try.LoadsOld its so e = passed_end _ answer.Shift its tt e
 told_end p t (try.Appends reply) its so e = passed_end _ answer.Shift its tt e
+told_end p t (try.LoadsTail waiting) its so e = cc
+told_end p t (try.LoadsTaken waiting) its so e = cc
 told_end p t (try.DropsExclusive end) its so e = passed_end _ end its so e
 told_end p t (try.DropsShared end) its so e = passed_end _ end its so e
 

@@ -3,6 +3,7 @@ use Rattle.std.proofs.Common.{◌≡◌, refl, ℕ, Bool, true, false, List, [],
 use Rattle.fkv_map.specs.declared.operations.Call.{Call}
 use Rattle.fkv_plane.specs.declared.actions.Action.{Action}
 use Rattle.law_commit.specs.Below.fkv_ops.Occasion.TheVariants.{Call as AtCall, Poll as AtPoll}
+use Rattle.law_commit.specs.Below.fkv_ops.Bounds.{bounds_of}
 use Rattle.law_commit.specs.Below.fkv_ops.Seen.{Seen}
 use Rattle.law_commit.specs.Below.fkv_session.SessionRun.{SessionEvent, Begins, Replies, Gets, begins, session_happens, session_run}
 use Rattle.law_commit.specs.Below.fkv_session.Sessions.{SessionState, Seat, IsOpened, bits_of, room_of, is_busy, request_in_hand, session_begun, session_given, session_next}
@@ -19,7 +20,7 @@ hands_seeks : (k : Seat) (seen : Seen) → IsHandedOver k seen SeeksWhereAsked A
 hands_seeks k seen pending spare is_orphaned seeks = attempt_begun_seeks k.places (bits_of k) pending seen AtPoll spare is_orphaned seeks
 
 begins_seeks : (k : Seat) (s : SessionState) (seen : Seen) → IsKnownAnew k (request_in_hand s) seen AttemptSeeks
-begins_seeks k s seen spare is_orphaned = attempt_begun_seeks k.places (bits_of k) (request_in_hand s) seen AtCall spare is_orphaned (anew_seeks s)
+begins_seeks k s seen spare is_orphaned = attempt_begun_seeks k.places (bits_of k) (request_in_hand s) seen (AtCall (bounds_of k.shape)) spare is_orphaned (anew_seeks s)
 
 pub next_seeks : (k : Seat) (s : SessionState) (reply : ℕ) → AllSeek s → AllSeek (session_next k s reply)
 next_seeks k s reply all =

@@ -10,6 +10,7 @@ use Rattle.fkv_map.specs.Map.{IsReserved, is_reserved}
 use Rattle.fkv_map.proofs.Shown.{free_by_test}
 use Rattle.law_log.specs.Ghosts.{Log}
 use Rattle.law_commit.specs.Below.fkv_ops.Occasion.TheVariants.{Call as AtCall, Poll as AtPoll}
+use Rattle.law_commit.specs.Below.fkv_ops.Bounds.{bounds_of}
 use Rattle.law_commit.specs.Below.fkv_ops.Seen.{Seen}
 use Rattle.law_commit.specs.Below.fkv_pending.TheAttempting.TheVariants.{Tries}
 use Rattle.law_commit.specs.Below.fkv_pending.PendingRequest.{PendingRequest}
@@ -39,7 +40,7 @@ never : {X : Type 0} → false ≡ true → X
 never e = cc
 
 after_seen : (k : Seat) (s : SessionState) (step : Sitting) (reply : ℕ) → AttemptsBy k s step → is_attempting step ≡ true → (attempt_after k s reply).seen ≡ s.seen
-after_seen k s (Attempts has_shifted) reply so e = (attempt_goes (bits_of k) s.seen AtCall k.places (room_of k) k.number s.attempt reply so.goes).its_seen
+after_seen k s (Attempts has_shifted) reply so e = (attempt_goes (bits_of k) s.seen (AtCall (bounds_of k.shape)) k.places (room_of k) k.number s.attempt reply so.goes).its_seen
 after_seen k s (Polls index) reply so e = (attempt_goes (bits_of k) s.seen AtPoll k.places (room_of k) k.number s.attempt reply so.goes).its_seen
 after_seen k s step reply so e = cc
 
@@ -82,8 +83,8 @@ module _ (home : ℕ → ℕ) where
 
   begins_anew : (log : Log) (k : Seat) (s : SessionState) (seen : Seen) → (IsReserved s.op → ⊥) → head_in seen ≤ log.fixed → IsKnownAnew k (request_in_hand s) seen (TriesSo log)
   begins_anew log k s seen plain low spare is_orphaned = (
-    attempt_begins home log k.places (bits_of k) (request_in_hand s) seen AtCall spare is_orphaned (record { request = record { plain = plain; low = low; held = tt }; sought = tt; unlatched = λ read. refl }) (λ read asked. never asked),
-    attempt_begun_seeks k.places (bits_of k) (request_in_hand s) seen AtCall spare is_orphaned (λ read asked. never asked),
+    attempt_begins home log k.places (bits_of k) (request_in_hand s) seen (AtCall (bounds_of k.shape)) spare is_orphaned (record { request = record { plain = plain; low = low; held = tt }; sought = tt; unlatched = λ read. refl }) (λ read asked. never asked),
+    attempt_begun_seeks k.places (bits_of k) (request_in_hand s) seen (AtCall (bounds_of k.shape)) spare is_orphaned (λ read asked. never asked),
   )
 
   -- ---- a call begins

@@ -18,7 +18,7 @@ use Rattle.fkv_latch.specs.declared.latching.Latching.TheVariants.{AddsShare}
 use Rattle.fkv_latch.specs.Latching.{is_exclusive, latch_ask, one_share}
 use Rattle.fkv_latch.specs.LatchWorld.{has_latch}
 use Rattle.fkv_map.specs.Keys.{key_of}
-use Rattle.law_commit.specs.Below.fkv_ops.Occasion.TheVariants.{Call as AtCall, Poll as AtPoll}
+use Rattle.law_commit.specs.Below.fkv_ops.Bounds.{IsCall}
 use Rattle.law_commit.specs.Below.fkv_ops.Request.{Request}
 use Rattle.law_commit.specs.Below.fkv_ops.Seen.{Seen}
 use Rattle.law_commit.specs.Below.fkv_ops.TheTrying.{Trying}
@@ -113,6 +113,7 @@ met_first home log request seen w (Ended walked.Nowhere) first version is some a
 met_first home log request seen w (Ended (walked.OnDisk addr)) first version is some apart = subst (λ (f : Option Version). HasComeTo log (begin_of w) f addr.0) (is ∙ some) apart.1
 met_first home log request seen w (Ended (walked.Value value)) first version is some apart = absurd apart
 met_first home log request seen w (Ended walked.Full) first version is some apart = absurd apart
+met_first home log request seen w (Ended walked.Kept) first version is some apart = absurd apart
 met_first home log request seen w (Ended walked.Contended) first version is some apart = absurd apart
 met_first home log request seen w LoadsValue first version is some apart = absurd apart
 
@@ -334,9 +335,6 @@ module _ (given : Given) (life : BegunLife) (apart : OpensApart life) (before : 
   in_poll : (i : ℕ) → s.step ≡ Polls i → IsAttemptInPoll (seat_at life.opening.now session) s i
   in_poll i at = subst (AttemptsBy (seat_at life.opening.now session) s) at (life_attempts life.opening before session s life.begins.world found)
 
-  never_call : {X : Type 0} → AtPoll ≡ AtCall → X
-  never_call e = cc
-
   phase_word : s.step ≡ CatchesUp Shifts → s.catching.step ≡ catching.Refreshes → loads_next s.catching.refreshing → reply ≡ word_at N.words (shared_place one.Phase)
   phase_word at refreshes loads = ap (reply_to N.words) (loads_phase (seat_at N session) s s.catching.refreshing at refreshes refl loads)
 
@@ -382,5 +380,5 @@ module _ (given : Given) (life : BegunLife) (apart : OpensApart life) (before : 
             latch = λ takes adds bit. (let its = takes_row attempts tries takes in clash t.request.has_latch (came (prepares_so attempts tries its.0) (takes_update attempts tries takes)) its.2);
             phase = λ loads says. (let its = phase_row attempts tries loads in clash t.request.has_latch (came (prepares_so attempts tries its.0) (phase_update attempts tries loads)) its.2);
             walk = λ walks its ends must. walk_never attempts tries walks must came;
-            full = λ call. never_call (sym (in_poll i at).goes.its_occasion ∙ (sym (try_in given life apart before session s found attempts tries).its_occasion ∙ call));
+            full = λ call. subst IsCall ((try_in given life apart before session s found attempts tries).its_occasion ∙ (in_poll i at).goes.its_occasion) call;
           }

@@ -85,6 +85,7 @@ try_on X Y F p t trying.TakesShared on (inl adds) = inl adds
 try_on X Y F p t trying.TakesShared on (inr x) = inr (on x)
 try_on X Y F p t trying.LoadsPhase on so = tt
 try_on X Y F p t trying.Walks on so = so
+try_on X Y F p t trying.CountsTaken on so = tt
 try_on X Y F p t (trying.LoadsSafe addr version) on so = tt
 try_on X Y F p t (trying.SwapsValue addr) on so = tt
 try_on X Y F p t (trying.LoadsCurrent addr) on so = tt
@@ -93,6 +94,8 @@ try_on X Y F p t trying.LoadsAnswer on so = tt
 try_on X Y F p t (trying.TakesExclusive old) on so = tt
 try_on X Y F p t trying.LoadsOld on so = tt
 try_on X Y F p t (trying.Appends its) on so = tt
+try_on X Y F p t (trying.LoadsTail waiting) on so = tt
+try_on X Y F p t (trying.LoadsTaken waiting) on so = tt
 
 attempt_on : (X Y F : Type 0) (C : PendingRequest → Type 0) (p : Places) (a : AttemptState) (step : Attempting) → (X → Y) → AttemptRow X F C p a step → AttemptRow Y F C p a step
 attempt_on X Y F C p a (attempting.Ended its) on so = shift_on X Y F its on so

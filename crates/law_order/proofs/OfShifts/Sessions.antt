@@ -12,6 +12,7 @@ use Rattle.law_commit.specs.Below.fkv_ops.TryAnswer.{TryAnswer}
 use Rattle.law_commit.specs.Below.fkv_ops.TryAnswer.TheVariants as tried
 use Rattle.law_commit.specs.Below.fkv_ops.HeldRecord.{HeldRecord}
 use Rattle.law_commit.specs.Below.fkv_ops.Occasion.TheVariants.{Call as AtCall, Poll as AtPoll}
+use Rattle.law_commit.specs.Below.fkv_ops.Bounds.{bounds_of}
 use Rattle.law_commit.specs.Below.fkv_ops.Seen.{Seen}
 use Rattle.law_commit.specs.Below.fkv_ops.Requests.{is_read}
 use Rattle.law_commit.specs.Below.fkv_ops.Trying.{is_prepare}
@@ -93,10 +94,10 @@ module _ (top : ℕ) (k : Seat) where
   abbrev Leads : SessionState → Type 0
   Leads s = LeadsRow top k s s.step
 
-  begun_call : (X : Type 0) (s : SessionState) (seen : Seen) → Shifting X ⊤ Any k (attempt_begun k.places (bits_of k) (request_in_hand s) seen AtCall s.spare s.is_orphaned)
+  begun_call : (X : Type 0) (s : SessionState) (seen : Seen) → Shifting X ⊤ Any k (attempt_begun k.places (bits_of k) (request_in_hand s) seen (AtCall (bounds_of k.shape)) s.spare s.is_orphaned)
   begun_call X s seen = record {
-    rests = attempt_begun_rests k.places (bits_of k) (request_in_hand s) seen AtCall s.spare s.is_orphaned;
-    row = attempt_begins_row X ⊤ Any (λ pending b its. tt) (λ pending held its. tt) k.places (bits_of k) (request_in_hand s) seen AtCall s.spare s.is_orphaned tt;
+    rests = attempt_begun_rests k.places (bits_of k) (request_in_hand s) seen (AtCall (bounds_of k.shape)) s.spare s.is_orphaned;
+    row = attempt_begins_row X ⊤ Any (λ pending b its. tt) (λ pending held its. tt) k.places (bits_of k) (request_in_hand s) seen (AtCall (bounds_of k.shape)) s.spare s.is_orphaned tt;
   }
 
   -- a poll begins what waits

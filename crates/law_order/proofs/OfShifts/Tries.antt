@@ -16,6 +16,10 @@ use Rattle.fkv_map.specs.Map.{absent_word}
 use Rattle.law_commit.specs.Below.fkv_ops.Reason.TheVariants as reason
 use Rattle.law_commit.specs.Below.fkv_ops.TryAnswer.{TryAnswer}
 use Rattle.law_commit.specs.Below.fkv_ops.TryAnswer.TheVariants as answer
+use Rattle.law_commit.specs.Below.fkv_ops.TheWaiting.{Waiting}
+use Rattle.law_commit.specs.Below.fkv_ops.TheWaiting.TheVariants.{For, ForRecord}
+use Rattle.law_commit.specs.Below.fkv_ops.Waiting.{told_of, waiting_of}
+use Rattle.law_commit.specs.Below.fkv_ops.Bounds.{IsCall, bounds_at, is_past_tail, is_past_taken}
 use Rattle.law_commit.specs.Below.fkv_ops.AppendAnswer.{AppendAnswer}
 use Rattle.law_commit.specs.Below.fkv_ops.AppendAnswer.TheVariants as append
 use Rattle.law_commit.specs.Below.fkv_ops.HeldRecord.{HeldRecord}
@@ -26,12 +30,12 @@ use Rattle.law_commit.specs.Below.fkv_ops.Seen.{Seen}
 use Rattle.law_commit.specs.Below.fkv_ops.OldValue.{OldValue}
 use Rattle.law_commit.specs.Below.fkv_ops.OldValue.TheVariants.{InMemory, Known}
 use Rattle.law_commit.specs.Below.fkv_ops.TheTrying.{Trying}
-use Rattle.law_commit.specs.Below.fkv_ops.TheTrying.TheVariants.{Appends, ChangesValue, DropsExclusive, DropsShared, Ended, LoadsAnswer, LoadsCurrent, LoadsOld, LoadsPhase, LoadsSafe, SwapsValue, TakesExclusive, TakesShared, Walks}
+use Rattle.law_commit.specs.Below.fkv_ops.TheTrying.TheVariants.{Appends, ChangesValue, CountsTaken, DropsExclusive, DropsShared, Ended, LoadsAnswer, LoadsCurrent, LoadsOld, LoadsPhase, LoadsSafe, LoadsTail, LoadsTaken, SwapsValue, TakesExclusive, TakesShared, Walks}
 use Rattle.law_commit.specs.Below.fkv_ops.WalkAnswer.{WalkAnswer}
 use Rattle.law_commit.specs.Below.fkv_ops.WalkAnswer.TheVariants as walk
 use Rattle.law_commit.specs.Below.fkv_ops.Appending.{append_ask, append_next}
 use Rattle.law_commit.specs.Below.fkv_ops.Requests.{is_blind, is_read}
-use Rattle.law_commit.specs.Below.fkv_ops.Trying.{TryState, answer_ledto, append_ledto, appends, awaits, changes, copies, copies_from, current_ledto, ended_without, ends, exclusive_dropped, exclusive_ledto, full_at, has_walked, held_used, is_own_version, is_wait, met_disk, met_nowhere, met_record, must_shift, new_try, old_ledto, region_met, shared_dropped, shared_ledto, takes_effect, told_value, try_begun, try_next, trying_next, walk_ledto, walked, walks, wants_exclusive, wants_shared, with_latch, is_next_marked, is_still_in, phase_loaded, is_surely_own}
+use Rattle.law_commit.specs.Below.fkv_ops.Trying.{TryState, answer_ledto, append_ledto, appends, awaits, changes, copies, copies_from, count_loaded, current_ledto, ended_without, ends, ends_by, ends_so as ends_now, exclusive_dropped, exclusive_ledto, full_at, has_walked, held_used, is_bounded, is_own_version, is_wait, met_disk, met_nowhere, met_record, must_count, must_shift, new_try, old_ledto, region_met, shared_dropped, shared_ledto, tail_loaded, taken_loaded, takes_effect, told_value, try_begun, try_next, trying_next, walk_ledto, walked, walks, wants_exclusive, wants_shared, with_latch, is_next_marked, is_still_in, phase_loaded, is_surely_own}
 use Rattle.law_commit.specs.Below.fkv_ops.Values.{value_of}
 use Rattle.law_commit.specs.Below.fkv_ops.Walking.{walk_ask, walk_next, walk_on}
 use Rattle.fkv_words.specs.declared.phase_words.PhaseSaid.{PhaseSaid}
@@ -62,6 +66,15 @@ second_true : (a b : Bool) → (a && b) ≡ true → b ≡ true
 second_true true b e = e
 second_true false b e = cc
 
+-- only a call has bounds
+past_tail : (occasion : Occasion) (tail : ℕ) → is_past_tail (bounds_at occasion) tail ≡ true → IsCall occasion
+past_tail (Call bounds) tail past = tt
+past_tail Poll tail past = cc
+
+past_taken : (occasion : Occasion) (taken : ℕ) → is_past_taken (bounds_at occasion) taken ≡ true → IsCall occasion
+past_taken (Call bounds) taken past = tt
+past_taken Poll taken past = cc
+
 module _ (X F : Type 0) (p : Places) where
   abbrev Row : TryState → Type 0
   Row t = ShiftRow X F p t t.step
@@ -76,12 +89,41 @@ module _ (X F : Type 0) (p : Places) where
   without_row : (t : TryState) (its : TryAnswer) → IsShift X F its → Row (ended_without p t its)
   without_row t its so = either (t.has_shared && not (is_wait its)) (with_latch p (record t { has_shared = false }) DropShared (DropsShared its)) (record t { step = Ended its }) so so
 
+  ends_now_row : (t : TryState) (its : TryAnswer) → IsShift X F its → Row (ends_now p t its)
+  unfolding ends_now
+  ends_now_row t its so = either t.has_exclusive (with_latch p (record t { has_exclusive = false }) DropExclusive (DropsExclusive its)) (ended_without p t its) so (without_row t its so)
+
+  ends_by_row : (t : TryState) (its : TryAnswer) (waiting : Option Waiting) → IsShift X F its → Row (ends_by p t its waiting)
+  ends_by_row t its None so = ends_now_row t its so
+  ends_by_row t its (Some waiting) so = either (is_bounded t) (record t { step = LoadsTail waiting }) (ends_now p t its) tt (ends_now_row t its so)
+
   ends_row : (t : TryState) (its : TryAnswer) → IsShift X F its → Row (ends p t its)
   unfolding ends
-  ends_row t its so = either t.has_exclusive (with_latch p (record t { has_exclusive = false }) DropExclusive (DropsExclusive its)) (ended_without p t its) so (without_row t its so)
+  ends_row t its so = ends_by_row t its (waiting_of its) so
 
-  full_row : (t : TryState) (refused : TryAnswer) (occasion : Occasion) → (occasion ≡ Call → IsShift X F refused) → Row (ends p t (full_at occasion refused))
-  full_row t refused Call so = ends_row t refused (so refl)
+  -- one that waits neither shifts nor is refused
+  waits_so : (waiting : Waiting) → IsShift X F (told_of waiting)
+  waits_so (For why) = tt
+  waits_so (ForRecord its) = tt
+
+  refused_row : (t : TryState) (past : Bool) (refused : TryAnswer) (on : TryState) → (past ≡ true → IsShift X F refused) → Row on → Row (if past then ends_now p t refused else on)
+  refused_row t true refused on so row = ends_now_row t refused (so refl)
+  refused_row t false refused on so row = row
+
+  tail_row : (t : TryState) (waiting : Waiting) (tail : ℕ) → (IsCall t.occasion → F) → Row (tail_loaded p t waiting tail)
+  unfolding tail_loaded
+  tail_row t waiting tail full =
+      let looks : TryState = record t { step = LoadsTaken waiting } in
+      refused_row t (is_past_tail (bounds_at t.occasion) tail) answer.LogFull (if t.walk.entry == 0 then looks else ends_now p t (told_of waiting)) (λ past. full (past_tail t.occasion tail past))
+      (either (t.walk.entry == 0) looks (ends_now p t (told_of waiting)) tt (ends_now_row t (told_of waiting) (waits_so waiting)))
+
+  count_taken_row : (t : TryState) (waiting : Waiting) (taken : ℕ) → (IsCall t.occasion → F) → Row (taken_loaded p t waiting taken)
+  unfolding taken_loaded
+  count_taken_row t waiting taken full =
+      refused_row t (is_past_taken (bounds_at t.occasion) taken) answer.IndexFull (ends_now p t (told_of waiting)) (λ past. full (past_taken t.occasion taken past)) (ends_now_row t (told_of waiting) (waits_so waiting))
+
+  full_row : (t : TryState) (refused : TryAnswer) (occasion : Occasion) → (IsCall occasion → IsShift X F refused) → Row (ends p t (full_at occasion refused))
+  full_row t refused (Call bounds) so = ends_row t refused (so tt)
   full_row t refused Poll so = ends_row t (answer.Wait reason.Full) tt
 
   appends_row : (t : TryState) (old : ℕ) → Row (appends t old)
@@ -110,7 +152,18 @@ module _ (X F : Type 0) (p : Places) where
       (awaits_row t addr)
 
   nowhere_row : (t : TryState) → Row (met_nowhere p t)
-  nowhere_row t = either (is_read t.request.op) (ends p t answer.Absent) (copies p t (Known absent_word) false) (ends_row t answer.Absent tt) (copies_row t (Known absent_word) false)
+  nowhere_row t =
+      let counts : TryState = record t { step = CountsTaken } in
+      either (is_read t.request.op) (ends p t answer.Absent) (if must_count p t then counts else copies p t (Known absent_word) false) (ends_row t answer.Absent tt)
+      (either (must_count p t) counts (copies p t (Known absent_word) false) tt (copies_row t (Known absent_word) false))
+
+  count_row : (t : TryState) (taken : ℕ) → (IsCall t.occasion → F) → Row (count_loaded p t taken)
+  unfolding count_loaded
+  count_row t taken full = by_test (is_past_taken (bounds_at t.occasion) taken) refl
+    where
+      by_test : (b : Bool) → is_past_taken (bounds_at t.occasion) taken ≡ b → Row (if b then ends p t answer.IndexFull else copies p t (Known absent_word) false)
+      by_test true past = ends_row t answer.IndexFull (full (past_taken t.occasion taken past))
+      by_test false past = copies_row t (Known absent_word) false
 
   disk_row : (t : TryState) (addr : Addr) → Row (met_disk p t addr)
   disk_row t addr =
@@ -128,15 +181,16 @@ module _ (X F : Type 0) (p : Places) where
   record_row t addr version =
       either (is_read t.request.op) (record t { walk = walk_on t.walk; step = LoadsAnswer }) (region_met p t addr version (seen_region_of addr.0 t.seen.offsets)) tt (region_row t addr version (seen_region_of addr.0 t.seen.offsets))
 
-  walked_row : (t : TryState) (its : WalkAnswer) → (t.occasion ≡ Call → F) → Row (walked p t its)
+  walked_row : (t : TryState) (its : WalkAnswer) → (IsCall t.occasion → F) → Row (walked p t its)
   walked_row t (walk.Found addr version) full = record_row t addr version
   walked_row t walk.Nowhere full = nowhere_row t
   walked_row t (walk.OnDisk addr) full = disk_row t addr
   walked_row t (walk.Value value) full = ends_row t (answer.Wait reason.Contended) tt
   walked_row t walk.Full full = full_row t answer.IndexFull t.occasion full
+  walked_row t walk.Kept full = full_row t answer.IndexFull t.occasion full
   walked_row t walk.Contended full = ends_row t (answer.Wait reason.Contended) tt
 
-  led_row : (t : TryState) (ask : Ask WalkAnswer) → t.step ≡ Walks → LoadsNone t.walk.step → (t.occasion ≡ Call → F) → ((its : WalkAnswer) → ask ≡ Done its → must_shift (record t { spare = t.walk.spare }) ≡ true → X) → Row (walk_ledto p t ask)
+  led_row : (t : TryState) (ask : Ask WalkAnswer) → t.step ≡ Walks → LoadsNone t.walk.step → (IsCall t.occasion → F) → ((its : WalkAnswer) → ask ≡ Done its → must_shift (record t { spare = t.walk.spare }) ≡ true → X) → Row (walk_ledto p t ask)
   unfolding walk_ledto
   led_row t (Done its) at none full shifts = by_test (has_walked its && must_shift (record t { spare = t.walk.spare })) refl
     where
@@ -204,7 +258,7 @@ module _ (X F : Type 0) (p : Places) where
   old_row t (Done its) at = ends_row t (answer.Wait reason.Contended) tt
   old_row t ask at = still t LoadsOld at tt
 
-  append_row : (t : TryState) (its : Reply) (ask : Ask AppendAnswer) → t.step ≡ Appends its → (t.occasion ≡ Call → F) → Row (append_ledto p t its ask)
+  append_row : (t : TryState) (its : Reply) (ask : Ask AppendAnswer) → t.step ≡ Appends its → (IsCall t.occasion → F) → Row (append_ledto p t its ask)
   unfolding append_ledto
   append_row t its (Done append.Published) at full = effect_row t its
   append_row t its (Done append.Full) at full = full_row t answer.LogFull t.occasion full
@@ -219,7 +273,7 @@ pub record ShiftsBy (X F : Type 0) (p : Places) (t : TryState) (reply : ℕ) : T
   pub latch : t.step ≡ TakesShared → t.latching ≡ AddsShare (bucket_place p t.home.bucket 7) → is_exclusive reply ≡ true → X
   pub phase : t.step ≡ LoadsPhase → is_still_in (phase_said reply) t.request.version ≡ false → X
   pub walk : t.step ≡ Walks → (its : WalkAnswer) → walk_ask p (walk_next p t.walk reply) ≡ Done its → must_shift (record t { walk = walk_next p t.walk reply }) ≡ true → X
-  pub full : t.occasion ≡ Call → F
+  pub full : IsCall t.occasion → F
 
 module _ (X F : Type 0) (p : Places) (room : ℕ) (t : TryState) (reply : ℕ) (shifts : ShiftsBy X F p t reply) where
   abbrev quiet : TryState
@@ -242,6 +296,7 @@ module _ (X F : Type 0) (p : Places) (room : ℕ) (t : TryState) (reply : ℕ) (
   row_on TakesShared at row = shared_row at row
   row_on LoadsPhase at row = phase_row X F p quiet (phase_said reply) (shifts.phase at)
   row_on Walks at row = led_row X F p (record t { effect = None; walk = walk_next p t.walk reply }) (walk_ask p (walk_next p t.walk reply)) at (walk_none p t.walk reply row) shifts.full (λ its e must. shifts.walk at its e must)
+  row_on CountsTaken at row = count_row X F p quiet reply shifts.full
   row_on (LoadsSafe addr version) at row =
       either X F p (nat_le reply addr.0) (ends p quiet (answer.Wait reason.Fuzzy)) (copies p quiet InMemory (is_surely_own t version)) (ends_row X F p quiet (answer.Wait reason.Fuzzy) tt) (copies_row X F p quiet InMemory (is_surely_own t version))
   row_on (SwapsValue addr) at row = effect_row X F p quiet (reply_from None t.request.op)
@@ -252,6 +307,8 @@ module _ (X F : Type 0) (p : Places) (room : ℕ) (t : TryState) (reply : ℕ) (
   row_on (TakesExclusive old) at row = exclusive_row X F p (record t { effect = None; latching = latch_next t.latching reply }) old (latch_next_ask t.latching reply) at
   row_on LoadsOld at row = old_row X F p (record t { effect = None; walk = walk_next p t.walk reply }) (walk_ask p (walk_next p t.walk reply)) at
   row_on (Appends its) at row = append_row X F p (record t { effect = None; append = append_next p room t.append reply }) its (append_ask p (append_next p room t.append reply)) at shifts.full
+  row_on (LoadsTail waiting) at row = tail_row X F p quiet waiting reply shifts.full
+  row_on (LoadsTaken waiting) at row = count_taken_row X F p quiet waiting reply shifts.full
   row_on (DropsExclusive its) at row = dropped_row X F p (record t { effect = None; latching = latch_next t.latching reply }) its (latch_next_ask t.latching reply) at row
   row_on (DropsShared its) at row = unshared_row X F p (record t { effect = None; latching = latch_next t.latching reply }) its (latch_next_ask t.latching reply) at row
 

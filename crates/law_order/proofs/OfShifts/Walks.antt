@@ -43,6 +43,7 @@ slot_none : (p : Places) (w : WalkState) (its : Found) → LoadsNone (slot_found
 slot_none p w (found.Slot place word) = reached_none p (record w { place = place; entry = word }) (entry_addr word)
 slot_none p w found.NoSlot = tt
 slot_none p w found.Full = tt
+slot_none p w found.Kept = tt
 slot_none p w found.Contended = tt
 
 find_none : (p : Places) (w : WalkState) (ask : Ask FindAnswer) → w.step ≡ Finds → LoadsNone (find_ledto p w ask).step

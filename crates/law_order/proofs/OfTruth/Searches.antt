@@ -16,7 +16,7 @@ use Rattle.law_commit.specs.Below.fkv_ops.TheTrying.{Trying}
 use Rattle.law_commit.specs.Below.fkv_ops.TheTrying.TheVariants.{Walks}
 use Rattle.law_commit.specs.Below.fkv_ops.TheWalking.{Walking}
 use Rattle.law_commit.specs.Below.fkv_ops.TheWalking.TheVariants.{Finds}
-use Rattle.law_commit.specs.Below.fkv_ops.Requests.{purpose_of}
+use Rattle.law_commit.specs.Below.fkv_ops.Requests.{purpose_at}
 use Rattle.law_commit.specs.Below.fkv_ops.Trying.{TryState}
 use Rattle.law_commit.specs.Below.fkv_pending.TheAttempting.{Attempting}
 use Rattle.law_commit.specs.Below.fkv_pending.TheAttempting.TheVariants.{Looks, Tries}
@@ -46,7 +46,7 @@ BeginsFor home log head key = head_of (log.chains (home key.0)) ≡ head
 
 walk_searches : (home : ℕ → ℕ) (log : Log) (p : Places) (head reply : ℕ) (t : TryState) (step : Walking) → BeginsFor home log head t.walk.key → FindsBy p head reply (walk_work t step) → WalkSearches home log p t.walk step reply
 walk_searches home log p head reply t Finds begins finds =
-    subst (λ (x : ℕ). EndsAtHead x (find_next_ask p t.walk.finding reply)) (sym begins) (ends_at_head head (find_next_ask p t.walk.finding reply) (finds (record { finding = t.walk.finding; purpose = purpose_of t.request.op }) refl))
+    subst (λ (x : ℕ). EndsAtHead x (find_next_ask p t.walk.finding reply)) (sym begins) (ends_at_head head (find_next_ask p t.walk.finding reply) (finds (record { finding = t.walk.finding; purpose = purpose_at t.occasion t.request.op }) refl))
 walk_searches home log p head reply t step begins finds = tt
 
 try_searches : (home : ℕ → ℕ) (log : Log) (p : Places) (head reply : ℕ) (request : Request) (t : TryState) (step : Trying) → t.request ≡ request → BeginsFor home log head (key_of request.op) → TryRow home log t step

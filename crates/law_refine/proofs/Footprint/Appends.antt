@@ -1,6 +1,6 @@
 -- An append fills a record, and publishes at a slot of the index.
 use Rattle.std.proofs.Common.{◌≡◌, ◌≢◌, ℕ, ◌^◌, refl, sym, subst, inl, Bool, true, false}
-use Rattle.std.specs.Prelude.{if◌then◌else◌, ◌&&◌, nat_lt, ⊤, None}
+use Rattle.std.specs.Prelude.{if◌then◌else◌, ◌&&◌, nat_lt, ⊤, None, Option}
 use Rattle.fkv_base.specs.declared.numbers.Addr.{Addr}
 use Rattle.fkv_plane.specs.declared.asks.Ask.{Ask}
 use Rattle.fkv_plane.specs.declared.asks.Ask.TheVariants.{Done}
@@ -147,5 +147,5 @@ pub append_next_spares : (p : Places) (room : ℕ) (a : AppendState) (reply : �
 append_next_spares p room a reply its = next_spares p room a a.step reply refl its.place
 
 -- as it begins
-pub append_begun_spares : (p : Places) (slot : FoundSlot) (its : RecordWords) → IsIndexAlone p slot.place → IsAppendSparing p (append_begun slot its)
-append_begun_spares p slot its none = record { place = none; publishes = tt }
+pub append_begun_spares : (p : Places) (slot : FoundSlot) (its : RecordWords) (bound : Option ℕ) → IsIndexAlone p slot.place → IsAppendSparing p (append_begun slot its bound)
+append_begun_spares p slot its bound none = record { place = none; publishes = tt }

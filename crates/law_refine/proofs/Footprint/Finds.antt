@@ -13,13 +13,13 @@ use Rattle.fkv_index.specs.declared.finding.FindStep.{FindStep}
 use Rattle.fkv_index.specs.declared.finding.FindStep.TheVariants.{AtRest, LoadsSlot, LoadsLink, LoadsTaken, TakesBucket, LinksBucket}
 use Rattle.fkv_index.specs.declared.finding.Finding.{Finding}
 use Rattle.fkv_index.specs.declared.finding.Found.{Found}
-use Rattle.fkv_index.specs.declared.finding.Found.TheVariants.{Slot, NoSlot, Full, Contended}
+use Rattle.fkv_index.specs.declared.finding.Found.TheVariants.{Slot, NoSlot, Full, Contended, Kept}
 use Rattle.fkv_index.specs.declared.finding.Linking.{Linking}
-use Rattle.fkv_index.specs.declared.finding.Linking.TheVariants.{Never, Once, Made}
+use Rattle.fkv_index.specs.declared.finding.Linking.TheVariants.{Never, Once, Made, Within}
 use Rattle.fkv_index.specs.declared.finding.Purpose.{Purpose}
 use Rattle.fkv_index.specs.declared.homes.Home.{Home}
 use Rattle.fkv_index.specs.Slots.{bucket_slots, entry_tag, is_entry, slot_word, link_of}
-use Rattle.fkv_index.specs.Finding.{spare_of, first_finding, find_step_ask, find_ask, slot_after, slot_led, entered, ended_list, link_led, taken_led, took_led, linked_led, find_led, led_to, led_ask, find_next, find_next_ask}
+use Rattle.fkv_index.specs.Finding.{spare_of, first_finding, find_step_ask, find_ask, slot_after, slot_led, entered, ended_list, link_led, taken_led, took_led, linked_led, find_led, led_to, led_ask, find_next, find_next_ask, is_kept, takes_led}
 use Rattle.law_refine.specs.Footprint.{Part, TheIndex, IsOutside, MaySet, Spares}
 use Rattle.law_refine.proofs.Footprint.Outside.{taken_outside, slot_outside, link_outside}
 
@@ -127,6 +127,7 @@ ended_finds : (p : Places) (f : Finding) (word : ℕ) (linking : Linking) → Is
 ended_finds p f word Never its none = ends p (record f { step = AtRest }) (record { found = NoSlot; spare = f.spare }) tt
 ended_finds p f word Once its none =
     goes p (record f { step = if f.spare == 0 then LoadsTaken word else LinksBucket word }) (record { bucket = its.bucket; its_base = its.its_base; its_spare = its.its_spare; links = word_links p word (f.spare == 0) none })
+ended_finds p f word (Within bound) its none = goes p (record f { step = LoadsTaken word }) (record { bucket = its.bucket; its_base = its.its_base; its_spare = its.its_spare; links = none })
 ended_finds p f word Made its none = ends p (record f { step = AtRest }) (record { found = Contended; spare = f.spare }) tt
 
 link_finds : (p : Places) (f : Finding) (word : ℕ) → IsAtBucket p f → FindsOn p (led_to (link_led p f word)) (led_ask (link_led p f word))
@@ -136,12 +137,23 @@ link_finds p f word its = by_link (link_of word == 0) refl
     by_link true e = rw e (ended_finds p f word f.linking its (grind (arith, nat_tests, e)))
     by_link false e = rw e (entered_finds p f (link_of word) its.its_spare)
 
-taken_finds : (p : Places) (f : Finding) (word taken : ℕ) → IsAtBucket p f → link_of word ≡ 0 → FindsOn p (led_to (taken_led p f word taken)) (led_ask (taken_led p f word taken))
-taken_finds p f word taken its none = by_count (nat_lt taken p.overflow) refl
+takes_finds : (p : Places) (f : Finding) (word taken : ℕ) → IsAtBucket p f → link_of word ≡ 0 → FindsOn p (led_to (takes_led p f word taken)) (led_ask (takes_led p f word taken))
+takes_finds p f word taken its none = by_count (nat_lt taken p.overflow) refl
   where
-    by_count : (b : Bool) → nat_lt taken p.overflow ≡ b → FindsOn p (led_to (taken_led p f word taken)) (led_ask (taken_led p f word taken))
+    by_count : (b : Bool) → nat_lt taken p.overflow ≡ b → FindsOn p (led_to (takes_led p f word taken)) (led_ask (takes_led p f word taken))
     by_count true e = rw e (goes p (record f { step = TakesBucket word taken }) (record { bucket = its.bucket; its_base = its.its_base; its_spare = its.its_spare; links = (none, grind (arith, nat_tests, e)) }))
     by_count false e = rw e (ends p (record f { step = AtRest }) (record { found = Full; spare = f.spare }) tt)
+
+taken_finds : (p : Places) (f : Finding) (word taken : ℕ) → IsAtBucket p f → link_of word ≡ 0 → FindsOn p (led_to (taken_led p f word taken)) (led_ask (taken_led p f word taken))
+taken_finds p f word taken its none = by_kept (is_kept f.linking taken) refl
+  where
+    by_spare : (b : Bool) → (f.spare == 0) ≡ b → is_kept f.linking taken ≡ false → FindsOn p (led_to (taken_led p f word taken)) (led_ask (taken_led p f word taken))
+    by_spare true e below = rw (below, e) (takes_finds p f word taken its none)
+    by_spare false e below = rw (below, e) (goes p (record f { step = LinksBucket word }) (record { bucket = its.bucket; its_base = its.its_base; its_spare = its.its_spare; links = none }))
+
+    by_kept : (b : Bool) → is_kept f.linking taken ≡ b → FindsOn p (led_to (taken_led p f word taken)) (led_ask (taken_led p f word taken))
+    by_kept true e = rw e (ends p (record f { step = AtRest }) (record { found = Kept; spare = f.spare }) tt)
+    by_kept false e = by_spare (f.spare == 0) refl e
 
 took_finds : (p : Places) (f : Finding) (word taken reply : ℕ) → IsAtBucket p f → link_of word ≡ 0 → taken < p.overflow → FindsOn p (led_to (took_led f word taken reply)) (led_ask (took_led f word taken reply))
 took_finds p f word taken reply its none low = by_count (reply == taken) refl

@@ -18,6 +18,7 @@ use Rattle.law_world.specs.Below.fkv_ops.Reason.TheVariants as reason
 use Rattle.law_world.specs.Below.fkv_ops.TryAnswer.{TryAnswer}
 use Rattle.law_world.specs.Below.fkv_ops.TryAnswer.TheVariants as tried
 use Rattle.law_world.specs.Below.fkv_ops.Occasion.TheVariants.{Call as AtCall, Poll as AtPoll}
+use Rattle.law_world.specs.Below.fkv_ops.Bounds.{bounds_of}
 use Rattle.law_world.specs.Below.fkv_ops.Requests.{is_read}
 use Rattle.law_world.specs.Below.fkv_pending.MailAnswer.{MailAnswer}
 use Rattle.law_world.specs.Below.fkv_pending.MailAnswer.TheVariants.{Cleared}
@@ -115,7 +116,7 @@ turn_after_spares p s its = either_spares s.wants_turn p (record s { own_turn = 
 
 attempts_spares : (k : Seat) (s : SessionState) (has_shifted : Bool) → IsSessionSparing k.places (attempts k s has_shifted)
 unfolding attempts
-attempts_spares k s has_shifted = attempt_begun_spares k.places (bits_of k) (request_in_hand s) s.seen AtCall s.spare s.is_orphaned
+attempts_spares k s has_shifted = attempt_begun_spares k.places (bits_of k) (request_in_hand s) s.seen (AtCall (bounds_of k.shape)) s.spare s.is_orphaned
 
 polls_request_spares : (k : Seat) (s : SessionState) (index : ℕ) (found : Option PendingRequest) → IsSessionSparing k.places (polls_request k s index found)
 polls_request_spares k s index None = turn_after_spares k.places s (told.Polled (length s.requests))

@@ -30,14 +30,14 @@ use Rattle.law_world.specs.Below.fkv_ops.Seen.{Seen}
 use Rattle.law_world.specs.Below.fkv_ops.OldValue.{OldValue}
 use Rattle.law_world.specs.Below.fkv_ops.OldValue.TheVariants.{InMemory, Known}
 use Rattle.law_world.specs.Below.fkv_ops.TheTrying.{Trying}
-use Rattle.law_world.specs.Below.fkv_ops.TheTrying.TheVariants.{Ended, TakesShared, LoadsPhase, Walks, LoadsSafe, SwapsValue, LoadsCurrent, ChangesValue, LoadsAnswer, TakesExclusive, LoadsOld, Appends, DropsExclusive, DropsShared}
+use Rattle.law_world.specs.Below.fkv_ops.TheTrying.TheVariants.{Ended, TakesShared, LoadsPhase, Walks, CountsTaken, LoadsSafe, SwapsValue, LoadsCurrent, ChangesValue, LoadsAnswer, TakesExclusive, LoadsOld, Appends, LoadsTail, LoadsTaken, DropsExclusive, DropsShared}
 use Rattle.law_world.specs.Below.fkv_ops.WalkAnswer.{WalkAnswer}
 use Rattle.law_world.specs.Below.fkv_ops.WalkAnswer.TheVariants as walk
 use Rattle.law_world.specs.Below.fkv_ops.Values.{value_of}
-use Rattle.law_world.specs.Below.fkv_ops.Requests.{purpose_of, is_read, is_blind}
+use Rattle.law_world.specs.Below.fkv_ops.Requests.{purpose_at, is_read, is_blind}
 use Rattle.law_world.specs.Below.fkv_ops.Walking.{walk_ask, walk_next, walk_on}
 use Rattle.law_world.specs.Below.fkv_ops.Appending.{append_ask, append_next}
-use Rattle.law_world.specs.Below.fkv_ops.Trying.{TryState, trying_ask, try_ask, with_latch, is_wait, ended_without, ends, takes_effect, walks, wants_shared, try_begun, shared_ledto, must_shift, wants_exclusive, slot_of, words_of, appends, copies_from, copies, awaits, held_used, met_nowhere, met_disk, changes, is_own_version, region_met, met_record, walked, has_walked, walk_ledto, safe_loaded, current_ledto, value_changed, told_value, answer_ledto, exclusive_ledto, old_ledto, append_ledto, exclusive_dropped, shared_dropped, latch_moved, trying_next, try_next, new_try, is_next_marked, is_surely_own, is_still_in, phase_loaded}
+use Rattle.law_world.specs.Below.fkv_ops.Trying.{TryState, trying_ask, try_ask, with_latch, is_wait, ended_without, ends_so, ends_by, is_bounded, tail_loaded, taken_loaded, must_count, count_loaded, ends, takes_effect, walks, wants_shared, try_begun, shared_ledto, must_shift, wants_exclusive, slot_of, words_of, appends, copies_from, copies, awaits, held_used, met_nowhere, met_disk, changes, is_own_version, region_met, met_record, walked, has_walked, walk_ledto, safe_loaded, current_ledto, value_changed, told_value, answer_ledto, exclusive_ledto, old_ledto, append_ledto, exclusive_dropped, shared_dropped, latch_moved, trying_next, try_next, new_try, is_next_marked, is_surely_own, is_still_in, phase_loaded}
 use Rattle.fkv_latch.specs.declared.latching.Latching.TheVariants as latching
 use Rattle.law_world.specs.Below.fkv_ops.TheWalking.{Walking}
 use Rattle.law_world.specs.Below.fkv_ops.TheWalking.TheVariants as walking
@@ -50,10 +50,14 @@ use Rattle.law_refine.proofs.OfIndex.WalkParts.{is_finding}
 use Rattle.law_refine.proofs.Footprint.Outside.{record_outside}
 use Rattle.law_refine.proofs.Footprint.Walks.{IsWalkSparing, walk_spares, walk_next_spares, walk_on_spares, walk_begun_spares}
 use Rattle.law_refine.proofs.Footprint.Appends.{IsAppendSparing, append_spares, append_next_spares, append_begun_spares}
+use Rattle.law_world.specs.Below.fkv_ops.Bounds.{bounds_at, tail_bound, is_past_taken, is_past_tail}
+use Rattle.law_world.specs.Below.fkv_ops.Waiting.{told_of, waiting_of}
+use Rattle.law_world.specs.Below.fkv_ops.TheWaiting.{Waiting}
 
 -- its walk up to where it appends, its append from there on, and the latch that it works on
 abbrev pub TryBounds : Places → TryState → Trying → Type 0
 TryBounds p t Walks = IsWalkSparing p t.walk
+TryBounds p t CountsTaken = IsWalkSparing p t.walk
 TryBounds p t (LoadsSafe addr version) = IsWalkSparing p t.walk
 TryBounds p t (LoadsCurrent addr) = IsWalkSparing p t.walk
 TryBounds p t LoadsAnswer = IsWalkSparing p t.walk
@@ -90,6 +94,7 @@ trying_spares part p t (Ended its) bounds rests = tt
 trying_spares part p t TakesShared bounds rests = passed_spares part p _ _ (latch_spares part p t.latching bounds rests.latch)
 trying_spares part p t LoadsPhase bounds rests = tt
 trying_spares part p t Walks bounds rests = passed_spares part p _ _ (walk_spares part p t.walk bounds (λ index. walk_past t t.walk.step (rests.search index)))
+trying_spares part p t CountsTaken bounds rests = tt
 trying_spares part p t (LoadsSafe addr version) bounds rests = tt
 trying_spares part p t (SwapsValue addr) bounds rests = record_outside part p addr.0 rec.Value
 trying_spares part p t (LoadsCurrent addr) bounds rests = passed_spares part p _ _ (walk_spares part p t.walk bounds rests.knows)
@@ -98,6 +103,8 @@ trying_spares part p t LoadsAnswer bounds rests = passed_spares part p _ _ (walk
 trying_spares part p t (TakesExclusive old) bounds rests = passed_spares part p _ _ (latch_spares part p t.latching bounds.1 rests.latch)
 trying_spares part p t LoadsOld bounds rests = passed_spares part p _ _ (walk_spares part p t.walk bounds (λ index. (rests.knows index).past))
 trying_spares part p t (Appends its) bounds rests = passed_spares part p _ _ (append_spares part p t t.append bounds rests.entry)
+trying_spares part p t (LoadsTail waiting) bounds rests = tt
+trying_spares part p t (LoadsTaken waiting) bounds rests = tt
 trying_spares part p t (DropsExclusive its) bounds rests = passed_spares part p _ _ (latch_spares part p t.latching bounds rests.latch)
 trying_spares part p t (DropsShared its) bounds rests = passed_spares part p _ _ (latch_spares part p t.latching bounds rests.latch)
 
@@ -115,16 +122,33 @@ stays_spares p t step at bounds = subst (λ x. TryBounds p t x) (sym at) bounds
 without_spares : (p : Places) (t : TryState) (its : TryAnswer) → IsTrySparing p (ended_without p t its)
 without_spares p t its = either_spares (t.has_shared && not (is_wait its)) p (with_latch p (record t { has_shared = false }) DropShared (DropsShared its)) (record t { step = Ended its }) (latch_begins p DropShared t.home.bucket) tt
 
+ends_so_spares : (p : Places) (t : TryState) (its : TryAnswer) → IsTrySparing p (ends_so p t its)
+unfolding ends_so
+ends_so_spares p t its = either_spares t.has_exclusive p (with_latch p (record t { has_exclusive = false }) DropExclusive (DropsExclusive its)) (ended_without p t its) (latch_begins p DropExclusive t.home.bucket) (without_spares p t its)
+
+ends_by_spares : (p : Places) (t : TryState) (its : TryAnswer) (waiting : Option Waiting) → IsTrySparing p (ends_by p t its waiting)
+ends_by_spares p t its None = ends_so_spares p t its
+ends_by_spares p t its (Some waiting) = either_spares (is_bounded t) p (record t { step = LoadsTail waiting }) (ends_so p t its) (tt) (ends_so_spares p t its)
+
 ends_spares : (p : Places) (t : TryState) (its : TryAnswer) → IsTrySparing p (ends p t its)
 unfolding ends
-ends_spares p t its = either_spares t.has_exclusive p (with_latch p (record t { has_exclusive = false }) DropExclusive (DropsExclusive its)) (ended_without p t its) (latch_begins p DropExclusive t.home.bucket) (without_spares p t its)
+ends_spares p t its = ends_by_spares p t its (waiting_of its)
+
+tail_spares : (p : Places) (t : TryState) (waiting : Waiting) (tail : ℕ) → IsTrySparing p (tail_loaded p t waiting tail)
+unfolding tail_loaded
+tail_spares p t waiting tail =
+    either_spares (is_past_tail (bounds_at t.occasion) tail) p (ends_so p t answer.LogFull) (_) (ends_so_spares p t answer.LogFull) (either_spares (t.walk.entry == 0) p (record t { step = LoadsTaken waiting }) (ends_so p t (told_of waiting)) (tt) (ends_so_spares p t (told_of waiting)))
+
+taken_spares : (p : Places) (t : TryState) (waiting : Waiting) (taken : ℕ) → IsTrySparing p (taken_loaded p t waiting taken)
+unfolding taken_loaded
+taken_spares p t waiting taken = either_spares (is_past_taken (bounds_at t.occasion) taken) p (ends_so p t answer.IndexFull) (ends_so p t (told_of waiting)) (ends_so_spares p t answer.IndexFull) (ends_so_spares p t (told_of waiting))
 
 walks_spares : (p : Places) (t : TryState) → IsTrySparing p (walks p t)
-walks_spares p t = walk_begun_spares p t.home (key_of t.request.op) (purpose_of t.request.op) t.seen.offsets.head t.spare
+walks_spares p t = walk_begun_spares p t.home (key_of t.request.op) (purpose_at t.occasion t.request.op) t.seen.offsets.head t.spare
 
 appends_spares : (p : Places) (t : TryState) (old : ℕ) → IsWalkSparing p t.walk → IsTrySparing p (appends t old)
 unfolding appends
-appends_spares p t old bounds = append_begun_spares p (slot_of t) (words_of t.request t.walk.entry (value_of old)) bounds.place
+appends_spares p t old bounds = append_begun_spares p (slot_of t) (words_of t.request t.walk.entry (value_of old)) (tail_bound (bounds_at t.occasion)) bounds.place
 
 copies_from_spares : (p : Places) (t : TryState) (old : OldValue) → IsWalkSparing p t.walk → IsTrySparing p (copies_from t old)
 unfolding copies_from
@@ -145,7 +169,13 @@ held_spares p t addr (Some held) bounds =
     (ends_spares p t _)
 
 nowhere_spares : (p : Places) (t : TryState) → IsWalkSparing p t.walk → IsTrySparing p (met_nowhere p t)
-nowhere_spares p t bounds = either_spares (is_read t.request.op) p (ends p t answer.Absent) (copies p t (Known absent_word) false) (ends_spares p t answer.Absent) (copies_spares p t (Known absent_word) false bounds)
+nowhere_spares p t bounds =
+    either_spares (is_read t.request.op) p (ends p t answer.Absent) _ (ends_spares p t answer.Absent)
+    (either_spares (must_count p t) p (record t { step = CountsTaken }) (copies p t (Known absent_word) false) bounds (copies_spares p t (Known absent_word) false bounds))
+
+count_spares : (p : Places) (t : TryState) (taken : ℕ) → IsWalkSparing p t.walk → IsTrySparing p (count_loaded p t taken)
+unfolding count_loaded
+count_spares p t taken bounds = either_spares (is_past_taken (bounds_at t.occasion) taken) p (ends p t answer.IndexFull) (copies p t (Known absent_word) false) (ends_spares p t answer.IndexFull) (copies_spares p t (Known absent_word) false bounds)
 
 disk_spares : (p : Places) (t : TryState) (addr : Addr) → IsWalkSparing p t.walk → IsTrySparing p (met_disk p t addr)
 disk_spares p t addr bounds =
@@ -170,6 +200,7 @@ walked_spares p t walk.Nowhere bounds = nowhere_spares p t bounds
 walked_spares p t (walk.OnDisk addr) bounds = disk_spares p t addr bounds
 walked_spares p t (walk.Value value) bounds = ends_spares p t _
 walked_spares p t walk.Full bounds = ends_spares p t _
+walked_spares p t walk.Kept bounds = ends_spares p t _
 walked_spares p t walk.Contended bounds = ends_spares p t _
 
 walk_ledto_spares : (p : Places) (t : TryState) (ask : Ask WalkAnswer) → t.step ≡ Walks → IsWalkSparing p t.walk → IsTrySparing p (walk_ledto p t ask)
@@ -244,6 +275,7 @@ next_spares p room t (Ended its) reply at bounds = stays_spares p t (Ended its) 
 next_spares p room t TakesShared reply at bounds = shared_spares p (latch_moved t reply) (latch_next_ask t.latching reply) at (latch_stays p t.latching reply bounds)
 next_spares p room t LoadsPhase reply at bounds = phase_spares p t (phase_said reply)
 next_spares p room t Walks reply at bounds = walk_ledto_spares p (record t { walk = walk_next p t.walk reply }) (walk_ask p (walk_next p t.walk reply)) at (walk_next_spares p t.walk reply bounds)
+next_spares p room t CountsTaken reply at bounds = count_spares p t reply bounds
 next_spares p room t (LoadsSafe addr version) reply at bounds = safe_spares p t addr version reply bounds
 next_spares p room t (SwapsValue addr) reply at bounds = ends_spares p (record t { effect = Some (reply_from None t.request.op) }) _
 next_spares p room t (LoadsCurrent addr) reply at bounds = current_spares p (record t { walk = walk_next p t.walk reply }) addr (walk_ask p (walk_next p t.walk reply)) at (walk_next_spares p t.walk reply bounds)
@@ -252,6 +284,8 @@ next_spares p room t LoadsAnswer reply at bounds = answer_spares p (record t { w
 next_spares p room t (TakesExclusive old) reply at bounds = exclusive_spares p (latch_moved t reply) old (latch_next_ask t.latching reply) at bounds.0 (latch_stays p t.latching reply bounds.1)
 next_spares p room t LoadsOld reply at bounds = old_spares p (record t { walk = walk_next p t.walk reply }) (walk_ask p (walk_next p t.walk reply)) at (walk_next_spares p t.walk reply bounds)
 next_spares p room t (Appends its) reply at bounds = append_ledto_spares p (record t { append = append_next p room t.append reply }) its (append_ask p (append_next p room t.append reply)) at (append_next_spares p room t.append reply bounds)
+next_spares p room t (LoadsTail waiting) reply at bounds = tail_spares p t waiting reply
+next_spares p room t (LoadsTaken waiting) reply at bounds = taken_spares p t waiting reply
 next_spares p room t (DropsExclusive its) reply at bounds = dropped_spares p (latch_moved t reply) its (latch_next_ask t.latching reply) at (latch_stays p t.latching reply bounds)
 next_spares p room t (DropsShared its) reply at bounds = unshared_spares p (latch_moved t reply) its (latch_next_ask t.latching reply) at (latch_stays p t.latching reply bounds)
 

@@ -81,6 +81,7 @@ slot_found_spares : (p : Places) (w : WalkState) (its : Found) → IsIndexAlone 
 slot_found_spares p w (found.Slot place word) none its = reached_spares p (record w { place = place; entry = word }) (entry_addr word) its
 slot_found_spares p w found.NoSlot none its = ended_spares p w answer.Nowhere none
 slot_found_spares p w found.Full none its = ended_spares p w answer.Full none
+slot_found_spares p w found.Kept none its = ended_spares p w answer.Kept none
 slot_found_spares p w found.Contended none its = ended_spares p w answer.Contended none
 
 -- a search goes on

@@ -62,7 +62,7 @@ reserve_on : (room : ℕ) (a : AppendState) (made : NewRecord) (its : Reserving)
     → MovesOn (asked_place (reserve_ask its)) (asked (reserve_ask its)) reply (reserved_ghosts a made (reserve_next_ask room its reply)) None (holding made (reserve_ledto (record a { reserving = reserve_next its reply }) (reserve_next_ask room its reply)))
 unfolding reserve_ask reserve_next reserve_next_ask reserve_ledto
 reserve_on room a made reserving.AtRest reply at = Keeps [] None tt
-reserve_on room a made reserving.LoadsLimit reply at = rw at (Keeps [] None tt)
+reserve_on room a made (reserving.LoadsLimit bound) reply at = rw at (Keeps [] None tt)
 reserve_on room a made (reserving.LoadsTail limit) reply at = by_test (nat_lt reply limit)
   where
     by_room : (c : Bool) → MovesOn (Some (shared_place one.Tail)) (λ n. n) reply (reserved_ghosts a made (Done (if c then reserve.Full else reserve.NoRoom))) None

@@ -1,7 +1,6 @@
 -- The try of a read walks, loads its answer and ends: it swaps, changes and appends nothing.
-use Rattle.std.proofs.Common.{◌≡◌, ℕ, Bool, true, false}
-use Rattle.std.specs.Prelude.{◌&&◌, not, if◌then◌else◌, ⊤, None}
-use Rattle.fkv_map.specs.Keys.{key_of}
+use Rattle.std.proofs.Common.{◌≡◌, ℕ, refl, Bool, true, false}
+use Rattle.std.specs.Prelude.{◌&&◌, not, if◌then◌else◌, ⊤, None, Option, Some}
 use Rattle.fkv_words.specs.declared.phase_words.PhaseSaid.{PhaseSaid}
 use Rattle.fkv_words.specs.PhaseWords.{phase_said}
 use Rattle.fkv_plane.specs.declared.asks.Ask.{Ask}
@@ -10,7 +9,6 @@ use Rattle.fkv_plane.specs.declared.places.Places.{Places}
 use Rattle.fkv_latch.specs.declared.latching.LatchAnswer.{LatchAnswer}
 use Rattle.fkv_latch.specs.declared.latching.LatchAnswer.TheVariants as latch
 use Rattle.fkv_latch.specs.declared.latching.LatchTask.TheVariants.{TakeShared, DropShared, DropExclusive}
-use Rattle.fkv_index.specs.Slots.{home_of}
 use Rattle.law_world.specs.Below.fkv_ops.Reason.TheVariants as reason
 use Rattle.law_world.specs.Below.fkv_ops.TryAnswer.{TryAnswer}
 use Rattle.law_world.specs.Below.fkv_ops.TryAnswer.TheVariants as answer
@@ -18,20 +16,24 @@ use Rattle.law_world.specs.Below.fkv_ops.Occasion.{Occasion}
 use Rattle.law_world.specs.Below.fkv_ops.Request.{Request}
 use Rattle.law_world.specs.Below.fkv_ops.Seen.{Seen}
 use Rattle.law_world.specs.Below.fkv_ops.TheTrying.{Trying}
-use Rattle.law_world.specs.Below.fkv_ops.TheTrying.TheVariants.{Ended, TakesShared, LoadsPhase, Walks, LoadsSafe, SwapsValue, LoadsCurrent, ChangesValue, LoadsAnswer, TakesExclusive, LoadsOld, Appends, DropsExclusive, DropsShared}
+use Rattle.law_world.specs.Below.fkv_ops.TheTrying.TheVariants.{Ended, TakesShared, LoadsPhase, Walks, CountsTaken, LoadsSafe, SwapsValue, LoadsCurrent, ChangesValue, LoadsAnswer, TakesExclusive, LoadsOld, Appends, LoadsTail, LoadsTaken, DropsExclusive, DropsShared}
 use Rattle.law_world.specs.Below.fkv_ops.WalkAnswer.{WalkAnswer}
 use Rattle.law_world.specs.Below.fkv_ops.WalkAnswer.TheVariants as walk
 use Rattle.law_world.specs.Below.fkv_ops.Requests.{is_read}
 use Rattle.law_world.specs.Below.fkv_ops.Values.{value_of}
 use Rattle.law_world.specs.Below.fkv_ops.Walking.{walk_on}
-use Rattle.law_world.specs.Below.fkv_ops.Trying.{TryState, with_latch, is_wait, ended_without, ends, full_at, wants_shared, walks, try_begun, shared_ledto, must_shift, region_met, walked, has_walked, walk_ledto, told_value, answer_ledto, exclusive_dropped, shared_dropped, trying_next, try_next, new_try, is_next_marked, is_still_in, phase_loaded}
+use Rattle.law_world.specs.Below.fkv_ops.Trying.{TryState, with_latch, is_wait, ended_without, ends_so, ends_by, ends, full_at, wants_shared, walks, try_begun, shared_ledto, must_shift, region_met, walked, has_walked, walk_ledto, told_value, answer_ledto, exclusive_dropped, shared_dropped, trying_next, try_next, new_try, is_next_marked, is_still_in, phase_loaded}
 use Rattle.law_world.specs.Below.fkv_pending.PendingRequest.{PendingRequest}
 use Rattle.law_refine.specs.Events.Effects.{AreQuiet}
 use Rattle.law_refine.specs.Events.Tries.{try_ghosts}
 use Rattle.law_refine.proofs.OfEvents.TryEffects.{search_quiet}
+use Rattle.law_world.specs.Below.fkv_ops.Bounds.{bounds_at, has_bounds}
+use Rattle.law_world.specs.Below.fkv_ops.Waiting.{waiting_of}
+use Rattle.law_world.specs.Below.fkv_ops.TheWaiting.{Waiting}
 
 -- no state of an update's alone
 abbrev pub IsReadStep : Trying → Type 0
+IsReadStep CountsTaken = ⊥
 IsReadStep (LoadsSafe addr version) = ⊥
 IsReadStep (SwapsValue addr) = ⊥
 IsReadStep (LoadsCurrent addr) = ⊥
@@ -39,6 +41,8 @@ IsReadStep (ChangesValue addr old) = ⊥
 IsReadStep (TakesExclusive old) = ⊥
 IsReadStep LoadsOld = ⊥
 IsReadStep (Appends its) = ⊥
+IsReadStep (LoadsTail waiting) = ⊥
+IsReadStep (LoadsTaken waiting) = ⊥
 IsReadStep step = ⊤
 
 pub record IsReadTry (t : TryState) : Type 0 where
@@ -59,9 +63,23 @@ ended_read : (p : Places) (t : TryState) (its : TryAnswer) → is_read t.request
 ended_read p t its e =
     either_read (t.has_shared && not (is_wait its)) (with_latch p (record t { has_shared = false }) DropShared (DropsShared its)) (record t { step = Ended its }) (record { reads = e; step = tt }) (record { reads = e; step = tt })
 
+ends_so_read : (p : Places) (t : TryState) (its : TryAnswer) → is_read t.request.op ≡ true → IsReadTry (ends_so p t its)
+unfolding ends_so
+ends_so_read p t its e = either_read t.has_exclusive (with_latch p (record t { has_exclusive = false }) DropExclusive (DropsExclusive its)) (ended_without p t its) (record { reads = e; step = tt }) (ended_read p t its e)
+
+-- it looks for no room
+none_bounded : (b c : Bool) → c ≡ true → (b && not c) ≡ false
+none_bounded true true e = refl
+none_bounded false true e = refl
+none_bounded b false e = cc
+
+ends_by_read : (p : Places) (t : TryState) (its : TryAnswer) (waiting : Option Waiting) → is_read t.request.op ≡ true → IsReadTry (ends_by p t its waiting)
+ends_by_read p t its None e = ends_so_read p t its e
+ends_by_read p t its (Some waiting) e = rw (none_bounded (has_bounds (bounds_at t.occasion)) (is_read t.request.op) e) (ends_so_read p t its e)
+
 ends_read : (p : Places) (t : TryState) (its : TryAnswer) → is_read t.request.op ≡ true → IsReadTry (ends p t its)
 unfolding ends
-ends_read p t its e = either_read t.has_exclusive (with_latch p (record t { has_exclusive = false }) DropExclusive (DropsExclusive its)) (ended_without p t its) (record { reads = e; step = tt }) (ended_read p t its e)
+ends_read p t its e = ends_by_read p t its (waiting_of its) e
 
 walked_read : (p : Places) (t : TryState) (its : WalkAnswer) → is_read t.request.op ≡ true → IsReadTry (walked p t its)
 walked_read p t (walk.Found addr version) e = then_read (is_read t.request.op) (record t { walk = walk_on t.walk; step = LoadsAnswer }) (region_met p t addr version _) e (record { reads = e; step = tt })
@@ -69,6 +87,7 @@ walked_read p t walk.Nowhere e = then_read (is_read t.request.op) (ends p t answ
 walked_read p t (walk.OnDisk addr) e = then_read (is_read t.request.op) (ends p t _) _ e (ends_read p t _ e)
 walked_read p t (walk.Value value) e = ends_read p t (answer.Wait reason.Contended) e
 walked_read p t walk.Full e = ends_read p t (full_at t.occasion answer.IndexFull) e
+walked_read p t walk.Kept e = ends_read p t (full_at t.occasion answer.IndexFull) e
 walked_read p t walk.Contended e = ends_read p t (answer.Wait reason.Contended) e
 
 -- ---- each reply to it
@@ -111,6 +130,7 @@ step_read p room t (Ended end) reply knows its = its
 step_read p room t TakesShared reply knows its = shared_read p _ _ (record { reads = its.reads; step = its.step })
 step_read p room t LoadsPhase reply knows its = phase_read p t (phase_said reply) its.reads
 step_read p room t Walks reply knows its = walk_read p _ _ (record { reads = its.reads; step = its.step })
+step_read p room t CountsTaken reply knows its = absurd knows
 step_read p room t (LoadsSafe addr version) reply knows its = absurd knows
 step_read p room t (SwapsValue addr) reply knows its = absurd knows
 step_read p room t (LoadsCurrent addr) reply knows its = absurd knows
@@ -119,6 +139,8 @@ step_read p room t LoadsAnswer reply knows its = answer_read p _ _ (record { rea
 step_read p room t (TakesExclusive old) reply knows its = absurd knows
 step_read p room t LoadsOld reply knows its = absurd knows
 step_read p room t (Appends made) reply knows its = absurd knows
+step_read p room t (LoadsTail waiting) reply knows its = absurd knows
+step_read p room t (LoadsTaken waiting) reply knows its = absurd knows
 step_read p room t (DropsExclusive end) reply knows its = exclusive_read p _ end _ (record { reads = its.reads; step = its.step })
 step_read p room t (DropsShared end) reply knows its = dropped_read _ end _ (record { reads = its.reads; step = its.step })
 

@@ -25,6 +25,7 @@ use Rattle.law_world.specs.Below.fkv_ops.HeaderSaid.{HeaderSaid}
 use Rattle.law_world.specs.Below.fkv_ops.HeaderSaid.TheVariants.{Says, Spoiled}
 use Rattle.law_world.specs.Below.fkv_ops.Occasion.{Occasion}
 use Rattle.law_world.specs.Below.fkv_ops.Occasion.TheVariants.{Call as AtCall, Poll as AtPoll}
+use Rattle.law_world.specs.Below.fkv_ops.Bounds.{bounds_of}
 use Rattle.law_world.specs.Below.fkv_ops.Seen.{Seen}
 use Rattle.law_world.specs.Below.fkv_ops.HeaderWords.{header_said}
 use Rattle.law_world.specs.Below.fkv_ops.Requests.{is_read}
@@ -239,7 +240,7 @@ hand_named false ticket serial one other = other
 
 attempts_so : (k : Seat) (s : SessionState) (has_shifted : Bool) → AreNamedSo s.requests → IsSo (attempts k s has_shifted)
 unfolding attempts
-attempts_so k s has_shifted all = record { waiting = all; sits = begun_so k.places (bits_of k) (request_in_hand s) s.seen AtCall s.spare s.is_orphaned (hand_named (is_read s.op) _ _ refl refl) }
+attempts_so k s has_shifted all = record { waiting = all; sits = begun_so k.places (bits_of k) (request_in_hand s) s.seen (AtCall (bounds_of k.shape)) s.spare s.is_orphaned (hand_named (is_read s.op) _ _ refl refl) }
 
 turns_so : (s : SessionState) (its : Told) → AreNamedSo s.requests → IsSo (answers_after_turn s its)
 turns_so s its all = either_so s.wants_turn (record s { own_turn = own_turn_begun s.own_turn; step = Turns its }) (answers s its) (record { waiting = all; sits = tt }) (plain s its all)

@@ -11,6 +11,7 @@ use Rattle.law_world.specs.Below.fkv_ops.Reason.TheVariants as reason
 use Rattle.law_world.specs.Below.fkv_ops.TryAnswer.{TryAnswer}
 use Rattle.law_world.specs.Below.fkv_ops.TryAnswer.TheVariants as tried
 use Rattle.law_world.specs.Below.fkv_ops.Occasion.TheVariants.{Call as AtCall, Poll as AtPoll}
+use Rattle.law_world.specs.Below.fkv_ops.Bounds.{bounds_of}
 use Rattle.law_world.specs.Below.fkv_ops.Requests.{is_read}
 use Rattle.law_world.specs.Below.fkv_pending.TheAttempting.{Attempting}
 use Rattle.law_world.specs.Below.fkv_pending.TheAttempting.TheVariants as attempting
@@ -52,7 +53,7 @@ either_free number false a b one other = other
 
 pub attempts_free : (number : ℕ) (k : Seat) (s : SessionState) (has_shifted : Bool) → IsFreeOf number (attempts k s has_shifted)
 unfolding attempts
-attempts_free number k s has_shifted = attempt_begun_free number k.places (bits_of k) (request_in_hand s) s.seen AtCall s.spare s.is_orphaned
+attempts_free number k s has_shifted = attempt_begun_free number k.places (bits_of k) (request_in_hand s) s.seen (AtCall (bounds_of k.shape)) s.spare s.is_orphaned
 
 after_turn_free : (number : ℕ) (s : SessionState) (its : Told) → IsFreeOf number (answers_after_turn s its)
 after_turn_free number s its = either_free number s.wants_turn (record s { own_turn = own_turn_begun s.own_turn; step = Turns its }) (answers s its) refl refl

@@ -26,7 +26,7 @@ use Rattle.fkv_latch.specs.declared.latching.LatchAnswer.TheVariants as latch
 use Rattle.fkv_latch.specs.declared.latching.LatchTask.TheVariants.{TakeShared, DropShared, TakeExclusive, DropExclusive}
 use Rattle.fkv_index.specs.IndexWorld.{new_entry}
 use Rattle.fkv_index.specs.Publishing.{publish_next, publish_next_ask}
-use Rattle.fkv_index.specs.Slots.{entry_addr, home_of}
+use Rattle.fkv_index.specs.Slots.{entry_addr}
 use Rattle.fkv_index.specs.declared.publishing.PublishAnswer.TheVariants as publish
 use Rattle.fkv_index.specs.declared.publishing.Publishing.{Publishing}
 use Rattle.fkv_index.specs.declared.publishing.Publishing.TheVariants.{AtRest, SwapsEntry}
@@ -44,14 +44,17 @@ use Rattle.law_world.specs.Below.fkv_ops.Seen.{Seen}
 use Rattle.law_world.specs.Below.fkv_ops.OldValue.{OldValue}
 use Rattle.law_world.specs.Below.fkv_ops.OldValue.TheVariants.{InMemory, Known}
 use Rattle.law_world.specs.Below.fkv_ops.TheTrying.{Trying}
-use Rattle.law_world.specs.Below.fkv_ops.TheTrying.TheVariants.{Ended, TakesShared, LoadsPhase, Walks, LoadsSafe, SwapsValue, LoadsCurrent, ChangesValue, LoadsAnswer, TakesExclusive, LoadsOld, Appends, DropsExclusive, DropsShared}
+use Rattle.law_world.specs.Below.fkv_ops.TheTrying.TheVariants.{Ended, TakesShared, LoadsPhase, Walks, CountsTaken, LoadsSafe, SwapsValue, LoadsCurrent, ChangesValue, LoadsAnswer, TakesExclusive, LoadsOld, Appends, LoadsTail, LoadsTaken, DropsExclusive, DropsShared}
 use Rattle.law_world.specs.Below.fkv_ops.WalkAnswer.{WalkAnswer}
 use Rattle.law_world.specs.Below.fkv_ops.WalkAnswer.TheVariants as walk
 use Rattle.law_world.specs.Below.fkv_ops.Requests.{is_read, is_blind}
 use Rattle.law_world.specs.Below.fkv_ops.Values.{value_of}
 use Rattle.law_world.specs.Below.fkv_ops.Walking.{walk_on}
 use Rattle.law_world.specs.Below.fkv_ops.Appending.{AppendState, append_ended, append_ask, append_next, reserve_ledto, fill_ledto, publish_ledto, invalidate_ledto, appending_next}
-use Rattle.law_world.specs.Below.fkv_ops.Trying.{TryState, with_latch, is_wait, ended_without, ends, takes_effect, full_at, wants_shared, walks, try_begun, shared_ledto, must_shift, wants_exclusive, appends, copies_from, copies, awaits, held_used, changes, is_own_version, region_met, walked, has_walked, walk_ledto, safe_loaded, current_ledto, value_changed, told_value, answer_ledto, exclusive_ledto, old_ledto, append_ledto, exclusive_dropped, shared_dropped, trying_next, try_next, new_try, is_next_marked, is_still_in, phase_loaded, is_surely_own}
+use Rattle.law_world.specs.Below.fkv_ops.Trying.{TryState, with_latch, is_wait, ended_without, ends_so, ends_by, is_bounded, tail_loaded, taken_loaded, must_count, count_loaded, ends, takes_effect, full_at, wants_shared, walks, try_begun, shared_ledto, must_shift, wants_exclusive, appends, copies_from, copies, awaits, held_used, changes, is_own_version, region_met, walked, has_walked, walk_ledto, safe_loaded, current_ledto, value_changed, told_value, answer_ledto, exclusive_ledto, old_ledto, append_ledto, exclusive_dropped, shared_dropped, trying_next, try_next, new_try, is_next_marked, is_still_in, phase_loaded, is_surely_own}
+use Rattle.law_world.specs.Below.fkv_ops.Bounds.{bounds_at, is_past_taken, is_past_tail}
+use Rattle.law_world.specs.Below.fkv_ops.Waiting.{told_of, waiting_of}
+use Rattle.law_world.specs.Below.fkv_ops.TheWaiting.{Waiting}
 
 -- ---- an append
 -- by its control state: the address fits an entry, and the publish swaps in a word with it
@@ -140,10 +143,27 @@ ended_at : (p : Places) (request : Request) (t : TryState) (its : TryAnswer) →
 ended_at p request t its e =
     either_at (t.has_shared && not (is_wait its)) request (with_latch p (record t { has_shared = false }) DropShared (DropsShared its)) (record t { step = Ended its }) (record { same = e; knows = tt }) (record { same = e; knows = tt })
 
+ends_so_at : (p : Places) (request : Request) (t : TryState) (its : TryAnswer) → t.request ≡ request → IsTryAt request (ends_so p t its)
+unfolding ends_so
+ends_so_at p request t its e =
+    either_at t.has_exclusive request (with_latch p (record t { has_exclusive = false }) DropExclusive (DropsExclusive its)) (ended_without p t its) (record { same = e; knows = tt }) (ended_at p request t its e)
+
+ends_by_at : (p : Places) (request : Request) (t : TryState) (its : TryAnswer) (waiting : Option Waiting) → t.request ≡ request → IsTryAt request (ends_by p t its waiting)
+ends_by_at p request t its None e = ends_so_at p request t its e
+ends_by_at p request t its (Some waiting) e = either_at (is_bounded t) request (record t { step = LoadsTail waiting }) (ends_so p t its) (record { same = e; knows = tt }) (ends_so_at p request t its e)
+
 ends_at : (p : Places) (request : Request) (t : TryState) (its : TryAnswer) → t.request ≡ request → IsTryAt request (ends p t its)
 unfolding ends
-ends_at p request t its e =
-    either_at t.has_exclusive request (with_latch p (record t { has_exclusive = false }) DropExclusive (DropsExclusive its)) (ended_without p t its) (record { same = e; knows = tt }) (ended_at p request t its e)
+ends_at p request t its e = ends_by_at p request t its (waiting_of its) e
+
+tail_at : (p : Places) (request : Request) (t : TryState) (waiting : Waiting) (tail : ℕ) → t.request ≡ request → IsTryAt request (tail_loaded p t waiting tail)
+unfolding tail_loaded
+tail_at p request t waiting tail e =
+    either_at (is_past_tail (bounds_at t.occasion) tail) request (ends_so p t answer.LogFull) (_) (ends_so_at p request t answer.LogFull e) (either_at (t.walk.entry == 0) request (record t { step = LoadsTaken waiting }) (ends_so p t (told_of waiting)) (record { same = e; knows = tt }) (ends_so_at p request t (told_of waiting) e))
+
+taken_at : (p : Places) (request : Request) (t : TryState) (waiting : Waiting) (taken : ℕ) → t.request ≡ request → IsTryAt request (taken_loaded p t waiting taken)
+unfolding taken_loaded
+taken_at p request t waiting taken e = either_at (is_past_taken (bounds_at t.occasion) taken) request (ends_so p t answer.IndexFull) (ends_so p t (told_of waiting)) (ends_so_at p request t answer.IndexFull e) (ends_so_at p request t (told_of waiting) e)
 
 takes_at : (p : Places) (request : Request) (t : TryState) (its : Reply) → t.request ≡ request → IsTryAt request (takes_effect p t its)
 takes_at p request t its e = ends_at p request (record t { effect = Some its }) (answer.Done its) e
@@ -161,6 +181,10 @@ copies_at : (p : Places) (request : Request) (t : TryState) (old : OldValue) (is
 unfolding copies
 copies_at p request t old is_current e =
     either_at (wants_exclusive t is_current) request (with_latch p t TakeExclusive (TakesExclusive old)) (copies_from t old) (record { same = e; knows = tt }) (from_at request t old e)
+
+count_at : (p : Places) (request : Request) (t : TryState) (taken : ℕ) → t.request ≡ request → IsTryAt request (count_loaded p t taken)
+unfolding count_loaded
+count_at p request t taken e = either_at (is_past_taken (bounds_at t.occasion) taken) request (ends p t answer.IndexFull) (copies p t (Known absent_word) false) (ends_at p request t answer.IndexFull e) (copies_at p request t (Known absent_word) false e)
 
 held_at : (p : Places) (request : Request) (t : TryState) (addr : Addr) (held : Option HeldRecord) → t.request ≡ request → IsTryAt request (held_used p t addr held)
 unfolding held_used
@@ -186,12 +210,14 @@ walked_at p request t (walk.Found addr found) e =
     either_at (is_read t.request.op) request (record t { walk = walk_on t.walk; step = LoadsAnswer }) (region_met p t addr found (seen_region_of addr.0 t.seen.offsets)) (record { same = e; knows = tt })
     (region_at p request t addr found (seen_region_of addr.0 t.seen.offsets) e)
 walked_at p request t walk.Nowhere e =
-    either_at (is_read t.request.op) request (ends p t answer.Absent) (copies p t (Known absent_word) false) (ends_at p request t answer.Absent e) (copies_at p request t (Known absent_word) false e)
+    either_at (is_read t.request.op) request (ends p t answer.Absent) _ (ends_at p request t answer.Absent e)
+    (either_at (must_count p t) request (record t { step = CountsTaken }) (copies p t (Known absent_word) false) (record { same = e; knows = tt }) (copies_at p request t (Known absent_word) false e))
 walked_at p request t (walk.OnDisk addr) e =
     either_at (is_read t.request.op) request (awaits p t addr) _ (ends_at p request t _ e)
     (either_at (is_blind t.request.op) request (copies p t (Known absent_word) false) (held_used p t addr t.request.held) (copies_at p request t (Known absent_word) false e) (held_at p request t addr t.request.held e))
 walked_at p request t (walk.Value value) e = ends_at p request t (answer.Wait reason.Contended) e
 walked_at p request t walk.Full e = ends_at p request t (full_at t.occasion answer.IndexFull) e
+walked_at p request t walk.Kept e = ends_at p request t (full_at t.occasion answer.IndexFull) e
 walked_at p request t walk.Contended e = ends_at p request t (answer.Wait reason.Contended) e
 
 -- a state that goes on, and is no append
@@ -272,6 +298,7 @@ step_at p room request t (Ended end) reply at so e = stays_at request t (Ended e
 step_at p room request t TakesShared reply at so e = shared_at p request _ _ at e
 step_at p room request t LoadsPhase reply at so e = phase_at p request t (phase_said reply) e
 step_at p room request t Walks reply at so e = walk_at p request _ _ at e
+step_at p room request t CountsTaken reply at so e = count_at p request t reply e
 step_at p room request t (LoadsSafe addr found) reply at so e = safe_at p request t addr found reply e
 step_at p room request t (SwapsValue addr) reply at so e = takes_at p request t _ e
 step_at p room request t (LoadsCurrent addr) reply at so e = current_at p request _ addr _ at e
@@ -281,6 +308,8 @@ step_at p room request t (TakesExclusive old) reply at so e = exclusive_at p req
 step_at p room request t LoadsOld reply at so e = old_at p request _ _ at e
 step_at p room request t (Appends its) reply at so e =
     append_at p request (record t { append = append_next p room t.append reply }) its (append_ask p (append_next p room t.append reply)) at (appending_of p room request t.append t.append.step reply refl so.holds so.same) e
+step_at p room request t (LoadsTail waiting) reply at so e = tail_at p request t waiting reply e
+step_at p room request t (LoadsTaken waiting) reply at so e = taken_at p request t waiting reply e
 step_at p room request t (DropsExclusive end) reply at so e = exclusive_dropped_at p request _ end _ at e
 step_at p room request t (DropsShared end) reply at so e = shared_dropped_at request _ end _ at e
 

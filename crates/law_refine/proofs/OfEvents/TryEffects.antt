@@ -26,7 +26,6 @@ use Rattle.fkv_latch.specs.declared.latching.LatchAnswer.{LatchAnswer}
 use Rattle.fkv_latch.specs.declared.latching.LatchAnswer.TheVariants as latch
 use Rattle.fkv_latch.specs.declared.latching.LatchTask.TheVariants.{DropShared, TakeExclusive, DropExclusive}
 use Rattle.fkv_latch.specs.Latching.{latch_next_ask}
-use Rattle.fkv_index.specs.declared.finding.Found.{Found}
 use Rattle.law_world.specs.Below.fkv_ops.Reason.TheVariants as reason
 use Rattle.law_world.specs.Below.fkv_ops.TryAnswer.{TryAnswer}
 use Rattle.law_world.specs.Below.fkv_ops.TryAnswer.TheVariants as answer
@@ -39,14 +38,14 @@ use Rattle.law_world.specs.Below.fkv_ops.Request.{Request}
 use Rattle.law_world.specs.Below.fkv_ops.OldValue.{OldValue}
 use Rattle.law_world.specs.Below.fkv_ops.OldValue.TheVariants.{InMemory, Known}
 use Rattle.law_world.specs.Below.fkv_ops.TheTrying.{Trying}
-use Rattle.law_world.specs.Below.fkv_ops.TheTrying.TheVariants.{Ended, TakesShared, LoadsPhase, Walks, LoadsSafe, SwapsValue, LoadsCurrent, ChangesValue, LoadsAnswer, TakesExclusive, LoadsOld, Appends, DropsExclusive, DropsShared}
+use Rattle.law_world.specs.Below.fkv_ops.TheTrying.TheVariants.{Ended, TakesShared, LoadsPhase, Walks, CountsTaken, LoadsSafe, SwapsValue, LoadsCurrent, ChangesValue, LoadsAnswer, TakesExclusive, LoadsOld, Appends, LoadsTail, LoadsTaken, DropsExclusive, DropsShared}
 use Rattle.law_world.specs.Below.fkv_ops.WalkAnswer.{WalkAnswer}
 use Rattle.law_world.specs.Below.fkv_ops.WalkAnswer.TheVariants as walk
 use Rattle.law_world.specs.Below.fkv_ops.Requests.{is_read, is_blind}
 use Rattle.law_world.specs.Below.fkv_ops.Values.{value_of, word_of}
 use Rattle.law_world.specs.Below.fkv_ops.Walking.{WalkState, walk_ask, walk_next, walk_on}
 use Rattle.law_world.specs.Below.fkv_ops.Appending.{AppendState, append_ask, append_next, append_ended, appending_ask, reserve_ledto, fill_ledto, publish_ledto, invalidate_ledto, appending_next}
-use Rattle.law_world.specs.Below.fkv_ops.Trying.{TryState, with_latch, is_wait, ended_without, ends, takes_effect, full_at, shared_ledto, must_shift, wants_exclusive, appends, copies_from, copies, awaits, held_used, met_nowhere, met_disk, changes, is_own_version, region_met, met_record, walked, has_walked, walk_ledto, safe_loaded, current_ledto, told_value, answer_ledto, exclusive_ledto, old_ledto, append_ledto, exclusive_dropped, shared_dropped, latch_moved, walk_moved, trying_ask, try_ask, trying_next, try_next, is_next_marked, is_still_in, phase_loaded, is_surely_own, walks}
+use Rattle.law_world.specs.Below.fkv_ops.Trying.{TryState, with_latch, is_wait, ended_without, ends_so, ends_by, is_bounded, tail_loaded, taken_loaded, must_count, count_loaded, ends, takes_effect, full_at, shared_ledto, must_shift, wants_exclusive, appends, copies_from, copies, awaits, held_used, met_nowhere, met_disk, changes, is_own_version, region_met, met_record, walked, has_walked, walk_ledto, safe_loaded, current_ledto, told_value, answer_ledto, exclusive_ledto, old_ledto, append_ledto, exclusive_dropped, shared_dropped, latch_moved, walk_moved, trying_ask, try_ask, trying_next, try_next, is_next_marked, is_still_in, phase_loaded, is_surely_own, walks}
 use Rattle.law_world.proofs.Below.fkv_ops.Shown.{is_append_end, TryRestsOrAsks, IsAppendUnderWay}
 use Rattle.law_world.specs.Below.fkv_pending.PendingRequest.{PendingRequest}
 use Rattle.law_world.specs.Below.fkv_log.ReserveAnswer.{ReserveAnswer}
@@ -69,6 +68,9 @@ use Rattle.law_refine.specs.Events.Reservations.{Reservation, reservation, appen
 use Rattle.law_refine.proofs.OfEvents.TryAppends.{HoldsAt, WordsAre, KnowsAt, IsTryAt}
 use Rattle.law_refine.specs.Events.Tries.{search_ghosts, try_ghosts}
 use Rattle.law_refine.proofs.OfEvents.Searches.{invalidate_all, search_all}
+use Rattle.law_world.specs.Below.fkv_ops.Bounds.{bounds_at, is_past_taken, is_past_tail}
+use Rattle.law_world.specs.Below.fkv_ops.Waiting.{told_of, waiting_of}
+use Rattle.law_world.specs.Below.fkv_ops.TheWaiting.{Waiting}
 
 -- the entry of an effect with this reply
 abbrev pub made_entry : ℕ → PendingRequest → Option Reply → Option HistoryEntry
@@ -191,9 +193,26 @@ either_keeps false a b made one other = other
 without_keeps : (p : Places) (t : TryState) (its : TryAnswer) → (ended_without p t its).effect ≡ t.effect
 without_keeps p t its = either_keeps (t.has_shared && not (is_wait its)) (with_latch p (record t { has_shared = false }) DropShared (DropsShared its)) (record t { step = Ended its }) t.effect refl refl
 
+ends_so_keeps : (p : Places) (t : TryState) (its : TryAnswer) → (ends_so p t its).effect ≡ t.effect
+unfolding ends_so
+ends_so_keeps p t its = either_keeps t.has_exclusive (with_latch p (record t { has_exclusive = false }) DropExclusive (DropsExclusive its)) (ended_without p t its) t.effect refl (without_keeps p t its)
+
+ends_by_keeps : (p : Places) (t : TryState) (its : TryAnswer) (waiting : Option Waiting) → (ends_by p t its waiting).effect ≡ t.effect
+ends_by_keeps p t its None = ends_so_keeps p t its
+ends_by_keeps p t its (Some waiting) = either_keeps (is_bounded t) (record t { step = LoadsTail waiting }) (ends_so p t its) t.effect (refl) (ends_so_keeps p t its)
+
 ends_keeps : (p : Places) (t : TryState) (its : TryAnswer) → (ends p t its).effect ≡ t.effect
 unfolding ends
-ends_keeps p t its = either_keeps t.has_exclusive (with_latch p (record t { has_exclusive = false }) DropExclusive (DropsExclusive its)) (ended_without p t its) t.effect refl (without_keeps p t its)
+ends_keeps p t its = ends_by_keeps p t its (waiting_of its)
+
+tail_keeps : (p : Places) (t : TryState) (waiting : Waiting) (tail : ℕ) → (tail_loaded p t waiting tail).effect ≡ t.effect
+unfolding tail_loaded
+tail_keeps p t waiting tail =
+    either_keeps (is_past_tail (bounds_at t.occasion) tail) (ends_so p t answer.LogFull) (if t.walk.entry == 0 then record t { step = LoadsTaken waiting } else ends_so p t (told_of waiting)) t.effect (ends_so_keeps p t answer.LogFull) (either_keeps (t.walk.entry == 0) (record t { step = LoadsTaken waiting }) (ends_so p t (told_of waiting)) t.effect (refl) (ends_so_keeps p t (told_of waiting)))
+
+taken_keeps : (p : Places) (t : TryState) (waiting : Waiting) (taken : ℕ) → (taken_loaded p t waiting taken).effect ≡ t.effect
+unfolding taken_loaded
+taken_keeps p t waiting taken = either_keeps (is_past_taken (bounds_at t.occasion) taken) (ends_so p t answer.IndexFull) (ends_so p t (told_of waiting)) t.effect (ends_so_keeps p t answer.IndexFull) (ends_so_keeps p t (told_of waiting))
 
 appends_keeps : (t : TryState) (old : ℕ) → (appends t old).effect ≡ t.effect
 unfolding appends
@@ -221,7 +240,13 @@ held_keeps p t addr (Some held) =
     (ends_keeps p t (answer.AwaitsDisk (record { entry = t.walk.entry; addr = addr })))
 
 nowhere_keeps : (p : Places) (t : TryState) → (met_nowhere p t).effect ≡ t.effect
-nowhere_keeps p t = either_keeps (is_read t.request.op) (ends p t answer.Absent) (copies p t (Known absent_word) false) t.effect (ends_keeps p t answer.Absent) (copies_keeps p t (Known absent_word) false)
+nowhere_keeps p t =
+    either_keeps (is_read t.request.op) (ends p t answer.Absent) (if must_count p t then record t { step = CountsTaken } else copies p t (Known absent_word) false) t.effect (ends_keeps p t answer.Absent)
+    (either_keeps (must_count p t) (record t { step = CountsTaken }) (copies p t (Known absent_word) false) t.effect refl (copies_keeps p t (Known absent_word) false))
+
+count_keeps : (p : Places) (t : TryState) (taken : ℕ) → (count_loaded p t taken).effect ≡ t.effect
+unfolding count_loaded
+count_keeps p t taken = either_keeps (is_past_taken (bounds_at t.occasion) taken) (ends p t answer.IndexFull) (copies p t (Known absent_word) false) t.effect (ends_keeps p t answer.IndexFull) (copies_keeps p t (Known absent_word) false)
 
 disk_keeps : (p : Places) (t : TryState) (addr : Addr) → (met_disk p t addr).effect ≡ t.effect
 disk_keeps p t addr =
@@ -246,6 +271,7 @@ walked_keeps p t walk.Nowhere = nowhere_keeps p t
 walked_keeps p t (walk.OnDisk addr) = disk_keeps p t addr
 walked_keeps p t (walk.Value value) = ends_keeps p t (answer.Wait reason.Contended)
 walked_keeps p t walk.Full = ends_keeps p t (full_at t.occasion answer.IndexFull)
+walked_keeps p t walk.Kept = ends_keeps p t (full_at t.occasion answer.IndexFull)
 walked_keeps p t walk.Contended = ends_keeps p t (answer.Wait reason.Contended)
 
 shared_keeps : (p : Places) (t : TryState) (ask : Ask LatchAnswer) → (shared_ledto p t ask).effect ≡ t.effect
@@ -358,6 +384,7 @@ trying_takes p room session reader pending t TakesShared reply at rests same so 
 trying_takes p room session reader pending t LoadsPhase reply at rests same so = quiet session pending _ [] _ tt (phase_keeps p (record t { effect = None }) (phase_said reply))
 trying_takes p room session reader pending t Walks reply at rests same so =
     quiet session pending _ (search_ghosts p pending.request.op reader t.walk reply) _ (search_quiet p pending.request.op reader t.walk reply) (walk_keeps p (walk_moved p (record t { effect = None }) reply) (walk_ask p (walk_next p t.walk reply)))
+trying_takes p room session reader pending t CountsTaken reply at rests same so = quiet session pending _ [] _ tt (count_keeps p (record t { effect = None }) reply)
 trying_takes p room session reader pending t (LoadsSafe addr version) reply at rests same so = quiet session pending _ [] _ tt (safe_keeps p (record t { effect = None }) addr version reply)
 trying_takes p room session reader pending t (SwapsValue addr) reply at rests same so =
     let its : Reply = reply_from None t.request.op in
@@ -378,6 +405,8 @@ trying_takes p room session reader pending t (Appends its) reply at rests same s
     subst (λ (x : Option Reply). TakesEffect (stepped p pending.request.version (append_reserves t.append (new_record session pending its) t.append.step) (passed (append_ask p t.append) answer.Shift) reply)
     (append_ghosts room t.append (new_record session pending its) t.append.step reply) (made_entry session pending x)) (sym made)
     (passes_on p pending.request.version _ (append_ask p t.append) answer.Shift reply _ _ (append_takes p room t.append session pending its t.append.step reply refl way.goes_on so.holds so.same))
+trying_takes p room session reader pending t (LoadsTail waiting) reply at rests same so = quiet session pending _ [] _ tt (tail_keeps p (record t { effect = None }) waiting reply)
+trying_takes p room session reader pending t (LoadsTaken waiting) reply at rests same so = quiet session pending _ [] _ tt (taken_keeps p (record t { effect = None }) waiting reply)
 trying_takes p room session reader pending t (DropsExclusive its) reply at rests same so = quiet session pending _ [] _ tt (exclusive_dropped_keeps p (latch_moved (record t { effect = None }) reply) its (latch_next_ask t.latching reply))
 trying_takes p room session reader pending t (DropsShared its) reply at rests same so = quiet session pending _ [] _ tt (shared_dropped_keeps (latch_moved (record t { effect = None }) reply) its (latch_next_ask t.latching reply))
 

@@ -20,7 +20,6 @@ use Rattle.fkv_latch.specs.declared.latching.LatchAnswer.{LatchAnswer}
 use Rattle.fkv_latch.specs.declared.latching.LatchAnswer.TheVariants as latch
 use Rattle.fkv_latch.specs.declared.latching.LatchTask.TheVariants.{TakeShared, DropShared, TakeExclusive, DropExclusive}
 use Rattle.fkv_latch.specs.Latching.{latch_next_ask}
-use Rattle.fkv_index.specs.declared.finding.Found.{Found}
 use Rattle.law_world.specs.Below.fkv_ops.Reason.TheVariants as reason
 use Rattle.law_world.specs.Below.fkv_ops.TryAnswer.{TryAnswer}
 use Rattle.law_world.specs.Below.fkv_ops.TryAnswer.TheVariants as answer
@@ -35,14 +34,14 @@ use Rattle.law_world.specs.Below.fkv_ops.Seen.{Seen}
 use Rattle.law_world.specs.Below.fkv_ops.OldValue.{OldValue}
 use Rattle.law_world.specs.Below.fkv_ops.OldValue.TheVariants.{InMemory, Known}
 use Rattle.law_world.specs.Below.fkv_ops.TheTrying.{Trying}
-use Rattle.law_world.specs.Below.fkv_ops.TheTrying.TheVariants.{Ended, TakesShared, LoadsPhase, Walks, LoadsSafe, SwapsValue, LoadsCurrent, ChangesValue, LoadsAnswer, TakesExclusive, LoadsOld, Appends, DropsExclusive, DropsShared}
+use Rattle.law_world.specs.Below.fkv_ops.TheTrying.TheVariants.{Ended, TakesShared, LoadsPhase, Walks, CountsTaken, LoadsSafe, SwapsValue, LoadsCurrent, ChangesValue, LoadsAnswer, TakesExclusive, LoadsOld, Appends, LoadsTail, LoadsTaken, DropsExclusive, DropsShared}
 use Rattle.law_world.specs.Below.fkv_ops.WalkAnswer.{WalkAnswer}
 use Rattle.law_world.specs.Below.fkv_ops.WalkAnswer.TheVariants as walk
 use Rattle.law_world.specs.Below.fkv_ops.Requests.{is_read, is_blind}
 use Rattle.law_world.specs.Below.fkv_ops.Values.{value_of}
 use Rattle.law_world.specs.Below.fkv_ops.Walking.{walk_ask, walk_next, walk_on}
 use Rattle.law_world.specs.Below.fkv_ops.Appending.{AppendState, append_ask, append_next}
-use Rattle.law_world.specs.Below.fkv_ops.Trying.{TryState, with_latch, is_wait, ended_without, ends, takes_effect, full_at, walks, wants_shared, try_begun, shared_ledto, must_shift, wants_exclusive, appends, copies_from, copies, awaits, held_used, met_nowhere, met_disk, changes, is_own_version, region_met, met_record, walked, has_walked, walk_ledto, safe_loaded, current_ledto, value_changed, told_value, answer_ledto, exclusive_ledto, old_ledto, append_ledto, exclusive_dropped, shared_dropped, latch_moved, walk_moved, trying_ask, trying_next, try_ask, try_next, new_try, is_next_marked, is_still_in, phase_loaded, is_surely_own}
+use Rattle.law_world.specs.Below.fkv_ops.Trying.{TryState, with_latch, is_wait, ended_without, ends_so, ends_by, is_bounded, tail_loaded, taken_loaded, must_count, count_loaded, ends, takes_effect, full_at, walks, wants_shared, try_begun, shared_ledto, must_shift, wants_exclusive, appends, copies_from, copies, awaits, held_used, met_nowhere, met_disk, changes, is_own_version, region_met, met_record, walked, has_walked, walk_ledto, safe_loaded, current_ledto, value_changed, told_value, answer_ledto, exclusive_ledto, old_ledto, append_ledto, exclusive_dropped, shared_dropped, latch_moved, walk_moved, trying_ask, trying_next, try_ask, try_next, new_try, is_next_marked, is_still_in, phase_loaded, is_surely_own}
 use Rattle.law_world.proofs.Below.fkv_ops.Shown.{is_append_end, append_done, append_rests, TryRestsOrAsks, IsAppendUnderWay}
 use Rattle.law_world.specs.Below.fkv_pending.PendingRequest.{PendingRequest}
 use Rattle.law_refine.specs.Events.Appends.{entry_made, append_ghosts, NewRecord, new_record}
@@ -50,6 +49,9 @@ use Rattle.law_refine.specs.Events.Reservations.{AreStill, MovesOn, Keeps, Reser
 use Rattle.law_refine.specs.Events.Tries.{search_ghosts, try_ghosts}
 use Rattle.law_refine.proofs.OfEvents.AppendSteps.{passes, append_on}
 use Rattle.law_refine.proofs.OfEvents.Searches.{search_all}
+use Rattle.law_world.specs.Below.fkv_ops.Bounds.{bounds_at, is_past_taken, is_past_tail}
+use Rattle.law_world.specs.Below.fkv_ops.Waiting.{told_of, waiting_of}
+use Rattle.law_world.specs.Below.fkv_ops.TheWaiting.{Waiting}
 
 -- nothing is reserved by it
 abbrev pub IsFree : TryState → Type 0
@@ -63,9 +65,26 @@ without_free : (p : Places) (t : TryState) (its : TryAnswer) → IsFree (ended_w
 without_free p t its =
     either_free (t.has_shared && not (is_wait its)) (with_latch p (record t { has_shared = false }) DropShared (DropsShared its)) (record t { step = Ended its }) (λ session pending. refl) (λ session pending. refl)
 
+ends_so_free : (p : Places) (t : TryState) (its : TryAnswer) → IsFree (ends_so p t its)
+unfolding ends_so
+ends_so_free p t its = either_free t.has_exclusive (with_latch p (record t { has_exclusive = false }) DropExclusive (DropsExclusive its)) (ended_without p t its) (λ session pending. refl) (without_free p t its)
+
+ends_by_free : (p : Places) (t : TryState) (its : TryAnswer) (waiting : Option Waiting) → IsFree (ends_by p t its waiting)
+ends_by_free p t its None = ends_so_free p t its
+ends_by_free p t its (Some waiting) = either_free (is_bounded t) (record t { step = LoadsTail waiting }) (ends_so p t its) (λ session pending. refl) (ends_so_free p t its)
+
 ends_free : (p : Places) (t : TryState) (its : TryAnswer) → IsFree (ends p t its)
 unfolding ends
-ends_free p t its = either_free t.has_exclusive (with_latch p (record t { has_exclusive = false }) DropExclusive (DropsExclusive its)) (ended_without p t its) (λ session pending. refl) (without_free p t its)
+ends_free p t its = ends_by_free p t its (waiting_of its)
+
+tail_free : (p : Places) (t : TryState) (waiting : Waiting) (tail : ℕ) → IsFree (tail_loaded p t waiting tail)
+unfolding tail_loaded
+tail_free p t waiting tail =
+    either_free (is_past_tail (bounds_at t.occasion) tail) (ends_so p t answer.LogFull) (if t.walk.entry == 0 then record t { step = LoadsTaken waiting } else ends_so p t (told_of waiting)) (ends_so_free p t answer.LogFull) (either_free (t.walk.entry == 0) (record t { step = LoadsTaken waiting }) (ends_so p t (told_of waiting)) (λ session pending. refl) (ends_so_free p t (told_of waiting)))
+
+taken_free : (p : Places) (t : TryState) (waiting : Waiting) (taken : ℕ) → IsFree (taken_loaded p t waiting taken)
+unfolding taken_loaded
+taken_free p t waiting taken = either_free (is_past_taken (bounds_at t.occasion) taken) (ends_so p t answer.IndexFull) (ends_so p t (told_of waiting)) (ends_so_free p t answer.IndexFull) (ends_so_free p t (told_of waiting))
 
 appends_free : (t : TryState) (old : ℕ) → IsFree (appends t old)
 unfolding appends
@@ -93,7 +112,13 @@ held_free p t addr (Some held) =
     (ends_free p t (answer.AwaitsDisk (record { entry = t.walk.entry; addr = addr })))
 
 nowhere_free : (p : Places) (t : TryState) → IsFree (met_nowhere p t)
-nowhere_free p t = either_free (is_read t.request.op) (ends p t answer.Absent) (copies p t (Known absent_word) false) (ends_free p t answer.Absent) (copies_free p t (Known absent_word) false)
+nowhere_free p t =
+    either_free (is_read t.request.op) (ends p t answer.Absent) (if must_count p t then record t { step = CountsTaken } else copies p t (Known absent_word) false) (ends_free p t answer.Absent)
+    (either_free (must_count p t) (record t { step = CountsTaken }) (copies p t (Known absent_word) false) (λ session pending. refl) (copies_free p t (Known absent_word) false))
+
+count_free : (p : Places) (t : TryState) (taken : ℕ) → IsFree (count_loaded p t taken)
+unfolding count_loaded
+count_free p t taken = either_free (is_past_taken (bounds_at t.occasion) taken) (ends p t answer.IndexFull) (copies p t (Known absent_word) false) (ends_free p t answer.IndexFull) (copies_free p t (Known absent_word) false)
 
 disk_free : (p : Places) (t : TryState) (addr : Addr) → IsFree (met_disk p t addr)
 disk_free p t addr =
@@ -118,6 +143,7 @@ walked_free p t walk.Nowhere = nowhere_free p t
 walked_free p t (walk.OnDisk addr) = disk_free p t addr
 walked_free p t (walk.Value value) = ends_free p t (answer.Wait reason.Contended)
 walked_free p t walk.Full = ends_free p t (full_at t.occasion answer.IndexFull)
+walked_free p t walk.Kept = ends_free p t (full_at t.occasion answer.IndexFull)
 walked_free p t walk.Contended = ends_free p t (answer.Wait reason.Contended)
 
 -- a try that begins
@@ -232,6 +258,7 @@ trying_on p room session reader pending t TakesShared reply at rests = free_on _
 trying_on p room session reader pending t LoadsPhase reply at rests = free_on _ _ reply session pending [] (trying_next p room (record t { effect = None }) LoadsPhase reply) tt (phase_free p (record t { effect = None }) (phase_said reply))
 trying_on p room session reader pending t Walks reply at rests = free_on _ _ reply session pending (search_ghosts p pending.request.op reader t.walk reply) (trying_next p room (record t { effect = None }) Walks reply) (search_all AreStill tt reader (tt, tt) p pending.request.op t.walk reply)
     (walk_free p (walk_moved p (record t { effect = None }) reply) (walk_ask p (walk_next p t.walk reply)) at)
+trying_on p room session reader pending t CountsTaken reply at rests = free_on _ _ reply session pending [] (trying_next p room (record t { effect = None }) CountsTaken reply) tt (count_free p (record t { effect = None }) reply)
 trying_on p room session reader pending t (LoadsSafe addr version) reply at rests = free_on _ _ reply session pending [] (trying_next p room (record t { effect = None }) (LoadsSafe addr version) reply) tt (safe_free p (record t { effect = None }) addr version reply)
 trying_on p room session reader pending t (SwapsValue addr) reply at rests =
     free_on _ _ reply session pending (Changes addr.0 (entry_made session pending (reply_from None t.request.op)) ∷ []) (trying_next p room (record t { effect = None }) (SwapsValue addr) reply) (tt, tt) (effect_free p (record t { effect = None }) (reply_from None t.request.op))
@@ -249,6 +276,8 @@ trying_on p room session reader pending t (Appends its) reply at rests =
     let after : TryState = record t { effect = None; append = a } in
     let held = append_holds session pending p after its (append_ask p a) at (append_done p a (append_rests p room t.append reply way.asks)) in
     passes (append_ask p t.append) answer.Shift reply _ _ _ (subst (λ (x : Option Reservation). MovesOn (asked_place (append_ask p t.append)) (asked (append_ask p t.append)) reply (append_ghosts room t.append made t.append.step reply) (append_reserves t.append made t.append.step) x) held (append_on p room t.append made reply))
+trying_on p room session reader pending t (LoadsTail waiting) reply at rests = free_on _ _ reply session pending [] (trying_next p room (record t { effect = None }) (LoadsTail waiting) reply) tt (tail_free p (record t { effect = None }) waiting reply)
+trying_on p room session reader pending t (LoadsTaken waiting) reply at rests = free_on _ _ reply session pending [] (trying_next p room (record t { effect = None }) (LoadsTaken waiting) reply) tt (taken_free p (record t { effect = None }) waiting reply)
 trying_on p room session reader pending t (DropsExclusive its) reply at rests = free_on _ _ reply session pending [] (trying_next p room (record t { effect = None }) (DropsExclusive its) reply) tt (exclusive_dropped_free p (latch_moved (record t { effect = None }) reply) its (latch_next_ask t.latching reply) at)
 trying_on p room session reader pending t (DropsShared its) reply at rests = free_on _ _ reply session pending [] (trying_next p room (record t { effect = None }) (DropsShared its) reply) tt (shared_dropped_free (latch_moved (record t { effect = None }) reply) its (latch_next_ask t.latching reply) at)
 

@@ -19,7 +19,7 @@ use Rattle.law_world.specs.Below.fkv_session.Sessions.{sitting_ask, attempts, po
 use Rattle.law_world.specs.Below.fkv_pending.Attempting.{attempting_ask, look_ledto, try_ledto, put_ledto, attempting_next}
 use Rattle.law_world.specs.Below.fkv_pending.Pending.{with_sought, with_held, with_latch, with_asked}
 use Rattle.law_world.specs.Below.fkv_pending.Mailing.{mail_ask, mail_next}
-use Rattle.law_world.specs.Below.fkv_ops.Trying.{trying_ask, ends, shared_ledto, appends, copies_from, copies, held_used, walk_ledto, current_ledto, answer_ledto, exclusive_ledto, old_ledto, append_ledto, exclusive_dropped, shared_dropped, trying_next}
+use Rattle.law_world.specs.Below.fkv_ops.Trying.{trying_ask, ends, ends_so, shared_ledto, appends, copies_from, copies, held_used, walk_ledto, current_ledto, answer_ledto, exclusive_ledto, old_ledto, append_ledto, exclusive_dropped, shared_dropped, trying_next}
 use Rattle.law_world.specs.Below.fkv_ops.Walking.{walking_ask, find_ledto, load_ledto, value_ledto, walking_next, walking_on}
 use Rattle.law_world.specs.Below.fkv_ops.Appending.{appending_ask, reserve_ledto, fill_ledto, publish_ledto, invalidate_ledto, appending_next}
 use Rattle.law_world.specs.Below.fkv_ops.HeaderWords.{header_said}
@@ -57,5 +57,5 @@ unfolding places shape
 world_opened its one other opened = record { goes_on = refl; no_history = refl; no_trace = refl; no_calls = refl; seats = refl; keeper = opened; sessions = each_opened one other }
 
 pub worked_life : (its : KeeperState) (one other : SessionState) → keeper.IsOpened its → IsWorkedLife its one other
-unfolding places shape life_goes session_settled session_asks history_after life_past run begun_by ended_by sitting_ask attempts polls_at op_begun refresh_call poll_call sleep_call wake_call accepts shifts attempt_ledto catch_ledto clear_ledto finishes_request keeps_request poll_ledto turn_ledto leave_ledto sitting_next sitting_given attempting_ask look_ledto try_ledto put_ledto attempting_next with_sought with_held with_latch with_asked mail_ask mail_next trying_ask ends shared_ledto appends copies_from mark copies held_used walk_ledto current_ledto answer_ledto exclusive_ledto old_ledto append_ledto exclusive_dropped shared_dropped trying_next walking_ask find_ledto load_ledto value_ledto walking_next walking_on appending_ask reserve_ledto fill_ledto publish_ledto invalidate_ledto appending_next header_said find_step_ask find_led publish_ask publish_next publish_next_ask slot_word reserve_ask reserve_next reserve_next_ask fill_ask fill_next load_ask load_next load_next_ask load_on invalidate_ask invalidate_next passed set_at ghosts_after ghost_run ghost_events mapped lines_of lines_added step_ghosts
+unfolding places shape life_goes session_settled session_asks history_after life_past run begun_by ended_by sitting_ask attempts polls_at op_begun refresh_call poll_call sleep_call wake_call accepts shifts attempt_ledto catch_ledto clear_ledto finishes_request keeps_request poll_ledto turn_ledto leave_ledto sitting_next sitting_given attempting_ask look_ledto try_ledto put_ledto attempting_next with_sought with_held with_latch with_asked mail_ask mail_next trying_ask ends ends_so shared_ledto appends copies_from mark copies held_used walk_ledto current_ledto answer_ledto exclusive_ledto old_ledto append_ledto exclusive_dropped shared_dropped trying_next walking_ask find_ledto load_ledto value_ledto walking_next walking_on appending_ask reserve_ledto fill_ledto publish_ledto invalidate_ledto appending_next header_said find_step_ask find_led publish_ask publish_next publish_next_ask slot_word reserve_ask reserve_next reserve_next_ask fill_ask fill_next load_ask load_next load_next_ask load_on invalidate_ask invalidate_next passed set_at ghosts_after ghost_run ghost_events mapped lines_of lines_added step_ghosts
 worked_life its one other opened = record { shape = shape; places = places; opened = world_opened its one other opened; events = refl; history = refl; value = refl; lost = refl; swapped = refl; refused = refl; polled = refl; fixed = refl }

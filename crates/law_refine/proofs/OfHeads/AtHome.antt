@@ -11,7 +11,7 @@ use Rattle.fkv_index.specs.Slots.{home_of}
 use Rattle.law_world.specs.Below.fkv_ops.TheAppending.{Appending}
 use Rattle.law_world.specs.Below.fkv_ops.TheAppending.TheVariants as appending
 use Rattle.law_world.specs.Below.fkv_ops.TheTrying.{Trying}
-use Rattle.law_world.specs.Below.fkv_ops.TheTrying.TheVariants.{Walks, LoadsSafe, TakesExclusive, LoadsOld, Appends}
+use Rattle.law_world.specs.Below.fkv_ops.TheTrying.TheVariants.{Walks, CountsTaken, LoadsSafe, TakesExclusive, LoadsOld, Appends}
 use Rattle.law_world.specs.Below.fkv_ops.TheWalking.{Walking}
 use Rattle.law_world.specs.Below.fkv_ops.TheWalking.TheVariants as walking
 use Rattle.law_world.specs.Below.fkv_ops.Requests.{is_read}
@@ -68,6 +68,7 @@ walk_at p home s step knows same = kept_at home s.attempt.trial same
 
 try_at : (p : Places) (home : Home) (s : SessionState) (step : Trying) → KnowsAt p s Tries step s.attempt.trial.walk.step → s.attempt.trial.home ≡ home → IsWorkAt home (try_work s.attempt.trial step)
 try_at p home s Walks knows same = walk_at p home s s.attempt.trial.walk.step knows same
+try_at p home s CountsTaken knows same = kept_at home s.attempt.trial same
 try_at p home s (LoadsSafe addr version) knows same = kept_at home s.attempt.trial same
 try_at p home s (TakesExclusive old) knows same = kept_at home s.attempt.trial same
 try_at p home s LoadsOld knows same = kept_at home s.attempt.trial same

@@ -14,7 +14,7 @@ use Rattle.fkv_plane.specs.Asked.{reply_to, word_at}
 use Rattle.fkv_plane.specs.Passing.{passed}
 use Rattle.fkv_index.specs.declared.finding.FindAnswer.{FindAnswer}
 use Rattle.fkv_index.specs.declared.finding.Found.{Found}
-use Rattle.fkv_index.specs.declared.finding.Found.TheVariants.{Slot, NoSlot, Full, Contended}
+use Rattle.fkv_index.specs.declared.finding.Found.TheVariants.{Slot, NoSlot, Full, Kept, Contended}
 use Rattle.fkv_index.specs.declared.homes.Home.{Home}
 use Rattle.fkv_index.specs.Buckets.{bucket_words}
 use Rattle.fkv_index.specs.Entries.{entry_at, EntriesMove, IsEntryFound, IsEntryAnswered}
@@ -250,6 +250,7 @@ found_head : (entry head : ℕ) (its : Found) → entry_addr entry ≡ head → 
 found_head entry head (Slot place word) leads found = sym (ap entry_addr found) ∙ leads
 found_head entry head NoSlot leads found = sym leads ∙ ap entry_addr found
 found_head entry head Full leads found = tt
+found_head entry head Kept leads found = tt
 found_head entry head Contended leads found = tt
 
 answered_head : (entry head : ℕ) (ask : Ask FindAnswer) → entry_addr entry ≡ head → IsEntryAnswered entry ask → IsHeadAnswered head ask

@@ -13,7 +13,6 @@ use Rattle.fkv_plane.specs.Passing.{passed}
 use Rattle.law_world.specs.Below.fkv_log.ReserveAnswer.{ReserveAnswer}
 use Rattle.law_world.specs.Below.fkv_log.ReserveAnswer.TheVariants.{Reserved}
 use Rattle.law_world.specs.Below.fkv_log.Reserving.{reserve_next_ask}
-use Rattle.fkv_index.specs.declared.finding.Found.{Found}
 use Rattle.fkv_index.specs.declared.publishing.PublishAnswer.TheVariants.{Won, Lost}
 use Rattle.fkv_index.specs.declared.publishing.Publishing.{Publishing}
 use Rattle.fkv_index.specs.declared.publishing.Publishing.TheVariants.{AtRest, SwapsEntry}
@@ -26,7 +25,7 @@ use Rattle.law_world.specs.Below.fkv_ops.AppendAnswer.TheVariants.{Contended}
 use Rattle.law_world.specs.Below.fkv_ops.TheAppending.{Appending}
 use Rattle.law_world.specs.Below.fkv_ops.TheAppending.TheVariants as appending
 use Rattle.law_world.specs.Below.fkv_ops.TheTrying.{Trying}
-use Rattle.law_world.specs.Below.fkv_ops.TheTrying.TheVariants.{Walks, LoadsSafe, SwapsValue, ChangesValue, TakesExclusive, LoadsOld, Appends}
+use Rattle.law_world.specs.Below.fkv_ops.TheTrying.TheVariants.{Walks, CountsTaken, LoadsSafe, SwapsValue, ChangesValue, TakesExclusive, LoadsOld, Appends}
 use Rattle.law_world.specs.Below.fkv_ops.TheWalking.{Walking}
 use Rattle.law_world.specs.Below.fkv_ops.TheWalking.TheVariants as walking
 use Rattle.law_world.specs.Below.fkv_ops.Appending.{AppendState, append_ask, appending_ask}
@@ -168,6 +167,7 @@ try_won : (words : List ℕ) (p : Places) (room session reader : ℕ) (pending :
 unfolding trying_ask
 try_won words p room session reader pending t Walks reply asks replied =
     Quietly (search_ghosts p pending.request.op reader t.walk reply) (search_all LeaveChains tt reader (tt, tt) p pending.request.op t.walk reply) (walk_none words t t.walk.step)
+try_won words p room session reader pending t CountsTaken reply asks replied = Quietly [] tt (kept_none words t)
 try_won words p room session reader pending t (LoadsSafe addr version) reply asks replied = Quietly [] tt (kept_none words t)
 try_won words p room session reader pending t (SwapsValue addr) reply asks replied = Quietly _ (tt, tt) refl
 try_won words p room session reader pending t (ChangesValue addr old) reply asks replied = Quietly _ (either_leave (reply == old) _ _ (tt, tt) tt) refl

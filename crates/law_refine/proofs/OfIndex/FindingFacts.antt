@@ -10,10 +10,10 @@ use Rattle.fkv_index.specs.declared.finding.Finding.{Finding}
 use Rattle.fkv_index.specs.declared.finding.FindStep.{FindStep}
 use Rattle.fkv_index.specs.declared.finding.FindStep.TheVariants.{AtRest, LoadsSlot, LoadsLink, LoadsTaken, TakesBucket, LinksBucket}
 use Rattle.fkv_index.specs.declared.finding.Found.{Found}
-use Rattle.fkv_index.specs.declared.finding.Found.TheVariants.{Slot, NoSlot, Full, Contended}
+use Rattle.fkv_index.specs.declared.finding.Found.TheVariants.{Slot, NoSlot, Full, Kept, Contended}
 use Rattle.fkv_index.specs.declared.finding.Linking.{Linking}
-use Rattle.fkv_index.specs.declared.finding.Linking.TheVariants.{Never, Once, Made}
-use Rattle.fkv_index.specs.Finding.{find_step_ask, entered, slot_led, link_led, find_led, led_to, led_ask, find_next, find_next_ask}
+use Rattle.fkv_index.specs.declared.finding.Linking.TheVariants.{Never, Once, Made, Within}
+use Rattle.fkv_index.specs.Finding.{find_step_ask, entered, slot_led, link_led, find_led, led_to, led_ask, find_next, find_next_ask, is_kept}
 use Rattle.fkv_index.specs.IndexWorld.{Seeks, answer_work, found_work, is_publishing, is_seeking}
 use Rattle.fkv_index.specs.Slots.{bucket_slots, slot_word, is_entry, entry_tag, link_of}
 
@@ -49,6 +49,7 @@ link_is_led p f word = by_tests (link_of word == 0) f.linking (f.spare == 0) ref
     by_tests true Never b last same spare = rw (last, same) (record { home = refl; rests = λ done. refl })
     by_tests true Once true last same spare = rw (last, same, spare) (record { home = refl; rests = λ done. cc })
     by_tests true Once false last same spare = rw (last, same, spare) (record { home = refl; rests = λ done. cc })
+    by_tests true (Within bound) b last same spare = rw (last, same) (record { home = refl; rests = λ done. cc })
     by_tests true Made b last same spare = rw (last, same) (record { home = refl; rests = λ done. refl })
     by_tests false linking b last same spare = rw last (enters_led p f f (link_of word) refl)
 
@@ -57,11 +58,22 @@ unfolding find_led find_step_ask
 is_led p f AtRest reply = record { home = refl; rests = λ done. refl }
 is_led p f (LoadsSlot slot) reply = slot_is_led f slot reply
 is_led p f LoadsLink reply = link_is_led p f reply
-is_led p f (LoadsTaken word) reply = by_test (nat_lt reply p.overflow) refl
+is_led p f (LoadsTaken word) reply = by_kept (is_kept f.linking reply) refl
   where
-    by_test : (a : Bool) → nat_lt reply p.overflow ≡ a → IsLed f (led_to (find_led p f (LoadsTaken word) reply)) (led_ask (find_led p f (LoadsTaken word) reply))
-    by_test true some = rw some (record { home = refl; rests = λ done. cc })
-    by_test false none = rw none (record { home = refl; rests = λ done. refl })
+    Led : Type 0
+    Led = IsLed f (led_to (find_led p f (LoadsTaken word) reply)) (led_ask (find_led p f (LoadsTaken word) reply))
+
+    by_test : (a : Bool) → nat_lt reply p.overflow ≡ a → is_kept f.linking reply ≡ false → (f.spare == 0) ≡ true → Led
+    by_test true some below none = rw (below, none, some) (record { home = refl; rests = λ done. cc })
+    by_test false all below none = rw (below, none, all) (record { home = refl; rests = λ done. refl })
+
+    by_spare : (a : Bool) → (f.spare == 0) ≡ a → is_kept f.linking reply ≡ false → Led
+    by_spare true none below = by_test (nat_lt reply p.overflow) refl below none
+    by_spare false some below = rw (below, some) (record { home = refl; rests = λ done. cc })
+
+    by_kept : (a : Bool) → is_kept f.linking reply ≡ a → Led
+    by_kept true kept = rw kept (record { home = refl; rests = λ done. refl })
+    by_kept false below = by_spare (f.spare == 0) refl below
 is_led p f (TakesBucket word taken) reply = by_test (reply == taken) refl
   where
     by_test : (a : Bool) → (reply == taken) ≡ a → IsLed f (led_to (find_led p f (TakesBucket word taken) reply)) (led_ask (find_led p f (TakesBucket word taken) reply))
@@ -84,6 +96,7 @@ found_none : (its : Found) → is_publishing (found_work its) ≡ false
 found_none (Slot place word) = refl
 found_none NoSlot = refl
 found_none Full = refl
+found_none Kept = refl
 found_none Contended = refl
 
 pub none_published : (ask : Ask FindAnswer) → is_publishing (answer_work ask) ≡ false

@@ -117,6 +117,7 @@ append_asks p t appending.Invalidates knows = tt
 try_asks : (p : Places) (t : TryState) (step : Trying) → TryKnowsAt t step → AskOf (try_work t step) (passed (passed (trying_ask p t step) tried.Shift) told.Slept)
 unfolding trying_ask
 try_asks p t trying.Walks knows = walk_asks p t t.walk.step
+try_asks p t trying.CountsTaken knows = any_kept t _
 try_asks p t (trying.LoadsSafe addr version) knows = any_kept t _
 try_asks p t (trying.TakesExclusive old) knows = any_kept t _
 try_asks p t trying.LoadsOld knows = any_kept t _
@@ -189,7 +190,7 @@ publish_whole (publish.SwapsEntry place word entry) = refl
 reserve_whole : (step : Reserving) → is_of_slot (reserve_ask step) ≡ false
 unfolding reserve_ask
 reserve_whole reserve.AtRest = refl
-reserve_whole reserve.LoadsLimit = refl
+reserve_whole (reserve.LoadsLimit bound) = refl
 reserve_whole (reserve.LoadsTail limit) = refl
 reserve_whole (reserve.TakesTail tail) = refl
 
@@ -238,6 +239,7 @@ try_whole p t (trying.Ended its) = refl
 try_whole p t trying.TakesShared = passed_part (latch_ask t.latching) _ (latch_whole t.latching)
 try_whole p t trying.Walks = passed_part (walking_ask p t.walk t.walk.step) _ (walk_whole p t.walk t.walk.step)
 try_whole p t trying.LoadsPhase = refl
+try_whole p t trying.CountsTaken = refl
 try_whole p t (trying.LoadsSafe addr version) = refl
 try_whole p t (trying.SwapsValue addr) = refl
 try_whole p t (trying.LoadsCurrent addr) = passed_part (walking_ask p t.walk t.walk.step) _ (walk_whole p t.walk t.walk.step)
@@ -246,6 +248,8 @@ try_whole p t trying.LoadsAnswer = passed_part (walking_ask p t.walk t.walk.step
 try_whole p t (trying.TakesExclusive old) = passed_part (latch_ask t.latching) _ (latch_whole t.latching)
 try_whole p t trying.LoadsOld = passed_part (walking_ask p t.walk t.walk.step) _ (walk_whole p t.walk t.walk.step)
 try_whole p t (trying.Appends its) = passed_part (appending_ask p t.append t.append.step) _ (append_whole p t.append t.append.step)
+try_whole p t (trying.LoadsTail waiting) = refl
+try_whole p t (trying.LoadsTaken waiting) = refl
 try_whole p t (trying.DropsExclusive its) = passed_part (latch_ask t.latching) _ (latch_whole t.latching)
 try_whole p t (trying.DropsShared its) = passed_part (latch_ask t.latching) _ (latch_whole t.latching)
 

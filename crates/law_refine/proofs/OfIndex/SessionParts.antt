@@ -18,6 +18,7 @@ use Rattle.law_world.specs.Below.fkv_ops.Reason.TheVariants as reason
 use Rattle.law_world.specs.Below.fkv_ops.TryAnswer.{TryAnswer}
 use Rattle.law_world.specs.Below.fkv_ops.TryAnswer.TheVariants as tried
 use Rattle.law_world.specs.Below.fkv_ops.Occasion.TheVariants.{Call as AtCall, Poll as AtPoll}
+use Rattle.law_world.specs.Below.fkv_ops.Bounds.{bounds_of}
 use Rattle.law_world.specs.Below.fkv_ops.Requests.{is_read}
 use Rattle.law_world.specs.Below.fkv_pending.MailAnswer.{MailAnswer}
 use Rattle.law_world.specs.Below.fkv_pending.MailAnswer.TheVariants.{Cleared}
@@ -90,8 +91,8 @@ turn_after_led k s its = either_led s.wants_turn k (record s { own_turn = own_tu
 attempts_led : (k : Seat) (s : SessionState) (has_shifted : Bool) → Homes k → Free k s.spare (attempts k s has_shifted)
 unfolding attempts
 attempts_led k s has_shifted homes =
-    let its = attempt_begun_goes k.places (bits_of k) 0 (request_in_hand s) s.seen AtCall s.spare s.is_orphaned homes in
-    record { knows = record { rests = attempt_begun_rests k.places (bits_of k) (request_in_hand s) s.seen AtCall s.spare s.is_orphaned; knows = its.knows }; goes = its.goes }
+    let its = attempt_begun_goes k.places (bits_of k) 0 (request_in_hand s) s.seen (AtCall (bounds_of k.shape)) s.spare s.is_orphaned homes in
+    record { knows = record { rests = attempt_begun_rests k.places (bits_of k) (request_in_hand s) s.seen (AtCall (bounds_of k.shape)) s.spare s.is_orphaned; knows = its.knows }; goes = its.goes }
 
 polls_request_led : (k : Seat) (s : SessionState) (index : ℕ) (found : Option PendingRequest) → Homes k → Free k s.spare (polls_request k s index found)
 polls_request_led k s index None homes = turn_after_led k s (told.Polled (length s.requests))

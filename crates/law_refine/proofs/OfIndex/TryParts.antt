@@ -4,7 +4,6 @@ use Rattle.std.specs.Prelude.{if◌then◌else◌, ◌==◌, ◌&&◌, not, nat_
 use Rattle.fkv_base.specs.declared.numbers.Addr.{Addr}
 use Rattle.fkv_base.specs.declared.numbers.Version.{Version}
 use Rattle.fkv_map.specs.declared.operations.Op.{Op}
-use Rattle.fkv_map.specs.declared.operations.Op.TheVariants as op
 use Rattle.fkv_map.specs.declared.operations.Reply.{Reply}
 use Rattle.fkv_map.specs.Map.{absent_word}
 use Rattle.fkv_map.specs.Keys.{key_of, reply_from}
@@ -38,19 +37,23 @@ use Rattle.law_world.specs.Below.fkv_ops.Seen.{Seen}
 use Rattle.law_world.specs.Below.fkv_ops.OldValue.{OldValue}
 use Rattle.law_world.specs.Below.fkv_ops.OldValue.TheVariants.{InMemory, Known}
 use Rattle.law_world.specs.Below.fkv_ops.TheTrying.{Trying}
-use Rattle.law_world.specs.Below.fkv_ops.TheTrying.TheVariants.{Ended, TakesShared, LoadsPhase, Walks, LoadsSafe, SwapsValue, LoadsCurrent, ChangesValue, LoadsAnswer, TakesExclusive, LoadsOld, Appends, DropsExclusive, DropsShared}
+use Rattle.law_world.specs.Below.fkv_ops.TheTrying.TheVariants.{Ended, TakesShared, LoadsPhase, Walks, CountsTaken, LoadsSafe, SwapsValue, LoadsCurrent, ChangesValue, LoadsAnswer, TakesExclusive, LoadsOld, Appends, LoadsTail, LoadsTaken, DropsExclusive, DropsShared}
 use Rattle.law_world.specs.Below.fkv_ops.WalkAnswer.{WalkAnswer}
 use Rattle.law_world.specs.Below.fkv_ops.WalkAnswer.TheVariants as walk
 use Rattle.law_world.specs.Below.fkv_ops.Values.{value_of}
-use Rattle.law_world.specs.Below.fkv_ops.Requests.{is_read, is_blind, purpose_of}
+use Rattle.law_world.specs.Below.fkv_ops.Requests.{is_read, is_blind, purpose_at, update_within}
 use Rattle.law_world.specs.Below.fkv_ops.Walking.{walk_ask, walk_next, walk_on}
 use Rattle.law_world.specs.Below.fkv_ops.Appending.{append_ask, append_next}
-use Rattle.law_world.specs.Below.fkv_ops.Trying.{TryState, with_latch, is_wait, ended_without, ends, takes_effect, walks, wants_shared, try_begun, shared_ledto, must_shift, wants_exclusive, appends, copies_from, copies, awaits, held_used, met_nowhere, met_disk, changes, is_own_version, region_met, met_record, walked, has_walked, walk_ledto, safe_loaded, current_ledto, value_changed, told_value, answer_ledto, exclusive_ledto, old_ledto, append_ledto, exclusive_dropped, shared_dropped, latch_moved, walk_moved, trying_next, try_next, new_try, is_next_marked, latch_shared, is_still_in, phase_loaded, is_surely_own}
+use Rattle.law_world.specs.Below.fkv_ops.Trying.{TryState, with_latch, is_wait, ended_without, ends_so, ends_by, is_bounded, tail_loaded, taken_loaded, must_count, count_loaded, ends, takes_effect, walks, wants_shared, try_begun, shared_ledto, must_shift, wants_exclusive, appends, copies_from, copies, awaits, held_used, met_nowhere, met_disk, changes, is_own_version, region_met, met_record, walked, has_walked, walk_ledto, safe_loaded, current_ledto, value_changed, told_value, answer_ledto, exclusive_ledto, old_ledto, append_ledto, exclusive_dropped, shared_dropped, latch_moved, walk_moved, trying_next, try_next, new_try, is_next_marked, latch_shared, is_still_in, phase_loaded, is_surely_own}
 use Rattle.law_world.proofs.Below.fkv_ops.Shown.{is_try_end, is_walk_end, WalkRestsOrAsks, walk_done, walk_rests, TryRestsOrAsks, AppendRestsOrAsks, append_done, append_rests}
 use Rattle.law_refine.specs.Index.Finders.{SessionWork, NoWork, KeepsSlot, IndexPart, slot_kept, kept_work, append_work, try_work, try_spare, try_part}
 use Rattle.law_refine.proofs.OfIndex.Goes.{spare_by, WorkGoes, Drops, Seeks, Goes, part, stays, drops, IsLeft, Gone, Kept, left}
 use Rattle.law_refine.proofs.OfIndex.WalkParts.{IsUpdate, is_finding, walk_behind, walk_on_behind, same_kept, kept_quiet, WalkKnows, walk_part, WalkGoes, walk_goes, end_past, walk_end_kept, walk_end_quiet}
 use Rattle.law_refine.proofs.OfIndex.AppendParts.{IsAppendOf, AppendKnows, AppendGoes, append_goes, append_end_none}
+use Rattle.law_world.specs.Below.fkv_ops.Bounds.{bounds_at, is_past_taken, is_past_tail}
+use Rattle.law_world.specs.Below.fkv_ops.Waiting.{told_of, waiting_of}
+use Rattle.law_world.specs.Below.fkv_ops.TheWaiting.{Waiting}
+use Rattle.law_world.specs.Below.fkv_ops.TheBounds.{Bounds}
 
 -- an update behind its search goes by the slot that was found
 pub record GoesBySlot (t : TryState) : Type 0 where
@@ -64,6 +67,7 @@ pub record AppendsThere (t : TryState) : Type 0 where
 
 abbrev pub TryKnowsAt : TryState → Trying → Type 0
 TryKnowsAt t Walks = WalkKnows t t.walk t.walk.step
+TryKnowsAt t CountsTaken = GoesBySlot t
 TryKnowsAt t (LoadsSafe addr version) = GoesBySlot t
 TryKnowsAt t (TakesExclusive old) = GoesBySlot t
 TryKnowsAt t LoadsOld = GoesBySlot t
@@ -106,10 +110,27 @@ without_freed : (p : Places) (t : TryState) (its : TryAnswer) → IsHome p t.hom
 without_freed p t its home =
     either_freed (t.has_shared && not (is_wait its)) (with_latch p (record t { has_shared = false }) DropShared (DropsShared its)) (record t { step = Ended its }) (record { knows = record { home = home; at = tt }; work = refl; spare = refl }) (record { knows = record { home = home; at = tt }; work = refl; spare = refl })
 
+ends_so_freed : (p : Places) (t : TryState) (its : TryAnswer) → IsHome p t.home → Freed p t (ends_so p t its)
+unfolding ends_so
+ends_so_freed p t its home =
+    either_freed t.has_exclusive (with_latch p (record t { has_exclusive = false }) DropExclusive (DropsExclusive its)) (ended_without p t its) (record { knows = record { home = home; at = tt }; work = refl; spare = refl }) (without_freed p t its home)
+
+ends_by_freed : (p : Places) (t : TryState) (its : TryAnswer) (waiting : Option Waiting) → IsHome p t.home → Freed p t (ends_by p t its waiting)
+ends_by_freed p t its None home = ends_so_freed p t its home
+ends_by_freed p t its (Some waiting) home = either_freed (is_bounded t) (record t { step = LoadsTail waiting }) (ends_so p t its) (record { knows = record { home = home; at = tt }; work = refl; spare = refl }) (ends_so_freed p t its home)
+
 ends_freed : (p : Places) (t : TryState) (its : TryAnswer) → IsHome p t.home → Freed p t (ends p t its)
 unfolding ends
-ends_freed p t its home =
-    either_freed t.has_exclusive (with_latch p (record t { has_exclusive = false }) DropExclusive (DropsExclusive its)) (ended_without p t its) (record { knows = record { home = home; at = tt }; work = refl; spare = refl }) (without_freed p t its home)
+ends_freed p t its home = ends_by_freed p t its (waiting_of its) home
+
+tail_freed : (p : Places) (t : TryState) (waiting : Waiting) (tail : ℕ) → IsHome p t.home → Freed p t (tail_loaded p t waiting tail)
+unfolding tail_loaded
+tail_freed p t waiting tail home =
+    either_freed (is_past_tail (bounds_at t.occasion) tail) (ends_so p t answer.LogFull) (_) (ends_so_freed p t answer.LogFull home) (either_freed (t.walk.entry == 0) (record t { step = LoadsTaken waiting }) (ends_so p t (told_of waiting)) (record { knows = record { home = home; at = tt }; work = refl; spare = refl }) (ends_so_freed p t (told_of waiting) home))
+
+taken_freed : (p : Places) (t : TryState) (waiting : Waiting) (taken : ℕ) → IsHome p t.home → Freed p t (taken_loaded p t waiting taken)
+unfolding taken_loaded
+taken_freed p t waiting taken home = either_freed (is_past_taken (bounds_at t.occasion) taken) (ends_so p t answer.IndexFull) (ends_so p t (told_of waiting)) (ends_so_freed p t answer.IndexFull home) (ends_so_freed p t (told_of waiting) home)
 
 ends_left : (p : Places) (t : TryState) (its : TryAnswer) → IsHome p t.home → Left p t (ends p t its)
 ends_left p t its home = leaves (ends_freed p t its home)
@@ -146,7 +167,14 @@ by_read true a b read update = read refl
 by_read false a b read update = update refl
 
 nowhere_left : (p : Places) (t : TryState) → IsHome p t.home → is_finding t.walk.step ≡ false → Left p t (met_nowhere p t)
-nowhere_left p t home past = by_read (is_read t.request.op) (ends p t answer.Absent) (copies p t (Known absent_word) false) (λ read. ends_left p t answer.Absent home) (λ update. copies_left p t (Known absent_word) false home (record { update = update; past = past }))
+nowhere_left p t home past =
+    by_read (is_read t.request.op) (ends p t answer.Absent) _ (λ read. ends_left p t answer.Absent home)
+    (λ update. either_left (must_count p t) (record t { step = CountsTaken }) (copies p t (Known absent_word) false) (record { knows = record { home = home; at = record { update = update; past = past } }; work = Kept refl; spare = refl })
+    (copies_left p t (Known absent_word) false home (record { update = update; past = past })))
+
+count_left : (p : Places) (t : TryState) (taken : ℕ) → IsHome p t.home → GoesBySlot t → Left p t (count_loaded p t taken)
+unfolding count_loaded
+count_left p t taken home by = either_left (is_past_taken (bounds_at t.occasion) taken) (ends p t answer.IndexFull) (copies p t (Known absent_word) false) (ends_left p t answer.IndexFull home) (copies_left p t (Known absent_word) false home by)
 
 disk_left : (p : Places) (t : TryState) (addr : Addr) → IsHome p t.home → is_finding t.walk.step ≡ false → Left p t (met_disk p t addr)
 disk_left p t addr home past =
@@ -174,6 +202,7 @@ walked_left p t walk.Nowhere home past = nowhere_left p t home past
 walked_left p t (walk.OnDisk addr) home past = disk_left p t addr home past
 walked_left p t (walk.Value value) home past = ends_left p t _ home
 walked_left p t walk.Full home past = ends_left p t _ home
+walked_left p t walk.Kept home past = ends_left p t _ home
 walked_left p t walk.Contended home past = ends_left p t _ home
 
 lost_freed : (p : Places) (t : TryState) (its : WalkAnswer) → IsHome p t.home → has_walked its ≡ false → Freed p t (walked p t its)
@@ -182,6 +211,7 @@ lost_freed p t walk.Nowhere home lost = cc
 lost_freed p t (walk.OnDisk addr) home lost = cc
 lost_freed p t (walk.Value value) home lost = ends_freed p t _ home
 lost_freed p t walk.Full home lost = ends_freed p t _ home
+lost_freed p t walk.Kept home lost = ends_freed p t _ home
 lost_freed p t walk.Contended home lost = ends_freed p t _ home
 
 safe_left : (p : Places) (t : TryState) (addr : Addr) (version : Version) (safe : ℕ) → IsHome p t.home → GoesBySlot t → Left p t (safe_loaded p t addr version safe)
@@ -266,14 +296,17 @@ keeping : (p : Places) (reply : ℕ) (t after : TryState) → Left p t after →
 keeping p reply t after its = left_goes p reply (part (kept_work t) t.spare) t after (stays p reply (kept_work t) t.spare (kept_quiet t)) its
 
 -- an update's search may link
-may_first : (its : Op) → is_read its ≡ false → linking_for (purpose_of its) ≡ Never → ⊥
-may_first (op.Read key) update never = cc
-may_first (op.Upsert key value) update never = cc
-may_first (op.Delete key) update never = cc
-may_first its update never = cc
+may_within : (bounds : Option Bounds) → linking_for (update_within bounds) ≡ Never → ⊥
+may_within None never = cc
+may_within (Some bounds) never = cc
+
+may_first : (occasion : Occasion) (its : Op) → is_read its ≡ false → linking_for (purpose_at occasion its) ≡ Never → ⊥
+may_first occasion its update never =
+    let same : purpose_at occasion its ≡ update_within (bounds_at occasion) = rw update refl in
+    may_within (bounds_at occasion) (sym (ap linking_for same) ∙ never)
 
 walks_begin : (p : Places) (reply : ℕ) (t : TryState) → IsHome p t.home → TryGoes p reply (part NoWork t.spare) (walks p t)
-walks_begin p reply t home = record { knows = record { home = home; at = (refl, λ update. may_first t.request.op update) }; goes = record { work = Seeks t.home (purpose_of t.request.op) tt home refl; spare = refl } }
+walks_begin p reply t home = record { knows = record { home = home; at = (refl, λ update. may_first t.occasion t.request.op update) }; goes = record { work = Seeks t.home (purpose_at t.occasion t.request.op) tt home refl; spare = refl } }
 
 latch_goes : (p : Places) (reply : ℕ) (t : TryState) → IsHome p t.home → TryGoes p reply (part NoWork t.spare) (latch_shared p t)
 latch_goes p reply t home = by_mark (is_next_marked t.request.version)
@@ -362,6 +395,7 @@ step_goes p room t LoadsPhase reply at home knows asks = phase_goes p reply (rec
 step_goes p room t Walks reply at home knows asks =
     let its = walk_goes p reply (record t { effect = None; walk = walk_next p t.walk reply }) t.walk knows in
     walk_led_goes p reply (walk_part t t.walk t.walk.step) (record t { effect = None; walk = walk_next p t.walk reply }) (walk_ask p (walk_next p t.walk reply)) at refl (walk_rests p t.walk reply asks) home (record { knows = its.knows; goes = its.goes })
+step_goes p room t CountsTaken reply at home knows asks = keeping p reply (record t { effect = None }) _ (count_left p (record t { effect = None }) reply home (record { update = knows.update; past = knows.past }))
 step_goes p room t (LoadsSafe addr version) reply at home knows asks = keeping p reply (record t { effect = None }) _ (safe_left p (record t { effect = None }) addr version reply home (record { update = knows.update; past = knows.past }))
 step_goes p room t (SwapsValue addr) reply at home knows asks =
     let freed = ends_freed p (record t { effect = Some (reply_from None t.request.op) }) (answer.Done (reply_from None t.request.op)) home in
@@ -380,6 +414,8 @@ step_goes p room t (Appends its) reply at home knows asks =
     let moved : TryState = record t { effect = None; append = append_next p room t.append reply } in
     append_led_goes p reply (append_work t t.append.step) moved its (append_ask p (append_next p room t.append reply)) at refl (append_rests p room t.append reply asks) home knows.update (append_still p reply t.spare t t.append.step)
     (append_goes p room reply t.spare moved t.append knows.update (record { slot = knows.its.slot; previous = knows.its.previous }) knows.knows)
+step_goes p room t (LoadsTail waiting) reply at home knows asks = freely p reply (record t { effect = None }) _ (tail_freed p (record t { effect = None }) waiting reply home)
+step_goes p room t (LoadsTaken waiting) reply at home knows asks = freely p reply (record t { effect = None }) _ (taken_freed p (record t { effect = None }) waiting reply home)
 step_goes p room t (DropsExclusive its) reply at home knows asks = freely p reply (latch_moved (record t { effect = None }) reply) _ (dropped_freed p (latch_moved (record t { effect = None }) reply) its (latch_next_ask t.latching reply) at home)
 step_goes p room t (DropsShared its) reply at home knows asks = freely p reply (latch_moved (record t { effect = None }) reply) _ (unshared_freed p (latch_moved (record t { effect = None }) reply) its (latch_next_ask t.latching reply) at home)
 

@@ -14,11 +14,9 @@ use Rattle.law_world.specs.Below.fkv_log.Loading.{load_next, load_next_ask}
 use Rattle.fkv_index.specs.declared.finding.FindAnswer.{FindAnswer}
 use Rattle.fkv_index.specs.declared.finding.Found.{Found}
 use Rattle.fkv_index.specs.declared.finding.Found.TheVariants as found
-use Rattle.fkv_index.specs.declared.finding.Purpose.TheVariants.{Update}
 use Rattle.fkv_index.specs.Finding.{find_led, find_next, find_next_ask}
-use Rattle.fkv_index.specs.Searches.{IsFoundFor}
 use Rattle.fkv_index.specs.Slots.{entry_addr}
-use Rattle.fkv_index.proofs.Shown.{MayLink, led_so, update_led, led_may}
+use Rattle.fkv_index.proofs.Shown.{IsNoMiss, MayLink, led_so, update_led, led_may}
 use Rattle.law_world.specs.Below.fkv_ops.HeaderSaid.{HeaderSaid}
 use Rattle.law_world.specs.Below.fkv_ops.HeaderSaid.TheVariants.{Says, Spoiled}
 use Rattle.law_world.specs.Below.fkv_ops.WalkAnswer.{WalkAnswer}
@@ -26,7 +24,7 @@ use Rattle.law_world.specs.Below.fkv_ops.WalkAnswer.TheVariants as walk
 use Rattle.law_world.specs.Below.fkv_ops.TheWalking.{Walking}
 use Rattle.law_world.specs.Below.fkv_ops.TheWalking.TheVariants as walking
 use Rattle.law_world.specs.Below.fkv_ops.HeaderWords.{header_said}
-use Rattle.law_world.specs.Below.fkv_ops.Requests.{is_read, purpose_of}
+use Rattle.law_world.specs.Below.fkv_ops.Requests.{is_read, purpose_at}
 use Rattle.law_world.specs.Below.fkv_ops.Trying.{TryState, has_walked}
 use Rattle.law_world.specs.Below.fkv_ops.Walking.{WalkState, walk_ask, walking_ask, walking_next, walk_next, walking_on, walk_on, walk_ended, reached, slot_found, find_ledto, first_met, record_met, load_ledto, value_ledto}
 use Rattle.law_world.proofs.Below.fkv_ops.Shown.{is_walk_end}
@@ -165,7 +163,7 @@ behind_goes p reply before t w after behind goes =
 
 -- the search under way
 abbrev its_search : TryState → WalkState → Search
-its_search t w = record { finding = w.finding; purpose = purpose_of t.request.op }
+its_search t w = record { finding = w.finding; purpose = purpose_at t.occasion t.request.op }
 
 told_spare : (p : Places) (reply : ℕ) (its : Search) (spare : ℕ) (answer : FindAnswer) → find_next_ask p its.finding reply ≡ Done answer → answer.spare ≡ spare_by p reply (Searches its) spare
 told_spare p reply its spare answer asks = rw asks refl
@@ -188,7 +186,7 @@ none_goes p reply t w its spare answer asks finds may same = record { work = by_
   where
     by_read : (c : Bool) → is_read t.request.op ≡ c → WorkGoes p reply (Searches its) (if c then NoWork else KeepsSlot (slot_kept (with_walk t w))) w.spare
     by_read true read = Drops (ap is_done asks) refl
-    by_read false update = absurd (subst (IsFoundFor Update) finds (led_so (IsFoundFor Update) (find_led p its.finding its.finding.step reply) answer (update_led p its.finding its.finding.step reply (may update)) asks))
+    by_read false update = absurd (subst (IsNoMiss) finds (led_so (IsNoMiss) (find_led p its.finding its.finding.step reply) answer (update_led p its.finding its.finding.step reply (may update)) asks))
 
 slot_goes : (p : Places) (reply : ℕ) (t : TryState) (w : WalkState) (its : Search) (spare : ℕ) (answer : FindAnswer) (here : Found) → find_next_ask p its.finding reply ≡ Done answer → answer.found ≡ here → its.finding.home ≡ t.home → (IsUpdate t → MayLink its.finding)
     → w.spare ≡ answer.spare → WalkGoes p reply (part (Searches its) spare) t (slot_found p w here)
@@ -197,17 +195,18 @@ slot_goes p reply t w its spare answer (found.Slot place word) asks finds home m
     behind_goes p reply (part (Searches its) spare) t at (reached p at (entry_addr word)) (reached_behind p at (entry_addr word)) (found_goes p reply t at its spare answer asks finds home same)
 slot_goes p reply t w its spare answer found.NoSlot asks finds home may same = record { knows = tt; goes = none_goes p reply t (walk_ended w walk.Nowhere) its spare answer asks finds may same }
 slot_goes p reply t w its spare answer found.Full asks finds home may same = record { knows = tt; goes = lost_goes p reply t (walk_ended w walk.Full) its spare answer asks same }
+slot_goes p reply t w its spare answer found.Kept asks finds home may same = record { knows = tt; goes = lost_goes p reply t (walk_ended w walk.Kept) its spare answer asks same }
 slot_goes p reply t w its spare answer found.Contended asks finds home may same = record { knows = tt; goes = lost_goes p reply t (walk_ended w walk.Contended) its spare answer asks same }
 
 -- the search goes on
-more_goes : (p : Places) (reply : ℕ) (t : TryState) (w : WalkState) (its : Search) (spare : ℕ) → w.step ≡ walking.Finds → w.finding ≡ find_next p its.finding reply → its.purpose ≡ purpose_of t.request.op → w.spare ≡ spare → its.finding.home ≡ t.home
+more_goes : (p : Places) (reply : ℕ) (t : TryState) (w : WalkState) (its : Search) (spare : ℕ) → w.step ≡ walking.Finds → w.finding ≡ find_next p its.finding reply → its.purpose ≡ purpose_at t.occasion t.request.op → w.spare ≡ spare → its.finding.home ≡ t.home
     → (IsUpdate t → MayLink its.finding) → is_done (find_next_ask p its.finding reply) ≡ false → spare_by p reply (Searches its) spare ≡ spare → WalkGoes p reply (part (Searches its) spare) t w
 more_goes p reply t w its spare at same purpose kept home may more told = record {
   knows = subst (λ x. WalkKnows t w x) (sym at) (rw same (next_home p its.finding reply ∙ home), λ update. rw same (led_may p its.finding its.finding.step reply (may update)));
   goes = record { work = SeeksOn its refl more (rw (at, same, purpose) refl); spare = kept ∙ sym told };
 }
 
-find_goes : (p : Places) (reply : ℕ) (t : TryState) (w : WalkState) (its : Search) (spare : ℕ) (ask : Ask FindAnswer) → w.step ≡ walking.Finds → w.finding ≡ find_next p its.finding reply → its.purpose ≡ purpose_of t.request.op → w.spare ≡ spare → its.finding.home ≡ t.home
+find_goes : (p : Places) (reply : ℕ) (t : TryState) (w : WalkState) (its : Search) (spare : ℕ) (ask : Ask FindAnswer) → w.step ≡ walking.Finds → w.finding ≡ find_next p its.finding reply → its.purpose ≡ purpose_at t.occasion t.request.op → w.spare ≡ spare → its.finding.home ≡ t.home
     → (IsUpdate t → MayLink its.finding) → find_next_ask p its.finding reply ≡ ask → WalkGoes p reply (part (Searches its) spare) t (find_ledto p w ask)
 unfolding find_ledto
 find_goes p reply t w its spare (Done answer) at same purpose kept home may asks = slot_goes p reply t (record w { spare = answer.spare }) its spare answer answer.found asks refl home may refl

@@ -34,16 +34,19 @@ use Rattle.law_world.specs.Below.fkv_ops.Seen.{Seen}
 use Rattle.law_world.specs.Below.fkv_ops.OldValue.{OldValue}
 use Rattle.law_world.specs.Below.fkv_ops.OldValue.TheVariants.{InMemory, Known}
 use Rattle.law_world.specs.Below.fkv_ops.TheTrying.{Trying}
-use Rattle.law_world.specs.Below.fkv_ops.TheTrying.TheVariants.{Ended, TakesShared, LoadsPhase, Walks, LoadsSafe, SwapsValue, LoadsCurrent, ChangesValue, LoadsAnswer, TakesExclusive, LoadsOld, Appends, DropsExclusive, DropsShared}
+use Rattle.law_world.specs.Below.fkv_ops.TheTrying.TheVariants.{Ended, TakesShared, LoadsPhase, Walks, CountsTaken, LoadsSafe, SwapsValue, LoadsCurrent, ChangesValue, LoadsAnswer, TakesExclusive, LoadsOld, Appends, LoadsTail, LoadsTaken, DropsExclusive, DropsShared}
 use Rattle.law_world.specs.Below.fkv_ops.WalkAnswer.{WalkAnswer}
 use Rattle.law_world.specs.Below.fkv_ops.WalkAnswer.TheVariants as walk
 use Rattle.law_world.specs.Below.fkv_ops.Values.{value_of}
 use Rattle.law_world.specs.Below.fkv_ops.Requests.{is_read, is_blind}
 use Rattle.law_world.specs.Below.fkv_ops.Walking.{walk_ask, walk_next, walk_on}
 use Rattle.law_world.specs.Below.fkv_ops.Appending.{append_ask, append_next}
-use Rattle.law_world.specs.Below.fkv_ops.Trying.{TryState, with_latch, is_wait, is_prepare, ended_without, ends, takes_effect, walks, wants_shared, try_begun, shared_ledto, must_shift, wants_exclusive, appends, copies_from, copies, awaits, held_used, met_nowhere, met_disk, changes, is_own_version, region_met, met_record, walked, has_walked, walk_ledto, safe_loaded, current_ledto, value_changed, told_value, answer_ledto, exclusive_ledto, old_ledto, append_ledto, exclusive_dropped, shared_dropped, latch_moved, trying_next, try_next, new_try, is_next_marked, latch_shared, is_still_in, phase_loaded, is_surely_own}
+use Rattle.law_world.specs.Below.fkv_ops.Trying.{TryState, with_latch, is_wait, is_prepare, ended_without, ends_so, ends_by, is_bounded, tail_loaded, taken_loaded, must_count, count_loaded, ends, takes_effect, walks, wants_shared, try_begun, shared_ledto, must_shift, wants_exclusive, appends, copies_from, copies, awaits, held_used, met_nowhere, met_disk, changes, is_own_version, region_met, met_record, walked, has_walked, walk_ledto, safe_loaded, current_ledto, value_changed, told_value, answer_ledto, exclusive_ledto, old_ledto, append_ledto, exclusive_dropped, shared_dropped, latch_moved, trying_next, try_next, new_try, is_next_marked, latch_shared, is_still_in, phase_loaded, is_surely_own}
 use Rattle.fkv_index.specs.Slots.{home_of}
 use Rattle.law_refine.specs.Latches.Latchers.{its_latch, try_latching, held_if, try_alone}
+use Rattle.law_world.specs.Below.fkv_ops.Bounds.{bounds_at, is_past_taken, is_past_tail}
+use Rattle.law_world.specs.Below.fkv_ops.Waiting.{told_of, waiting_of}
+use Rattle.law_world.specs.Below.fkv_ops.TheWaiting.{Waiting}
 
 -- who begins to drop a latch that it holds alone holds it no more
 abbrev pub alone_left : LatchTask → ℕ → List ℕ → List ℕ
@@ -93,6 +96,8 @@ TryKnows p t (DropsExclusive its) = IsNotAlone t × (t.latching ≡ latching.Dro
 TryKnows p t (DropsShared its) = IsNotAlone t × (t.latching ≡ latching.DropsShare (its_latch p t))
 TryKnows p t LoadsOld = ⊤
 TryKnows p t (Appends its) = ⊤
+TryKnows p t (LoadsTail waiting) = ⊤
+TryKnows p t (LoadsTaken waiting) = ⊤
 TryKnows p t step = IsNotAlone t
 
 -- its bucket is one of the index, and what it knows
@@ -133,13 +138,36 @@ without_led p t its low alone =
     (record { its = record { low = low; knows = (alone, refl) }; fits = Starts DropShared refl refl refl tt })
     (record { its = record { low = low; knows = alone }; fits = Keeps refl refl refl })
 
-ends_led : (p : Places) (t : TryState) (its : TryAnswer) → t.home.bucket < p.buckets → TryLed p latching.AtRest (held_if (its_latch p t) t.has_exclusive) (ends p t its)
-unfolding ends
-ends_led p t its low = by_alone t.has_exclusive refl
+ends_so_led : (p : Places) (t : TryState) (its : TryAnswer) → t.home.bucket < p.buckets → TryLed p latching.AtRest (held_if (its_latch p t) t.has_exclusive) (ends_so p t its)
+unfolding ends_so
+ends_so_led p t its low = by_alone t.has_exclusive refl
   where
     by_alone : (b : Bool) → t.has_exclusive ≡ b → TryLed p latching.AtRest (held_if (its_latch p t) b) (if b then with_latch p (record t { has_exclusive = false }) DropExclusive (DropsExclusive its) else ended_without p t its)
     by_alone true e = record { its = record { low = low; knows = (refl, refl) }; fits = Starts DropExclusive refl refl (without_one (its_latch p t)) (held_one (its_latch p t)) }
     by_alone false e = without_led p t its low e
+
+-- it holds the latch still, while it looks for room
+ends_by_led : (p : Places) (t : TryState) (its : TryAnswer) (waiting : Option Waiting) → t.home.bucket < p.buckets → TryLed p latching.AtRest (held_if (its_latch p t) t.has_exclusive) (ends_by p t its waiting)
+ends_by_led p t its None low = ends_so_led p t its low
+ends_by_led p t its (Some waiting) low =
+    either_led (is_bounded t) p latching.AtRest (held_if (its_latch p t) t.has_exclusive) (record t { step = LoadsTail waiting }) (ends_so p t its)
+    (record { its = record { low = low; knows = tt }; fits = Keeps refl refl refl }) (ends_so_led p t its low)
+
+ends_led : (p : Places) (t : TryState) (its : TryAnswer) → t.home.bucket < p.buckets → TryLed p latching.AtRest (held_if (its_latch p t) t.has_exclusive) (ends p t its)
+unfolding ends
+ends_led p t its low = ends_by_led p t its (waiting_of its) low
+
+tail_led : (p : Places) (t : TryState) (waiting : Waiting) (tail : ℕ) → t.home.bucket < p.buckets → TryLed p latching.AtRest (held_if (its_latch p t) t.has_exclusive) (tail_loaded p t waiting tail)
+unfolding tail_loaded
+tail_led p t waiting tail low =
+    either_led (is_past_tail (bounds_at t.occasion) tail) p latching.AtRest (held_if (its_latch p t) t.has_exclusive) (ends_so p t answer.LogFull) _ (ends_so_led p t answer.LogFull low)
+    (either_led (t.walk.entry == 0) p latching.AtRest (held_if (its_latch p t) t.has_exclusive) (record t { step = LoadsTaken waiting }) (ends_so p t (told_of waiting))
+    (record { its = record { low = low; knows = tt }; fits = Keeps refl refl refl }) (ends_so_led p t (told_of waiting) low))
+
+taken_led : (p : Places) (t : TryState) (waiting : Waiting) (taken : ℕ) → t.home.bucket < p.buckets → TryLed p latching.AtRest (held_if (its_latch p t) t.has_exclusive) (taken_loaded p t waiting taken)
+unfolding taken_loaded
+taken_led p t waiting taken low =
+    either_led (is_past_taken (bounds_at t.occasion) taken) p latching.AtRest (held_if (its_latch p t) t.has_exclusive) (ends_so p t answer.IndexFull) (ends_so p t (told_of waiting)) (ends_so_led p t answer.IndexFull low) (ends_so_led p t (told_of waiting) low)
 
 -- where it held nothing
 ends_none : (p : Places) (t : TryState) (its : TryAnswer) → t.home.bucket < p.buckets → IsNotAlone t → TryLed p latching.AtRest [] (ends p t its)
@@ -177,7 +205,13 @@ held_led p t addr (Some held) low alone =
 
 nowhere_led : (p : Places) (t : TryState) → t.home.bucket < p.buckets → IsNotAlone t → TryLed p latching.AtRest [] (met_nowhere p t)
 nowhere_led p t low alone =
-    either_led (is_read t.request.op) p latching.AtRest [] (ends p t answer.Absent) (copies p t (Known absent_word) false) (ends_none p t answer.Absent low alone) (copies_led p t (Known absent_word) false low alone)
+    either_led (is_read t.request.op) p latching.AtRest [] (ends p t answer.Absent) _ (ends_none p t answer.Absent low alone)
+    (either_led (must_count p t) p latching.AtRest [] (record t { step = CountsTaken }) (copies p t (Known absent_word) false) (record { its = record { low = low; knows = alone }; fits = Keeps refl refl refl }) (copies_led p t (Known absent_word) false low alone))
+
+count_led : (p : Places) (t : TryState) (taken : ℕ) → t.home.bucket < p.buckets → IsNotAlone t → TryLed p latching.AtRest [] (count_loaded p t taken)
+unfolding count_loaded
+count_led p t taken low alone =
+    either_led (is_past_taken (bounds_at t.occasion) taken) p latching.AtRest [] (ends p t answer.IndexFull) (copies p t (Known absent_word) false) (ends_none p t answer.IndexFull low alone) (copies_led p t (Known absent_word) false low alone)
 
 disk_led : (p : Places) (t : TryState) (addr : Addr) → t.home.bucket < p.buckets → IsNotAlone t → TryLed p latching.AtRest [] (met_disk p t addr)
 disk_led p t addr low alone =
@@ -205,6 +239,7 @@ walked_led p t walk.Nowhere low alone = nowhere_led p t low alone
 walked_led p t (walk.OnDisk addr) low alone = disk_led p t addr low alone
 walked_led p t (walk.Value value) low alone = ends_none p t _ low alone
 walked_led p t walk.Full low alone = ends_none p t _ low alone
+walked_led p t walk.Kept low alone = ends_none p t _ low alone
 walked_led p t walk.Contended low alone = ends_none p t _ low alone
 
 walk_led : (p : Places) (t : TryState) (ask : Ask WalkAnswer) → t.step ≡ Walks → t.home.bucket < p.buckets → IsNotAlone t → TryLed p latching.AtRest [] (walk_ledto p t ask)
@@ -322,6 +357,7 @@ step_led p room t (Ended its) reply at low knows = resting p [] (record t { effe
 step_led p room t TakesShared reply at low knows = shared_led p (latch_moved (record t { effect = None }) reply) t.latching reply refl at low knows.0 knows.2 knows.1
 step_led p room t LoadsPhase reply at low knows = resting p [] _ reply (phase_led p (record t { effect = None }) (phase_said reply) low knows)
 step_led p room t Walks reply at low knows = resting p [] _ reply (walk_led p (record t { effect = None; walk = walk_next p t.walk reply }) (walk_ask p (walk_next p t.walk reply)) at low knows)
+step_led p room t CountsTaken reply at low knows = resting p [] _ reply (count_led p (record t { effect = None }) reply low knows)
 step_led p room t (LoadsSafe addr version) reply at low knows = resting p [] _ reply (safe_led p (record t { effect = None }) addr version reply low knows)
 step_led p room t (SwapsValue addr) reply at low knows = resting p [] _ reply (ends_none p (record t { effect = Some (reply_from None t.request.op) }) _ low knows)
 step_led p room t (LoadsCurrent addr) reply at low knows = resting p [] _ reply (current_led p (record t { effect = None; walk = walk_next p t.walk reply }) addr (walk_ask p (walk_next p t.walk reply)) at low knows)
@@ -331,6 +367,8 @@ step_led p room t (TakesExclusive old) reply at low knows = alone_led p (latch_m
 step_led p room t LoadsOld reply at low knows = resting p (held_if (its_latch p t) t.has_exclusive) _ reply (old_led p (record t { effect = None; walk = walk_next p t.walk reply }) (walk_ask p (walk_next p t.walk reply)) at low)
 step_led p room t (Appends its) reply at low knows = resting p (held_if (its_latch p t) t.has_exclusive) _ reply
     (append_led p (record t { effect = None; append = append_next p room t.append reply }) its (append_ask p (append_next p room t.append reply)) at low)
+step_led p room t (LoadsTail waiting) reply at low knows = resting p (held_if (its_latch p t) t.has_exclusive) _ reply (tail_led p (record t { effect = None }) waiting reply low)
+step_led p room t (LoadsTaken waiting) reply at low knows = resting p (held_if (its_latch p t) t.has_exclusive) _ reply (taken_led p (record t { effect = None }) waiting reply low)
 step_led p room t (DropsExclusive its) reply at low knows = dropped_led p (latch_moved (record t { effect = None }) reply) its t.latching (its_latch p t) reply knows.1 low knows.0
 step_led p room t (DropsShared its) reply at low knows = unshared_led p (latch_moved (record t { effect = None }) reply) its t.latching (its_latch p t) reply knows.1 low knows.0
 

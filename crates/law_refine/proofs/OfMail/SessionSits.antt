@@ -15,6 +15,7 @@ use Rattle.law_world.specs.Below.fkv_ops.Reason.TheVariants as reason
 use Rattle.law_world.specs.Below.fkv_ops.TryAnswer.{TryAnswer}
 use Rattle.law_world.specs.Below.fkv_ops.TryAnswer.TheVariants as tried
 use Rattle.law_world.specs.Below.fkv_ops.Occasion.TheVariants.{Call as AtCall, Poll as AtPoll}
+use Rattle.law_world.specs.Below.fkv_ops.Bounds.{bounds_of}
 use Rattle.law_world.specs.Below.fkv_ops.Requests.{is_read}
 use Rattle.law_world.specs.Below.fkv_pending.TheAttempting.{Attempting}
 use Rattle.law_world.specs.Below.fkv_pending.TheAttempting.TheVariants as attempting
@@ -95,7 +96,7 @@ turn_after_leads s its m ended = either_leads s.wants_turn (record s { own_turn 
 
 attempts_leads : (k : Seat) (s : SessionState) (has_shifted : Bool) (m : Mailing) → is_at_end m ≡ true → SessionLeads (attempts k s has_shifted) m
 unfolding attempts
-attempts_leads k s has_shifted m ended = attempt_begun_leads k.places (bits_of k) (request_in_hand s) s.seen AtCall s.spare s.is_orphaned m ended
+attempts_leads k s has_shifted m ended = attempt_begun_leads k.places (bits_of k) (request_in_hand s) s.seen (AtCall (bounds_of k.shape)) s.spare s.is_orphaned m ended
 
 polls_request_leads : (k : Seat) (s : SessionState) (index : ℕ) (found : Option PendingRequest) (m : Mailing) → is_at_end m ≡ true → SessionLeads (polls_request k s index found) m
 polls_request_leads k s index None m ended = turn_after_leads s (told.Polled (length s.requests)) m ended

@@ -16,6 +16,7 @@ use Rattle.law_world.specs.Below.fkv_ops.Reason.TheVariants as reason
 use Rattle.law_world.specs.Below.fkv_ops.TryAnswer.{TryAnswer}
 use Rattle.law_world.specs.Below.fkv_ops.TryAnswer.TheVariants as answer
 use Rattle.law_world.specs.Below.fkv_ops.Occasion.TheVariants.{Call as AtCall, Poll as AtPoll}
+use Rattle.law_world.specs.Below.fkv_ops.Bounds.{bounds_of}
 use Rattle.law_world.specs.Below.fkv_ops.Requests.{is_read}
 use Rattle.law_world.specs.Below.fkv_pending.MailAnswer.{MailAnswer}
 use Rattle.law_world.specs.Below.fkv_pending.MailAnswer.TheVariants as mail
@@ -74,7 +75,7 @@ plain after s its all = record { waiting = all; sits = tt }
 
 attempts_so : (after : Standing) (k : Seat) (s : SessionState) (has_shifted : Bool) → AreAllowed s.requests → IsAllowed s.op → IsSo after (attempts k s has_shifted)
 unfolding attempts
-attempts_so after k s has_shifted all allowed = record { waiting = all; sits = (attempt_so after k.places (bits_of k) (request_in_hand s) s.seen AtCall s.spare s.is_orphaned allowed, allowed) }
+attempts_so after k s has_shifted all allowed = record { waiting = all; sits = (attempt_so after k.places (bits_of k) (request_in_hand s) s.seen (AtCall (bounds_of k.shape)) s.spare s.is_orphaned allowed, allowed) }
 
 turns_so : (after : Standing) (s : SessionState) (its : Told) → AreAllowed s.requests → IsSo after (answers_after_turn s its)
 turns_so after s its all = either_so after s.wants_turn (record s { own_turn = own_turn_begun s.own_turn; step = Turns its }) (answers s its) (record { waiting = all; sits = tt }) (plain after s its all)

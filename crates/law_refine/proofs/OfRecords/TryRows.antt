@@ -16,7 +16,6 @@ use Rattle.law_world.specs.Below.fkv_log.Regions.{seen_region_of}
 use Rattle.fkv_latch.specs.declared.latching.LatchAnswer.{LatchAnswer}
 use Rattle.fkv_latch.specs.declared.latching.LatchAnswer.TheVariants as latch
 use Rattle.fkv_latch.specs.declared.latching.LatchTask.TheVariants.{TakeShared, DropShared, TakeExclusive, DropExclusive}
-use Rattle.fkv_index.specs.Slots.{home_of}
 use Rattle.law_world.specs.Below.fkv_ops.Reason.TheVariants as reason
 use Rattle.law_world.specs.Below.fkv_ops.TryAnswer.{TryAnswer}
 use Rattle.law_world.specs.Below.fkv_ops.TryAnswer.TheVariants as answer
@@ -29,15 +28,18 @@ use Rattle.law_world.specs.Below.fkv_ops.Seen.{Seen}
 use Rattle.law_world.specs.Below.fkv_ops.OldValue.{OldValue}
 use Rattle.law_world.specs.Below.fkv_ops.OldValue.TheVariants.{InMemory, Known}
 use Rattle.law_world.specs.Below.fkv_ops.TheTrying.{Trying}
-use Rattle.law_world.specs.Below.fkv_ops.TheTrying.TheVariants.{Ended, TakesShared, LoadsPhase, Walks, LoadsSafe, SwapsValue, LoadsCurrent, ChangesValue, LoadsAnswer, TakesExclusive, LoadsOld, Appends, DropsExclusive, DropsShared}
+use Rattle.law_world.specs.Below.fkv_ops.TheTrying.TheVariants.{Ended, TakesShared, LoadsPhase, Walks, CountsTaken, LoadsSafe, SwapsValue, LoadsCurrent, ChangesValue, LoadsAnswer, TakesExclusive, LoadsOld, Appends, LoadsTail, LoadsTaken, DropsExclusive, DropsShared}
 use Rattle.law_world.specs.Below.fkv_ops.WalkAnswer.{WalkAnswer}
 use Rattle.law_world.specs.Below.fkv_ops.WalkAnswer.TheVariants as walk
 use Rattle.law_world.specs.Below.fkv_ops.Requests.{is_read, is_blind}
 use Rattle.law_world.specs.Below.fkv_ops.Values.{value_of}
 use Rattle.law_world.specs.Below.fkv_ops.Walking.{walk_on}
 use Rattle.law_world.specs.Below.fkv_ops.Appending.{append_ask, append_next}
-use Rattle.law_world.specs.Below.fkv_ops.Trying.{TryState, with_latch, is_wait, ended_without, ends, takes_effect, full_at, wants_shared, walks, try_begun, shared_ledto, must_shift, wants_exclusive, appends, copies_from, copies, awaits, held_used, changes, is_own_version, region_met, walked, has_walked, walk_ledto, safe_loaded, current_ledto, value_changed, told_value, answer_ledto, exclusive_ledto, old_ledto, append_ledto, exclusive_dropped, shared_dropped, trying_next, try_next, new_try, is_next_marked, is_still_in, phase_loaded, is_surely_own}
+use Rattle.law_world.specs.Below.fkv_ops.Trying.{TryState, with_latch, is_wait, ended_without, ends_so as ends_now, ends_by, is_bounded, tail_loaded, taken_loaded, must_count, count_loaded, ends, takes_effect, full_at, wants_shared, walks, try_begun, shared_ledto, must_shift, wants_exclusive, appends, copies_from, copies, awaits, held_used, changes, is_own_version, region_met, walked, has_walked, walk_ledto, safe_loaded, current_ledto, value_changed, told_value, answer_ledto, exclusive_ledto, old_ledto, append_ledto, exclusive_dropped, shared_dropped, trying_next, try_next, new_try, is_next_marked, is_still_in, phase_loaded, is_surely_own}
 use Rattle.law_refine.proofs.OfRecords.AppendRows.{Standing, AppendStands, AppendWrites, append_so}
+use Rattle.law_world.specs.Below.fkv_ops.Bounds.{bounds_at, is_past_taken, is_past_tail}
+use Rattle.law_world.specs.Below.fkv_ops.Waiting.{told_of, waiting_of}
+use Rattle.law_world.specs.Below.fkv_ops.TheWaiting.{Waiting}
 
 abbrev pub TryStands : Standing → TryState → Trying → Type 0
 TryStands stands t (Appends its) = AppendStands stands t.append t.append.step
@@ -60,9 +62,26 @@ still after t step at its = subst (TryStands after t) (sym at) its
 ended_so : (after : Standing) (p : Places) (t : TryState) (its : TryAnswer) → TryStandsNow after (ended_without p t its)
 ended_so after p t its = either_so after (t.has_shared && not (is_wait its)) (with_latch p (record t { has_shared = false }) DropShared (DropsShared its)) (record t { step = Ended its }) tt tt
 
+ends_so_so : (after : Standing) (p : Places) (t : TryState) (its : TryAnswer) → TryStandsNow after (ends_now p t its)
+unfolding ends_now
+ends_so_so after p t its = either_so after t.has_exclusive (with_latch p (record t { has_exclusive = false }) DropExclusive (DropsExclusive its)) (ended_without p t its) tt (ended_so after p t its)
+
+ends_by_so : (after : Standing) (p : Places) (t : TryState) (its : TryAnswer) (waiting : Option Waiting) → TryStandsNow after (ends_by p t its waiting)
+ends_by_so after p t its None = ends_so_so after p t its
+ends_by_so after p t its (Some waiting) = either_so after (is_bounded t) (record t { step = LoadsTail waiting }) (ends_now p t its) (tt) (ends_so_so after p t its)
+
 ends_so : (after : Standing) (p : Places) (t : TryState) (its : TryAnswer) → TryStandsNow after (ends p t its)
 unfolding ends
-ends_so after p t its = either_so after t.has_exclusive (with_latch p (record t { has_exclusive = false }) DropExclusive (DropsExclusive its)) (ended_without p t its) tt (ended_so after p t its)
+ends_so after p t its = ends_by_so after p t its (waiting_of its)
+
+tail_so : (after : Standing) (p : Places) (t : TryState) (waiting : Waiting) (tail : ℕ) → TryStandsNow after (tail_loaded p t waiting tail)
+unfolding tail_loaded
+tail_so after p t waiting tail =
+    either_so after (is_past_tail (bounds_at t.occasion) tail) (ends_now p t answer.LogFull) (_) (ends_so_so after p t answer.LogFull) (either_so after (t.walk.entry == 0) (record t { step = LoadsTaken waiting }) (ends_now p t (told_of waiting)) (tt) (ends_so_so after p t (told_of waiting)))
+
+taken_so : (after : Standing) (p : Places) (t : TryState) (waiting : Waiting) (taken : ℕ) → TryStandsNow after (taken_loaded p t waiting taken)
+unfolding taken_loaded
+taken_so after p t waiting taken = either_so after (is_past_taken (bounds_at t.occasion) taken) (ends_now p t answer.IndexFull) (ends_now p t (told_of waiting)) (ends_so_so after p t answer.IndexFull) (ends_so_so after p t (told_of waiting))
 
 appends_so : (after : Standing) (t : TryState) (old : ℕ) → TryStandsNow after (appends t old)
 unfolding appends
@@ -76,6 +95,10 @@ from_so after t InMemory = either_so after (is_blind t.request.op) (appends t ab
 copies_so : (after : Standing) (p : Places) (t : TryState) (old : OldValue) (is_current : Bool) → TryStandsNow after (copies p t old is_current)
 unfolding copies
 copies_so after p t old is_current = either_so after (wants_exclusive t is_current) (with_latch p t TakeExclusive (TakesExclusive old)) (copies_from t old) tt (from_so after t old)
+
+count_so : (after : Standing) (p : Places) (t : TryState) (taken : ℕ) → TryStandsNow after (count_loaded p t taken)
+unfolding count_loaded
+count_so after p t taken = either_so after (is_past_taken (bounds_at t.occasion) taken) (ends p t answer.IndexFull) (copies p t (Known absent_word) false) (ends_so after p t answer.IndexFull) (copies_so after p t (Known absent_word) false)
 
 held_so : (after : Standing) (p : Places) (t : TryState) (addr : Addr) (held : Option HeldRecord) → TryStandsNow after (held_used p t addr held)
 unfolding held_used
@@ -95,12 +118,15 @@ region_so after p t addr found (Some its) =
 walked_so : (after : Standing) (p : Places) (t : TryState) (its : WalkAnswer) → TryStandsNow after (walked p t its)
 walked_so after p t (walk.Found addr found) =
     either_so after (is_read t.request.op) (record t { walk = walk_on t.walk; step = LoadsAnswer }) (region_met p t addr found (seen_region_of addr.0 t.seen.offsets)) tt (region_so after p t addr found (seen_region_of addr.0 t.seen.offsets))
-walked_so after p t walk.Nowhere = either_so after (is_read t.request.op) (ends p t answer.Absent) (copies p t (Known absent_word) false) (ends_so after p t answer.Absent) (copies_so after p t (Known absent_word) false)
+walked_so after p t walk.Nowhere =
+    either_so after (is_read t.request.op) (ends p t answer.Absent) _ (ends_so after p t answer.Absent)
+    (either_so after (must_count p t) (record t { step = CountsTaken }) (copies p t (Known absent_word) false) tt (copies_so after p t (Known absent_word) false))
 walked_so after p t (walk.OnDisk addr) =
     either_so after (is_read t.request.op) (awaits p t addr) _ (ends_so after p t _)
     (either_so after (is_blind t.request.op) (copies p t (Known absent_word) false) (held_used p t addr t.request.held) (copies_so after p t (Known absent_word) false) (held_so after p t addr t.request.held))
 walked_so after p t (walk.Value value) = ends_so after p t (answer.Wait reason.Contended)
 walked_so after p t walk.Full = ends_so after p t (full_at t.occasion answer.IndexFull)
+walked_so after p t walk.Kept = ends_so after p t (full_at t.occasion answer.IndexFull)
 walked_so after p t walk.Contended = ends_so after p t (answer.Wait reason.Contended)
 
 shared_so : (after : Standing) (p : Places) (t : TryState) (ask : Ask LatchAnswer) → t.step ≡ TakesShared → TryStandsNow after (shared_ledto p t ask)
@@ -178,6 +204,7 @@ step_so stands after p room t (Ended end) reply at so writes = still after t (En
 step_so stands after p room t TakesShared reply at so writes = shared_so after p _ _ at
 step_so stands after p room t LoadsPhase reply at so writes = phase_so after p t (phase_said reply)
 step_so stands after p room t Walks reply at so writes = walk_so after p _ _ at
+step_so stands after p room t CountsTaken reply at so writes = count_so after p t reply
 step_so stands after p room t (LoadsSafe addr found) reply at so writes = safe_so after p t addr found reply
 step_so stands after p room t (SwapsValue addr) reply at so writes = ends_so after p (record t { effect = Some (reply_from None t.request.op) }) (answer.Done (reply_from None t.request.op))
 step_so stands after p room t (LoadsCurrent addr) reply at so writes = current_so after p _ addr _ at
@@ -187,6 +214,8 @@ step_so stands after p room t (TakesExclusive old) reply at so writes = exclusiv
 step_so stands after p room t LoadsOld reply at so writes = old_so after p _ _ at
 step_so stands after p room t (Appends its) reply at so writes =
     append_led after p (record t { append = append_next p room t.append reply }) its (append_ask p (append_next p room t.append reply)) at (append_so stands after p room t.append t.append.step reply refl so writes)
+step_so stands after p room t (LoadsTail waiting) reply at so writes = tail_so after p t waiting reply
+step_so stands after p room t (LoadsTaken waiting) reply at so writes = taken_so after p t waiting reply
 step_so stands after p room t (DropsExclusive end) reply at so writes = exclusive_dropped_so after p _ end _ at
 step_so stands after p room t (DropsShared end) reply at so writes = shared_dropped_so after _ end _ at
 

@@ -153,7 +153,7 @@ writes_by : (w : GuardWorld) (a : ℕ) (x : Actor) (work : Work) (place : ℕ) �
 unfolding reserve_ask fill_ask invalidate_ask flush_ask serve_ask
 writes_by w a x Rests place sound got its e high = at_rest w a x place sound got e high
 writes_by w a x (Reserves reserve.AtRest) place sound got its e high = at_rest w a x place sound got e high
-writes_by w a x (Reserves reserve.LoadsLimit) place sound got its e high = no_place place e
+writes_by w a x (Reserves (reserve.LoadsLimit bound)) place sound got its e high = no_place place e
 writes_by w a x (Reserves (reserve.LoadsTail limit)) place sound got its e high = no_place place e
 writes_by w a x (Reserves (reserve.TakesTail tail)) place sound got its e high = low_none w (Some 3) place (omega arith) e high
 writes_by w a x (Fills fill.AtRest) place sound got its e high = at_rest w a x place sound got e high

@@ -7,11 +7,11 @@ use Rattle.fkv_index.specs.declared.homes.Home.{Home}
 use Rattle.law_world.specs.Below.fkv_ops.TheAppending.{Appending}
 use Rattle.law_world.specs.Below.fkv_ops.TheAppending.TheVariants.{Reserves, Fills, Publishes}
 use Rattle.law_world.specs.Below.fkv_ops.TheTrying.{Trying}
-use Rattle.law_world.specs.Below.fkv_ops.TheTrying.TheVariants.{Walks, LoadsSafe, TakesExclusive, LoadsOld, Appends}
+use Rattle.law_world.specs.Below.fkv_ops.TheTrying.TheVariants.{Walks, CountsTaken, LoadsSafe, TakesExclusive, LoadsOld, Appends}
 use Rattle.law_world.specs.Below.fkv_ops.WalkAnswer.{WalkAnswer}
 use Rattle.law_world.specs.Below.fkv_ops.TheWalking.{Walking}
 use Rattle.law_world.specs.Below.fkv_ops.TheWalking.TheVariants.{Finds, Ended}
-use Rattle.law_world.specs.Below.fkv_ops.Requests.{is_read, purpose_of}
+use Rattle.law_world.specs.Below.fkv_ops.Requests.{is_read, purpose_at}
 use Rattle.law_world.specs.Below.fkv_ops.Trying.{TryState, has_walked}
 use Rattle.law_world.specs.Below.fkv_pending.TheAttempting.{Attempting}
 use Rattle.law_world.specs.Below.fkv_pending.TheAttempting.TheVariants.{Tries}
@@ -57,7 +57,7 @@ ended_work t its = if has_walked its then kept_work t else NoWork
 
 -- a try searches where its walk begins, and then it goes by the slot that was found
 abbrev pub walk_work : TryState → Walking → SessionWork
-walk_work t Finds = Searches (record { finding = t.walk.finding; purpose = purpose_of t.request.op })
+walk_work t Finds = Searches (record { finding = t.walk.finding; purpose = purpose_at t.occasion t.request.op })
 walk_work t (Ended its) = ended_work t its
 walk_work t step = kept_work t
 
@@ -70,6 +70,7 @@ append_work t step = NoWork
 
 abbrev pub try_work : TryState → Trying → SessionWork
 try_work t Walks = walk_work t t.walk.step
+try_work t CountsTaken = kept_work t
 try_work t (LoadsSafe addr version) = kept_work t
 try_work t (TakesExclusive old) = kept_work t
 try_work t LoadsOld = kept_work t

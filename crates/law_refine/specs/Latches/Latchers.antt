@@ -5,7 +5,7 @@ use Rattle.fkv_plane.specs.Places.{bucket_place}
 use Rattle.fkv_latch.specs.declared.latching.Latching.{Latching}
 use Rattle.fkv_latch.specs.declared.latching.Latching.TheVariants.{AtRest}
 use Rattle.law_world.specs.Below.fkv_ops.TheTrying.{Trying}
-use Rattle.law_world.specs.Below.fkv_ops.TheTrying.TheVariants.{TakesShared, TakesExclusive, DropsExclusive, DropsShared, LoadsOld, Appends}
+use Rattle.law_world.specs.Below.fkv_ops.TheTrying.TheVariants.{TakesShared, TakesExclusive, DropsExclusive, DropsShared, LoadsOld, Appends, LoadsTail, LoadsTaken}
 use Rattle.law_world.specs.Below.fkv_ops.Trying.{TryState}
 use Rattle.law_world.specs.Below.fkv_pending.TheAttempting.{Attempting}
 use Rattle.law_world.specs.Below.fkv_pending.TheAttempting.TheVariants.{Tries}
@@ -55,6 +55,8 @@ held_if place has = if has then place ∷ [] else []
 abbrev pub try_alone : Places → TryState → Trying → List ℕ
 try_alone p t LoadsOld = held_if (its_latch p t) t.has_exclusive
 try_alone p t (Appends its) = held_if (its_latch p t) t.has_exclusive
+try_alone p t (LoadsTail waiting) = held_if (its_latch p t) t.has_exclusive
+try_alone p t (LoadsTaken waiting) = held_if (its_latch p t) t.has_exclusive
 try_alone p t step = []
 
 abbrev pub attempt_alone : Places → AttemptState → Attempting → List ℕ

@@ -43,7 +43,7 @@ use Rattle.law_world.proofs.OfGuardSessions.AppendsLed.{truth, reserved_then, re
 reserve_is : (r : Reserving) (work : Work) → 0 < reserve_asks_left r → FitsWork (reserve_work r) work → work ≡ guard.Reserves r
 unfolding reserve_asks_left
 reserve_is reserving.AtRest work some fits = absurd (omega (arith, some))
-reserve_is reserving.LoadsLimit work some fits = fits
+reserve_is (reserving.LoadsLimit bound) work some fits = fits
 reserve_is (reserving.LoadsTail limit) work some fits = fits
 reserve_is (reserving.TakesTail tail) work some fits = fits
 

@@ -36,7 +36,7 @@ reserved_then s ask = None
 pub reserve_ends : (room : ℕ) (r : Reserving) (reply : ℕ) → is_done (reserve_next_ask room r reply) ≡ true → reserve_work (reserve_next r reply) ≡ None
 unfolding reserve_ask reserve_next reserve_next_ask
 reserve_ends room reserving.AtRest reply e = refl
-reserve_ends room reserving.LoadsLimit reply e = cc
+reserve_ends room (reserving.LoadsLimit bound) reply e = cc
 reserve_ends room (reserving.LoadsTail limit) reply e = by_test (nat_lt reply limit) e
   where
     by_test : (b : Bool) → is_done (if b then reserve_ask (reserving.TakesTail reply) else Done (no_room_at room reply)) ≡ true → reserve_work (if b then reserving.TakesTail reply else reserving.AtRest) ≡ None
@@ -47,7 +47,7 @@ reserve_ends room (reserving.TakesTail tail) reply e = refl
 pub reserve_goes : (room : ℕ) (r : Reserving) (reply : ℕ) → is_done (reserve_next_ask room r reply) ≡ false → reserve_onward (reserve_next r reply) ≡ Stays
 unfolding reserve_ask reserve_next reserve_next_ask
 reserve_goes room reserving.AtRest reply e = refl
-reserve_goes room reserving.LoadsLimit reply e = refl
+reserve_goes room (reserving.LoadsLimit bound) reply e = refl
 reserve_goes room (reserving.LoadsTail limit) reply e = elim (truth (nat_lt reply limit)) [ inl t ↦ rw t refl | inr t ↦ rw t refl ]
 reserve_goes room (reserving.TakesTail tail) reply e = refl
 

@@ -1,6 +1,6 @@
 -- An append publishes its entry at the slot that was found.
 use Rattle.std.proofs.Common.{◌≡◌, ℕ, ◌^◌, refl, sym, subst, Bool, true, false}
-use Rattle.std.specs.Prelude.{if◌then◌else◌, ◌&&◌, nat_lt, ⊤}
+use Rattle.std.specs.Prelude.{if◌then◌else◌, ◌&&◌, nat_lt, ⊤, Option}
 use Rattle.fkv_base.specs.declared.numbers.Addr.{Addr}
 use Rattle.fkv_plane.specs.declared.asks.Ask.{Ask}
 use Rattle.fkv_plane.specs.declared.asks.Ask.TheVariants.{Done}
@@ -113,5 +113,5 @@ pub append_next_outer : (p : Places) (room : ℕ) (a : AppendState) (reply : ℕ
 append_next_outer p room a reply its = next_outer p room a a.step reply refl its.place
 
 -- as it begins
-pub append_begun_outer : (p : Places) (slot : FoundSlot) (its : RecordWords) → is_guarded p slot.place ≡ false → IsAppendOuter p (append_begun slot its)
-append_begun_outer p slot its outer = record { place = outer; publishes = tt }
+pub append_begun_outer : (p : Places) (slot : FoundSlot) (its : RecordWords) (bound : Option ℕ) → is_guarded p slot.place ≡ false → IsAppendOuter p (append_begun slot its bound)
+append_begun_outer p slot its bound outer = record { place = outer; publishes = tt }

@@ -78,7 +78,7 @@ record_spares p a addr word below = λ same. omega (arith, same, below)
 reserve_spares : (a : ℕ) (r : Reserving) → Spares (writes (reserve_ask r)) (session_place a own.Epoch)
 unfolding reserve_ask
 reserve_spares a reserving.AtRest = tt
-reserve_spares a reserving.LoadsLimit = tt
+reserve_spares a (reserving.LoadsLimit bound) = tt
 reserve_spares a (reserving.LoadsTail limit) = tt
 reserve_spares a (reserving.TakesTail tail) = λ same. omega (arith, same)
 

@@ -14,16 +14,14 @@ use Rattle.fkv_index.specs.declared.finding.FindStep.{FindStep}
 use Rattle.fkv_index.specs.declared.finding.FindStep.TheVariants.{AtRest, LoadsSlot, LoadsLink, LoadsTaken, TakesBucket, LinksBucket}
 use Rattle.fkv_index.specs.declared.finding.Finding.{Finding}
 use Rattle.fkv_index.specs.declared.finding.Found.{Found}
-use Rattle.fkv_index.specs.declared.finding.Found.TheVariants.{Slot, NoSlot, Full, Contended}
+use Rattle.fkv_index.specs.declared.finding.Found.TheVariants.{Slot, NoSlot, Full, Kept, Contended}
 use Rattle.fkv_index.specs.declared.finding.Linking.{Linking}
-use Rattle.fkv_index.specs.declared.finding.Linking.TheVariants.{Never, Once, Made}
+use Rattle.fkv_index.specs.declared.finding.Linking.TheVariants.{Never, Once, Within, Made}
 use Rattle.fkv_index.specs.declared.finding.Purpose.{Purpose}
-use Rattle.fkv_index.specs.declared.finding.Purpose.TheVariants.{Update}
 use Rattle.fkv_index.specs.declared.homes.Home.{Home}
 use Rattle.fkv_index.specs.Slots.{bucket_slots, entry_tag, is_entry, slot_word, link_of}
-use Rattle.fkv_index.specs.Finding.{first_finding, find_step_ask, find_ask, slot_after, slot_led, entered, ended_list, link_led, taken_led, took_led, linked_led, find_led, led_to, led_ask, find_next, find_next_ask}
-use Rattle.fkv_index.specs.Searches.{IsFoundFor}
-use Rattle.fkv_index.proofs.Shown.{MayLink, led_so, update_led}
+use Rattle.fkv_index.specs.Finding.{first_finding, find_step_ask, find_ask, slot_after, slot_led, entered, ended_list, link_led, taken_led, takes_led, is_kept, took_led, linked_led, find_led, led_to, led_ask, find_next, find_next_ask}
+use Rattle.fkv_index.proofs.Shown.{IsNoMiss, MayLink, led_so, update_led}
 use Rattle.law_world.specs.GuardSessions.Steps.{IsOuter}
 
 -- slots are those of a bucket, and what is linked is one of the overflow buckets
@@ -145,6 +143,7 @@ ended_finds : (p : Places) (f : Finding) (word : ℕ) (linking : Linking) → Is
 ended_finds p f word Never its = ends p (record f { step = AtRest }) (record { found = NoSlot; spare = f.spare }) tt
 ended_finds p f word Once its =
     goes p (record f { step = if f.spare == 0 then LoadsTaken word else LinksBucket word }) (record { bucket = its.bucket; few = its.few; its_base = its.its_base; links = spare_links f.spare word })
+ended_finds p f word (Within bound) its = goes p (record f { step = LoadsTaken word }) (record { bucket = its.bucket; few = its.few; its_base = its.its_base; links = tt })
 ended_finds p f word Made its = ends p (record f { step = AtRest }) (record { found = Contended; spare = f.spare }) tt
 
 link_finds : (p : Places) (f : Finding) (word : ℕ) → IsAtBucket p f → FindsOuter p (led_to (link_led p f word)) (led_ask (link_led p f word))
@@ -154,12 +153,23 @@ link_finds p f word its = by_link (link_of word == 0) refl
     by_link true e = rw e (ended_finds p f word f.linking its)
     by_link false e = let some : 1 ≤ link_of word = grind (arith, nat_tests, e) in rw e (entered_finds p f (link_of word) some)
 
-taken_finds : (p : Places) (f : Finding) (word taken : ℕ) → IsAtBucket p f → FindsOuter p (led_to (taken_led p f word taken)) (led_ask (taken_led p f word taken))
-taken_finds p f word taken its = by_count (nat_lt taken p.overflow) refl
+takes_finds : (p : Places) (f : Finding) (word taken : ℕ) → IsAtBucket p f → FindsOuter p (led_to (takes_led p f word taken)) (led_ask (takes_led p f word taken))
+takes_finds p f word taken its = by_count (nat_lt taken p.overflow) refl
   where
-    by_count : (b : Bool) → nat_lt taken p.overflow ≡ b → FindsOuter p (led_to (taken_led p f word taken)) (led_ask (taken_led p f word taken))
+    by_count : (b : Bool) → nat_lt taken p.overflow ≡ b → FindsOuter p (led_to (takes_led p f word taken)) (led_ask (takes_led p f word taken))
     by_count true e = rw e (goes p (record f { step = TakesBucket word taken }) (record { bucket = its.bucket; few = its.few; its_base = its.its_base; links = tt }))
     by_count false e = rw e (ends p (record f { step = AtRest }) (record { found = Full; spare = f.spare }) tt)
+
+taken_finds : (p : Places) (f : Finding) (word taken : ℕ) → IsAtBucket p f → FindsOuter p (led_to (taken_led p f word taken)) (led_ask (taken_led p f word taken))
+taken_finds p f word taken its = by_kept (is_kept f.linking taken) refl
+  where
+    by_spare : (b : Bool) → (f.spare == 0) ≡ b → is_kept f.linking taken ≡ false → FindsOuter p (led_to (taken_led p f word taken)) (led_ask (taken_led p f word taken))
+    by_spare true e below = rw (below, e) (takes_finds p f word taken its)
+    by_spare false e below = rw (below, e) (goes p (record f { step = LinksBucket word }) (record { bucket = its.bucket; few = its.few; its_base = its.its_base; links = grind (arith, nat_tests, e) }))
+
+    by_kept : (b : Bool) → is_kept f.linking taken ≡ b → FindsOuter p (led_to (taken_led p f word taken)) (led_ask (taken_led p f word taken))
+    by_kept true e = rw e (ends p (record f { step = AtRest }) (record { found = Kept; spare = f.spare }) tt)
+    by_kept false e = by_spare (f.spare == 0) refl e
 
 took_finds : (p : Places) (f : Finding) (word taken reply : ℕ) → IsAtBucket p f → FindsOuter p (led_to (took_led f word taken reply)) (led_ask (took_led f word taken reply))
 took_finds p f word taken reply its = by_count (reply == taken) refl
@@ -192,14 +202,14 @@ finds_outer p f reply its = led_finds p f f.step reply its its.links
 pub first_outer : (p : Places) (home : Home) (purpose : Purpose) (spare : ℕ) → home.bucket < p.buckets → IsAtBucket p (first_finding p home purpose spare)
 first_outer p home purpose spare low = record { bucket = home.bucket; few = omega (arith, low); its_base = refl; links = omega arith }
 
--- an update is told of a slot, or that there is none left
+-- an update is told of a slot, or that there is none left for it
 abbrev pub TellsUpdate : Ask FindAnswer → Type 0
-TellsUpdate (Done its) = IsFoundFor Update its.found
+TellsUpdate (Done its) = IsNoMiss its.found
 TellsUpdate ask = ⊤
 
 pub next_update : (p : Places) (f : Finding) (reply : ℕ) → MayLink f → TellsUpdate (find_next_ask p f reply)
 next_update p f reply may = by_ask (find_next_ask p f reply) refl
   where
     by_ask : (ask : Ask FindAnswer) → find_next_ask p f reply ≡ ask → TellsUpdate ask
-    by_ask (Done its) e = led_so (IsFoundFor Update) (find_led p f f.step reply) its (update_led p f f.step reply may) e
+    by_ask (Done its) e = led_so IsNoMiss (find_led p f f.step reply) its (update_led p f f.step reply may) e
     by_ask ask e = tt

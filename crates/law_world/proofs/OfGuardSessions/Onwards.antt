@@ -22,7 +22,7 @@ abbrev pub MayStart : Bool → Likeness → GuardTask → Type 0
 MayStart protected mid (ToDo ToProtect) = mid.undecided ≡ None
 MayStart protected mid (ToDo ToRefresh) = (mid.undecided ≡ None) × (protected ≡ true)
 MayStart protected mid (ToDo ToLeave) = mid.undecided ≡ None
-MayStart protected mid ToReserve = (mid.undecided ≡ None) × (protected ≡ true)
+MayStart protected mid (ToReserve bound) = (mid.undecided ≡ None) × (protected ≡ true)
 MayStart protected mid (ToFill its_words) = (addr : ℕ) × (mid.undecided ≡ Some addr)
 MayStart protected mid (ToInvalidate header) = (addr : ℕ) × (mid.undecided ≡ Some addr)
 MayStart protected mid task = ⊤
@@ -30,7 +30,7 @@ MayStart protected mid task = ⊤
 -- what the actor is like then. The mailboxes are the keeper's alone
 abbrev pub started_likeness : Likeness → GuardTask → Likeness
 started_likeness mid (ToDo task) = record mid { machine = Some (first_machine task); work = None }
-started_likeness mid ToReserve = record mid { work = Some (guard.Reserves reserve.LoadsLimit) }
+started_likeness mid (ToReserve bound) = record mid { work = Some (guard.Reserves (reserve.LoadsLimit bound)) }
 started_likeness mid (ToFill its_words) = record mid { work = Some (guard.Fills (fill.StoresValue (address_of mid.undecided) its_words)) }
 started_likeness mid (ToInvalidate header) = record mid { work = Some (guard.Invalidates (invalidate.StoresHeader (address_of mid.undecided) header)) }
 started_likeness mid ToShift = record mid { work = Some (guard.Shifts shift_begun) }
@@ -66,7 +66,7 @@ may_start protected m a y mid (ToDo ToLeave) its of fits rests may = rw (fits.un
 may_start protected m a y mid (ToDo ToScan) its of fits rests may = refl
 may_start protected m a y mid (ToDo ToClaim) its of fits rests may = refl
 may_start protected m a y mid (ToDo ToRaise) its of fits rests may = refl
-may_start protected m a y mid ToReserve its of fits rests may = rw (fits.undecided ∙ may.0, is_there a m.places.sessions its.below, is_some (own_epoch m.words a) (its.epoch may.1), rests) refl
+may_start protected m a y mid (ToReserve bound) its of fits rests may = rw (fits.undecided ∙ may.0, is_there a m.places.sessions its.below, is_some (own_epoch m.words a) (its.epoch may.1), rests) refl
 may_start protected m a y mid (ToFill its_words) its of fits rests may = rw (fits.undecided ∙ may.1) refl
 may_start protected m a y mid (ToInvalidate header) its of fits rests may = rw (fits.undecided ∙ may.1) refl
 may_start protected m a y mid ToShift its of fits rests may = refl
@@ -80,7 +80,7 @@ fits_none machine (Some its) e fits = cc
 
 started_fits : (m : GuardNow) (y : Actor) (mid : Likeness) (task : GuardTask) → IsOfSessions task → Fits mid y → Fits (started_likeness mid task) (started m y task)
 started_fits m y mid (ToDo task) of fits = record { machine = refl; work = refl; seen = fits.seen; undecided = fits.undecided }
-started_fits m y mid ToReserve of fits = record { machine = fits.machine; work = refl; seen = fits.seen; undecided = fits.undecided }
+started_fits m y mid (ToReserve bound) of fits = record { machine = fits.machine; work = refl; seen = fits.seen; undecided = fits.undecided }
 started_fits m y mid (ToFill its_words) of fits = record { machine = fits.machine; work = ap (λ u. guard.Fills (fill.StoresValue (address_of u) its_words)) fits.undecided; seen = fits.seen; undecided = fits.undecided }
 started_fits m y mid (ToInvalidate header) of fits = record { machine = fits.machine; work = ap (λ u. guard.Invalidates (invalidate.StoresHeader (address_of u) header)) fits.undecided; seen = fits.seen; undecided = fits.undecided }
 started_fits m y mid ToShift of fits = record { machine = fits.machine; work = refl; seen = fits.seen; undecided = fits.undecided }

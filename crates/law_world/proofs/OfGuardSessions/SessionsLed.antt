@@ -47,6 +47,7 @@ use Rattle.law_world.proofs.OfGuardSessions.Onwards.{Leads, Keeps, Begins, staye
 use Rattle.law_world.proofs.OfGuardSessions.AttemptsLed.{AttemptLed, attempt_begun_led}
 use Rattle.law_world.proofs.OfGuardSessions.AppendsLed.{truth}
 use Rattle.law_world.proofs.OfGuardSessions.CatchesLed.{catch_through}
+use Rattle.fkv_ops.specs.Bounds.{bounds_of}
 
 pub record SessionLed (protected : Bool) (mid : Likeness) (s : SessionState) : Type 0 where
   pub leads : Leads protected mid (sitting_onward s s.step) (session_likeness s)
@@ -70,8 +71,8 @@ module _ (protected : Bool) (k : Seat) where
   attempts_led : (s : SessionState) (has_shifted : Bool) → Free (last_seen s.seen) (attempts k s has_shifted)
   unfolding attempts
   attempts_led s has_shifted = record {
-    leads = attempt_begun_led protected k.places (bits_of k) (last_seen s.seen) (request_in_hand s) s.seen AtCall s.spare s.is_orphaned;
-    knows = attempt_begun_rests k.places (bits_of k) (request_in_hand s) s.seen AtCall s.spare s.is_orphaned;
+    leads = attempt_begun_led protected k.places (bits_of k) (last_seen s.seen) (request_in_hand s) s.seen (AtCall (bounds_of k.shape)) s.spare s.is_orphaned;
+    knows = attempt_begun_rests k.places (bits_of k) (request_in_hand s) s.seen (AtCall (bounds_of k.shape)) s.spare s.is_orphaned;
   }
 
   polls_request_led : (s : SessionState) (index : ℕ) (found : Option PendingRequest) → Free (last_seen s.seen) (polls_request k s index found)

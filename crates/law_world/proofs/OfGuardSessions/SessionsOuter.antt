@@ -38,6 +38,7 @@ use Rattle.fkv_session.specs.Shares.{HasItsBuckets}
 use Rattle.law_world.specs.GuardSessions.Sessions.{SittingWritesOuter, SessionWritesOuter}
 use Rattle.law_world.proofs.OfGuardSessions.AttemptsOuter.{HomesAreLow, IsAttemptOuter, attempt_owes, attempt_begun_outer, attempt_next_outer}
 use Rattle.law_world.proofs.OfGuardSessions.CatchesOuter.{IsCatchOuter, catch_owes, catch_next_outer}
+use Rattle.fkv_ops.specs.Bounds.{bounds_of}
 
 abbrev pub Homes : Seat → Type 0
 Homes k = HomesAreLow k.places (bits_of k)
@@ -85,7 +86,7 @@ turn_after_outer p s its = either_outer s.wants_turn p (record s { own_turn = ow
 
 attempts_outer : (k : Seat) (homes : Homes k) (s : SessionState) (has_shifted : Bool) → IsSessionOuter k.places (attempts k s has_shifted)
 unfolding attempts
-attempts_outer k homes s has_shifted = attempt_begun_outer k.places (bits_of k) (request_in_hand s) s.seen AtCall s.spare s.is_orphaned homes
+attempts_outer k homes s has_shifted = attempt_begun_outer k.places (bits_of k) (request_in_hand s) s.seen (AtCall (bounds_of k.shape)) s.spare s.is_orphaned homes
 
 polls_request_outer : (k : Seat) (homes : Homes k) (s : SessionState) (index : ℕ) (found : Option PendingRequest) → IsSessionOuter k.places (polls_request k s index found)
 polls_request_outer k homes s index None = turn_after_outer k.places s (told.Polled (length s.requests))

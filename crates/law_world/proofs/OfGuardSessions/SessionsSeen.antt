@@ -33,6 +33,7 @@ use Rattle.fkv_session.specs.OwnTurns.{own_turn_begun, own_turn_given}
 use Rattle.fkv_session.specs.Sessions.{SessionState, Seat, IsOpened, bits_of, room_of, answers, refuses, answers_after_turn, request_in_hand, attempts, polls_request, polls_at, refusal_of, op_begun, refresh_call, poll_begun, poll_call, sleep_call, wake_call, call_begun, ticket_after, attempt_left, serial_taken, update_done, is_no_room, lacks_room, with_request, accepts, shifts, attempted, attempt_ledto, caught_up, catch_ledto, clear_ledto, is_finished, is_owed, request_finished, finishes_request, keeps_request, poll_ledto, turn_ledto, leave_ledto, attempt_moved, caught, own_turn_moved, session_ask, sitting_next, session_next, sitting_given, session_given, asks_after, is_word_ask, is_busy}
 use Rattle.fkv_session.specs.SessionRun.{SessionEvent, Begins, Replies, Gets, begins, session_happens, session_run}
 use Rattle.law_world.proofs.OfGuardSessions.AttemptsSeen.{IsAttemptAbove, attempt_begun_above, attempt_next_above}
+use Rattle.fkv_ops.specs.Bounds.{bounds_of}
 
 -- an attempt goes by what the session has seen
 abbrev pub SittingAbove : SessionState → Sitting → Type 0
@@ -56,7 +57,7 @@ turn_after_above s its = either_above s.wants_turn (record s { own_turn = own_tu
 
 attempts_above : (k : Seat) (s : SessionState) (has_shifted : Bool) → IsSessionAbove (attempts k s has_shifted)
 unfolding attempts
-attempts_above k s has_shifted = attempt_begun_above k.places (bits_of k) (request_in_hand s) s.seen AtCall s.spare s.is_orphaned
+attempts_above k s has_shifted = attempt_begun_above k.places (bits_of k) (request_in_hand s) s.seen (AtCall (bounds_of k.shape)) s.spare s.is_orphaned
 
 polls_request_above : (k : Seat) (s : SessionState) (index : ℕ) (found : Option PendingRequest) → IsSessionAbove (polls_request k s index found)
 polls_request_above k s index None = turn_after_above s (told.Polled (length s.requests))

@@ -32,22 +32,24 @@ use Rattle.fkv_ops.specs.declared.requests.Seen.{Seen}
 use Rattle.fkv_ops.specs.declared.trying.OldValue.{OldValue}
 use Rattle.fkv_ops.specs.declared.trying.OldValue.TheVariants.{InMemory, Known}
 use Rattle.fkv_ops.specs.declared.trying.Trying.{Trying}
-use Rattle.fkv_ops.specs.declared.trying.Trying.TheVariants.{Ended, TakesShared, LoadsPhase, Walks, LoadsSafe, SwapsValue, LoadsCurrent, ChangesValue, LoadsAnswer, TakesExclusive, LoadsOld, Appends, DropsExclusive, DropsShared}
+use Rattle.fkv_ops.specs.declared.trying.Trying.TheVariants.{Ended, TakesShared, LoadsPhase, Walks, CountsTaken, LoadsSafe, SwapsValue, LoadsCurrent, ChangesValue, LoadsAnswer, TakesExclusive, LoadsOld, Appends, LoadsTail, LoadsTaken, DropsExclusive, DropsShared}
 use Rattle.fkv_ops.specs.declared.walking.WalkAnswer.{WalkAnswer}
 use Rattle.fkv_ops.specs.declared.walking.WalkAnswer.TheVariants as walk
 use Rattle.fkv_ops.specs.Values.{value_of}
 use Rattle.fkv_ops.specs.Requests.{is_read, is_blind}
 use Rattle.fkv_ops.specs.Walking.{walk_ask, walk_next, walk_on}
 use Rattle.fkv_ops.specs.Appending.{AppendState, append_ask}
-use Rattle.fkv_ops.specs.Trying.{TryState, with_latch, is_wait, ended_without, ends, takes_effect, full_at, walks, wants_shared, try_begun, shared_ledto, must_shift, wants_exclusive, appends, copies_from, copies, awaits, held_used, met_nowhere, met_disk, changes, is_own_version, region_met, met_record, walked, has_walked, walk_ledto, current_ledto, told_value, answer_ledto, exclusive_ledto, old_ledto, append_ledto, exclusive_dropped, shared_dropped, latch_moved, walk_moved, trying_next, new_try, is_next_marked, is_still_in, phase_loaded, is_surely_own}
+use Rattle.fkv_ops.specs.Trying.{TryState, with_latch, is_wait, ended_without, ends_so, ends, is_bounded, ends_by, tail_loaded, taken_loaded, must_count, count_loaded, takes_effect, full_at, walks, wants_shared, try_begun, shared_ledto, must_shift, wants_exclusive, appends, copies_from, copies, awaits, held_used, met_nowhere, met_disk, changes, is_own_version, region_met, met_record, walked, has_walked, walk_ledto, current_ledto, told_value, answer_ledto, exclusive_ledto, old_ledto, append_ledto, exclusive_dropped, shared_dropped, latch_moved, walk_moved, trying_next, new_try, is_next_marked, is_still_in, phase_loaded, is_surely_own}
 use Rattle.fkv_ops.proofs.Shown.{is_append_end, AppendRestsOrAsks, append_done}
-use Rattle.fkv_index.specs.Slots.{home_of}
 use Rattle.fkv_flush.specs.GuardSeen.{LastSeen}
 use Rattle.fkv_flush.specs.GuardWorld.{ToReserve}
 use Rattle.fkv_flush.proofs.Shown.{Likeness}
 use Rattle.law_world.specs.GuardSessions.Likenesses.{through, append_onward, append_likeness}
 use Rattle.law_world.specs.GuardSessions.Tries.{try_onward, try_likeness}
 use Rattle.law_world.proofs.OfGuardSessions.Onwards.{Leads, Keeps, Begins, stayed}
+use Rattle.fkv_ops.specs.Bounds.{bounds_at, tail_bound, is_past_taken, is_past_tail}
+use Rattle.fkv_ops.specs.Waiting.{told_of, waiting_of}
+use Rattle.fkv_ops.specs.declared.answers.Waiting.{Waiting}
 
 -- where a step leads
 abbrev pub TryLed : LastSeen → Likeness → TryState → Type 0
@@ -63,13 +65,31 @@ either_led false seen a b one other = other
 without_led : (p : Places) (seen : LastSeen) (t : TryState) (its : TryAnswer) → Free seen (ended_without p t its)
 without_led p seen t its = either_led (t.has_shared && not (is_wait its)) seen (with_latch p (record t { has_shared = false }) DropShared (DropsShared its)) (record t { step = Ended its }) (Keeps refl refl) (Keeps refl refl)
 
+ends_so_led : (p : Places) (seen : LastSeen) (t : TryState) (its : TryAnswer) → Free seen (ends_so p t its)
+unfolding ends_so
+ends_so_led p seen t its = either_led t.has_exclusive seen (with_latch p (record t { has_exclusive = false }) DropExclusive (DropsExclusive its)) (ended_without p t its) (Keeps refl refl) (without_led p seen t its)
+
+ends_by_led : (p : Places) (seen : LastSeen) (t : TryState) (its : TryAnswer) (waiting : Option Waiting) → Free seen (ends_by p t its waiting)
+ends_by_led p seen t its None = ends_so_led p seen t its
+ends_by_led p seen t its (Some waiting) = either_led (is_bounded t) seen (record t { step = LoadsTail waiting }) (ends_so p t its) (Keeps refl refl) (ends_so_led p seen t its)
+
 ends_led : (p : Places) (seen : LastSeen) (t : TryState) (its : TryAnswer) → Free seen (ends p t its)
 unfolding ends
-ends_led p seen t its = either_led t.has_exclusive seen (with_latch p (record t { has_exclusive = false }) DropExclusive (DropsExclusive its)) (ended_without p t its) (Keeps refl refl) (without_led p seen t its)
+ends_led p seen t its = ends_by_led p seen t its (waiting_of its)
+
+tail_led : (p : Places) (seen : LastSeen) (t : TryState) (waiting : Waiting) (tail : ℕ) → Free seen (tail_loaded p t waiting tail)
+unfolding tail_loaded
+tail_led p seen t waiting tail =
+    either_led (is_past_tail (bounds_at t.occasion) tail) seen (ends_so p t answer.LogFull) _ (ends_so_led p seen t answer.LogFull)
+    (either_led (t.walk.entry == 0) seen (record t { step = LoadsTaken waiting }) (ends_so p t (told_of waiting)) (Keeps refl refl) (ends_so_led p seen t (told_of waiting)))
+
+taken_led : (p : Places) (seen : LastSeen) (t : TryState) (waiting : Waiting) (taken : ℕ) → Free seen (taken_loaded p t waiting taken)
+unfolding taken_loaded
+taken_led p seen t waiting taken = either_led (is_past_taken (bounds_at t.occasion) taken) seen (ends_so p t answer.IndexFull) (ends_so p t (told_of waiting)) (ends_so_led p seen t answer.IndexFull) (ends_so_led p seen t (told_of waiting))
 
 appends_led : (seen : LastSeen) (t : TryState) (old : ℕ) → Free seen (appends t old)
 unfolding appends
-appends_led seen t old = Begins ToReserve refl tt refl refl (refl, refl) refl
+appends_led seen t old = Begins (ToReserve (tail_bound (bounds_at t.occasion))) refl tt refl refl (refl, refl) refl
 
 copies_from_led : (seen : LastSeen) (t : TryState) (old : OldValue) → Free seen (copies_from t old)
 unfolding copies_from
@@ -90,7 +110,13 @@ held_led p seen t addr (Some held) =
     (ends_led p seen t _)
 
 nowhere_led : (p : Places) (seen : LastSeen) (t : TryState) → Free seen (met_nowhere p t)
-nowhere_led p seen t = either_led (is_read t.request.op) seen (ends p t answer.Absent) (copies p t (Known absent_word) false) (ends_led p seen t answer.Absent) (copies_led p seen t (Known absent_word) false)
+nowhere_led p seen t =
+    either_led (is_read t.request.op) seen (ends p t answer.Absent) _ (ends_led p seen t answer.Absent)
+    (either_led (must_count p t) seen (record t { step = CountsTaken }) (copies p t (Known absent_word) false) (Keeps refl refl) (copies_led p seen t (Known absent_word) false))
+
+count_led : (p : Places) (seen : LastSeen) (t : TryState) (taken : ℕ) → Free seen (count_loaded p t taken)
+unfolding count_loaded
+count_led p seen t taken = either_led (is_past_taken (bounds_at t.occasion) taken) seen (ends p t answer.IndexFull) (copies p t (Known absent_word) false) (ends_led p seen t answer.IndexFull) (copies_led p seen t (Known absent_word) false)
 
 disk_led : (p : Places) (seen : LastSeen) (t : TryState) (addr : Addr) → Free seen (met_disk p t addr)
 disk_led p seen t addr =
@@ -114,6 +140,7 @@ walked_led p seen t walk.Nowhere = nowhere_led p seen t
 walked_led p seen t (walk.OnDisk addr) = disk_led p seen t addr
 walked_led p seen t (walk.Value value) = ends_led p seen t _
 walked_led p seen t walk.Full = ends_led p seen t _
+walked_led p seen t walk.Kept = ends_led p seen t _
 walked_led p seen t walk.Contended = ends_led p seen t _
 
 walk_led : (p : Places) (seen : LastSeen) (t : TryState) (ask : Ask WalkAnswer) → t.step ≡ Walks → Free seen (walk_ledto p t ask)
@@ -201,6 +228,7 @@ try_free p room seen t (Ended its) reply at other = rw at (Keeps refl refl)
 try_free p room seen t TakesShared reply at other = shared_led p seen (latch_moved t reply) (latch_next_ask t.latching reply) at
 try_free p room seen t LoadsPhase reply at other = phase_led p seen t (phase_said reply)
 try_free p room seen t Walks reply at other = walk_led p seen (walk_moved p t reply) (walk_ask p (walk_next p t.walk reply)) at
+try_free p room seen t CountsTaken reply at other = count_led p seen t reply
 try_free p room seen t (LoadsSafe addr version) reply at other =
     either_led (nat_le reply addr.0) seen (ends p t (answer.Wait reason.Fuzzy)) (copies p t InMemory (is_surely_own t version)) (ends_led p seen t _) (copies_led p seen t InMemory (is_surely_own t version))
 try_free p room seen t (SwapsValue addr) reply at other = ends_led p seen (record t { effect = Some (reply_from None t.request.op) }) _
@@ -211,6 +239,8 @@ try_free p room seen t LoadsAnswer reply at other = answer_led p seen (walk_move
 try_free p room seen t (TakesExclusive old) reply at other = exclusive_led p seen (latch_moved t reply) old (latch_next_ask t.latching reply) at
 try_free p room seen t LoadsOld reply at other = old_led p seen (walk_moved p t reply) (walk_ask p (walk_next p t.walk reply)) at
 try_free p room seen t (Appends its) reply at other = cc
+try_free p room seen t (LoadsTail waiting) reply at other = tail_led p seen t waiting reply
+try_free p room seen t (LoadsTaken waiting) reply at other = taken_led p seen t waiting reply
 try_free p room seen t (DropsExclusive its) reply at other = dropped_led p seen (latch_moved t reply) its (latch_next_ask t.latching reply) at
 try_free p room seen t (DropsShared its) reply at other = unshared_led seen (latch_moved t reply) its (latch_next_ask t.latching reply) at
 

@@ -1,5 +1,5 @@
 -- The words that a try writes beside its records' are none of the guard's: they are latches, links and entries of the index.
-use Rattle.std.proofs.Common.{◌≡◌, ℕ, ◌<◌, refl, sym, subst, Bool, true, false}
+use Rattle.std.proofs.Common.{◌≡◌, ℕ, ◌<◌, ◌∙◌, refl, sym, ap, subst, Bool, true, false}
 use Rattle.std.specs.Prelude.{if◌then◌else◌, ◌==◌, ◌&&◌, not, nat_le, ⊤, Option, Some, None}
 use Rattle.fkv_base.specs.declared.numbers.Addr.{Addr}
 use Rattle.fkv_base.specs.declared.numbers.Version.{Version}
@@ -17,7 +17,6 @@ use Rattle.fkv_index.specs.declared.finding.Linking.TheVariants.{Never}
 use Rattle.fkv_index.specs.Finding.{linking_for}
 use Rattle.fkv_index.specs.Slots.{home_of}
 use Rattle.fkv_map.specs.declared.operations.Op.{Op}
-use Rattle.fkv_map.specs.declared.operations.Op.TheVariants as op
 use Rattle.fkv_latch.specs.declared.latching.LatchAnswer.{LatchAnswer}
 use Rattle.fkv_latch.specs.declared.latching.LatchAnswer.TheVariants.{Taken}
 use Rattle.fkv_latch.specs.declared.latching.LatchTask.TheVariants.{TakeShared, DropShared, TakeExclusive, DropExclusive}
@@ -36,19 +35,23 @@ use Rattle.fkv_ops.specs.declared.requests.Seen.{Seen}
 use Rattle.fkv_ops.specs.declared.trying.OldValue.{OldValue}
 use Rattle.fkv_ops.specs.declared.trying.OldValue.TheVariants.{InMemory, Known}
 use Rattle.fkv_ops.specs.declared.trying.Trying.{Trying}
-use Rattle.fkv_ops.specs.declared.trying.Trying.TheVariants.{Ended, TakesShared, LoadsPhase, Walks, LoadsSafe, SwapsValue, LoadsCurrent, ChangesValue, LoadsAnswer, TakesExclusive, LoadsOld, Appends, DropsExclusive, DropsShared}
+use Rattle.fkv_ops.specs.declared.trying.Trying.TheVariants.{Ended, TakesShared, LoadsPhase, Walks, CountsTaken, LoadsSafe, SwapsValue, LoadsCurrent, ChangesValue, LoadsAnswer, TakesExclusive, LoadsOld, Appends, LoadsTail, LoadsTaken, DropsExclusive, DropsShared}
 use Rattle.fkv_ops.specs.declared.walking.WalkAnswer.{WalkAnswer}
 use Rattle.fkv_ops.specs.declared.walking.WalkAnswer.TheVariants as walk
 use Rattle.fkv_ops.specs.Values.{value_of}
-use Rattle.fkv_ops.specs.Requests.{purpose_of, is_read, is_blind}
+use Rattle.fkv_ops.specs.Requests.{purpose_at, update_within, is_read, is_blind}
 use Rattle.fkv_ops.specs.Walking.{WalkState, walk_ask, walk_next, walk_on}
 use Rattle.fkv_ops.specs.Appending.{append_ask, append_next}
-use Rattle.fkv_ops.specs.Trying.{TryState, trying_ask, with_latch, is_wait, ended_without, ends, takes_effect, walks, wants_shared, try_begun, shared_ledto, must_shift, wants_exclusive, slot_of, words_of, appends, copies_from, copies, awaits, held_used, met_nowhere, met_disk, changes, is_own_version, region_met, met_record, walked, has_walked, walk_ledto, safe_loaded, current_ledto, value_changed, told_value, answer_ledto, exclusive_ledto, old_ledto, append_ledto, exclusive_dropped, shared_dropped, latch_moved, trying_next, try_next, new_try, is_next_marked, is_still_in, phase_loaded, is_surely_own}
+use Rattle.fkv_ops.specs.Trying.{TryState, trying_ask, with_latch, is_wait, ended_without, ends_so, ends, is_bounded, ends_by, tail_loaded, taken_loaded, must_count, count_loaded, takes_effect, walks, wants_shared, try_begun, shared_ledto, must_shift, wants_exclusive, slot_of, words_of, appends, copies_from, copies, awaits, held_used, met_nowhere, met_disk, changes, is_own_version, region_met, met_record, walked, has_walked, walk_ledto, safe_loaded, current_ledto, value_changed, told_value, answer_ledto, exclusive_ledto, old_ledto, append_ledto, exclusive_dropped, shared_dropped, latch_moved, trying_next, try_next, new_try, is_next_marked, is_still_in, phase_loaded, is_surely_own}
 use Rattle.law_world.specs.GuardSessions.Steps.{IsOuter}
 use Rattle.law_world.specs.GuardSessions.Tries.{TryWritesOuter}
 use Rattle.law_world.proofs.OfGuardSessions.OuterAsks.{passed_is_outer, IsLatchOuter, latch_outer, latch_next_outer, latch_first_outer}
 use Rattle.law_world.proofs.OfGuardSessions.WalksOuter.{IsWalkOuter, AnswerOuter, WalkTells, walk_outer, walk_tells, walk_next_outer, walk_on_outer, walk_begun_outer}
 use Rattle.law_world.proofs.OfGuardSessions.AppendsOuter.{IsAppendOuter, append_owes, append_next_outer, append_begun_outer}
+use Rattle.fkv_ops.specs.Bounds.{bounds_at, tail_bound, is_past_taken, is_past_tail}
+use Rattle.fkv_ops.specs.Waiting.{told_of, waiting_of}
+use Rattle.fkv_ops.specs.declared.answers.Waiting.{Waiting}
+use Rattle.fkv_ops.specs.declared.bounds.Bounds.{Bounds}
 
 -- a walk of an update is behind it, and has its slot
 pub record HasWalked (p : Places) (w : WalkState) : Type 0 where
@@ -61,6 +64,7 @@ TryRow p t (Ended its) = ⊤
 TryRow p t TakesShared = IsLatchOuter p t.latching
 TryRow p t LoadsPhase = ⊤
 TryRow p t Walks = IsWalkOuter p (is_read t.request.op) t.walk
+TryRow p t CountsTaken = HasWalked p t.walk
 TryRow p t (LoadsSafe addr version) = HasWalked p t.walk
 TryRow p t (SwapsValue addr) = ⊤
 TryRow p t (LoadsCurrent addr) = IsWalkOuter p false t.walk
@@ -69,6 +73,8 @@ TryRow p t LoadsAnswer = IsWalkOuter p (is_read t.request.op) t.walk
 TryRow p t (TakesExclusive old) = IsLatchOuter p t.latching × HasWalked p t.walk
 TryRow p t LoadsOld = IsWalkOuter p false t.walk
 TryRow p t (Appends its) = IsAppendOuter p t.append
+TryRow p t (LoadsTail waiting) = ⊤
+TryRow p t (LoadsTaken waiting) = ⊤
 TryRow p t (DropsExclusive its) = IsLatchOuter p t.latching
 TryRow p t (DropsShared its) = IsLatchOuter p t.latching
 
@@ -87,6 +93,7 @@ try_owes p t (Ended its) x y row = tt
 try_owes p t TakesShared x y row = twice_outer p _ x y (passed_is_outer p _ answer.Shift (latch_outer p t.latching row))
 try_owes p t LoadsPhase x y row = tt
 try_owes p t Walks x y row = twice_outer p _ x y (passed_is_outer p _ answer.Shift (walk_outer p (is_read t.request.op) t.walk row))
+try_owes p t CountsTaken x y row = tt
 try_owes p t (LoadsSafe addr version) x y row = tt
 try_owes p t (SwapsValue addr) x y row = tt
 try_owes p t (LoadsCurrent addr) x y row = twice_outer p _ x y (passed_is_outer p _ answer.Shift (walk_outer p false t.walk row))
@@ -95,6 +102,8 @@ try_owes p t LoadsAnswer x y row = twice_outer p _ x y (passed_is_outer p _ answ
 try_owes p t (TakesExclusive old) x y row = twice_outer p _ x y (passed_is_outer p _ answer.Shift (latch_outer p t.latching row.0))
 try_owes p t LoadsOld x y row = twice_outer p _ x y (passed_is_outer p _ answer.Shift (walk_outer p false t.walk row))
 try_owes p t (Appends its) x y row = append_owes p t.append t.append.step answer.Shift x y row.publishes
+try_owes p t (LoadsTail waiting) x y row = tt
+try_owes p t (LoadsTaken waiting) x y row = tt
 try_owes p t (DropsExclusive its) x y row = twice_outer p _ x y (passed_is_outer p _ its (latch_outer p t.latching row))
 try_owes p t (DropsShared its) x y row = twice_outer p _ x y (passed_is_outer p _ its (latch_outer p t.latching row))
 
@@ -111,23 +120,46 @@ without_outer p t its low =
     either_outer (t.has_shared && not (is_wait its)) p (with_latch p (record t { has_shared = false }) DropShared (DropsShared its)) (record t { step = Ended its })
     (record { low = low; row = latch_first_outer p DropShared t.home.bucket low }) (record { low = low; row = tt })
 
-ends_outer : (p : Places) (t : TryState) (its : TryAnswer) → t.home.bucket < p.buckets → IsTryOuter p (ends p t its)
-unfolding ends
-ends_outer p t its low =
+ends_so_outer : (p : Places) (t : TryState) (its : TryAnswer) → t.home.bucket < p.buckets → IsTryOuter p (ends_so p t its)
+unfolding ends_so
+ends_so_outer p t its low =
     either_outer t.has_exclusive p (with_latch p (record t { has_exclusive = false }) DropExclusive (DropsExclusive its)) (ended_without p t its)
     (record { low = low; row = latch_first_outer p DropExclusive t.home.bucket low }) (without_outer p t its low)
 
+ends_by_outer : (p : Places) (t : TryState) (its : TryAnswer) (waiting : Option Waiting) → t.home.bucket < p.buckets → IsTryOuter p (ends_by p t its waiting)
+ends_by_outer p t its None low = ends_so_outer p t its low
+ends_by_outer p t its (Some waiting) low = either_outer (is_bounded t) p (record t { step = LoadsTail waiting }) (ends_so p t its) (record { low = low; row = tt }) (ends_so_outer p t its low)
+
+ends_outer : (p : Places) (t : TryState) (its : TryAnswer) → t.home.bucket < p.buckets → IsTryOuter p (ends p t its)
+unfolding ends
+ends_outer p t its low = ends_by_outer p t its (waiting_of its) low
+
+tail_outer : (p : Places) (t : TryState) (waiting : Waiting) (tail : ℕ) → t.home.bucket < p.buckets → IsTryOuter p (tail_loaded p t waiting tail)
+unfolding tail_loaded
+tail_outer p t waiting tail low =
+    either_outer (is_past_tail (bounds_at t.occasion) tail) p (ends_so p t answer.LogFull) _ (ends_so_outer p t answer.LogFull low)
+    (either_outer (t.walk.entry == 0) p (record t { step = LoadsTaken waiting }) (ends_so p t (told_of waiting)) (record { low = low; row = tt }) (ends_so_outer p t (told_of waiting) low))
+
+taken_outer : (p : Places) (t : TryState) (waiting : Waiting) (taken : ℕ) → t.home.bucket < p.buckets → IsTryOuter p (taken_loaded p t waiting taken)
+unfolding taken_loaded
+taken_outer p t waiting taken low = either_outer (is_past_taken (bounds_at t.occasion) taken) p (ends_so p t answer.IndexFull) (ends_so p t (told_of waiting)) (ends_so_outer p t answer.IndexFull low) (ends_so_outer p t (told_of waiting) low)
+
 -- the search of an update may link
-may_link : (its : Op) → is_read its ≡ false → linking_for (purpose_of its) ≡ Never → ⊥
-may_link (op.Read key) e never = cc
-may_link its e never = cc
+may_within : (bounds : Option Bounds) → linking_for (update_within bounds) ≡ Never → ⊥
+may_within None never = cc
+may_within (Some bounds) never = cc
+
+may_link : (occasion : Occasion) (its : Op) → is_read its ≡ false → linking_for (purpose_at occasion its) ≡ Never → ⊥
+may_link occasion its e never =
+    let same : purpose_at occasion its ≡ update_within (bounds_at occasion) = rw e refl in
+    may_within (bounds_at occasion) (sym (ap linking_for same) ∙ never)
 
 walks_outer : (p : Places) (t : TryState) → t.home.bucket < p.buckets → IsTryOuter p (walks p t)
-walks_outer p t low = record { low = low; row = walk_begun_outer p (is_read t.request.op) t.home (key_of t.request.op) (purpose_of t.request.op) t.seen.offsets.head t.spare low (may_link t.request.op) }
+walks_outer p t low = record { low = low; row = walk_begun_outer p (is_read t.request.op) t.home (key_of t.request.op) (purpose_at t.occasion t.request.op) t.seen.offsets.head t.spare low (may_link t.occasion t.request.op) }
 
 appends_outer : (p : Places) (t : TryState) (old : ℕ) → t.home.bucket < p.buckets → is_guarded p t.walk.place ≡ false → IsTryOuter p (appends t old)
 unfolding appends
-appends_outer p t old low place = record { low = low; row = append_begun_outer p (slot_of t) (words_of t.request t.walk.entry (value_of old)) place }
+appends_outer p t old low place = record { low = low; row = append_begun_outer p (slot_of t) (words_of t.request t.walk.entry (value_of old)) (tail_bound (bounds_at t.occasion)) place }
 
 copies_from_outer : (p : Places) (t : TryState) (old : OldValue) → t.home.bucket < p.buckets → HasWalked p t.walk → IsTryOuter p (copies_from t old)
 unfolding copies_from
@@ -168,7 +200,13 @@ by_kind p t a b its one other = by_test (is_read t.request.op) refl
     by_test false e = other (update_walked p t its e)
 
 nowhere_outer : (p : Places) (t : TryState) → HasCome p t → IsTryOuter p (met_nowhere p t)
-nowhere_outer p t its = by_kind p t (ends p t answer.Absent) (copies p t (Known absent_word) false) its (ends_outer p t answer.Absent its.low) (λ walked. copies_outer p t (Known absent_word) false its.low walked)
+nowhere_outer p t its =
+    by_kind p t (ends p t answer.Absent) _ its (ends_outer p t answer.Absent its.low)
+    (λ walked. either_outer (must_count p t) p (record t { step = CountsTaken }) (copies p t (Known absent_word) false) (record { low = its.low; row = walked }) (copies_outer p t (Known absent_word) false its.low walked))
+
+count_outer : (p : Places) (t : TryState) (taken : ℕ) → t.home.bucket < p.buckets → HasWalked p t.walk → IsTryOuter p (count_loaded p t taken)
+unfolding count_loaded
+count_outer p t taken low its = either_outer (is_past_taken (bounds_at t.occasion) taken) p (ends p t answer.IndexFull) (copies p t (Known absent_word) false) (ends_outer p t answer.IndexFull low) (copies_outer p t (Known absent_word) false low its)
 
 disk_outer : (p : Places) (t : TryState) (addr : Addr) → HasCome p t → IsTryOuter p (met_disk p t addr)
 disk_outer p t addr its =
@@ -193,6 +231,7 @@ walked_outer p t walk.Nowhere low row tells = nowhere_outer p t (record { low = 
 walked_outer p t (walk.OnDisk addr) low row tells = disk_outer p t addr (record { low = low; walk = row; place = tells })
 walked_outer p t (walk.Value value) low row tells = ends_outer p t _ low
 walked_outer p t walk.Full low row tells = ends_outer p t _ low
+walked_outer p t walk.Kept low row tells = ends_outer p t _ low
 walked_outer p t walk.Contended low row tells = ends_outer p t _ low
 
 walk_ledto_outer : (p : Places) (t : TryState) (ask : Ask WalkAnswer) → t.step ≡ Walks → t.home.bucket < p.buckets → IsWalkOuter p (is_read t.request.op) t.walk → WalkTells p (is_read t.request.op) t.walk ask → IsTryOuter p (walk_ledto p t ask)
@@ -272,6 +311,7 @@ next_outer p room t LoadsPhase reply at low row = phase_outer p t (phase_said re
 next_outer p room t Walks reply at low row =
     let after = walk_next_outer p (is_read t.request.op) t.walk reply row in
     walk_ledto_outer p (record t { walk = walk_next p t.walk reply }) (walk_ask p (walk_next p t.walk reply)) at low after (walk_tells p (is_read t.request.op) (walk_next p t.walk reply) after)
+next_outer p room t CountsTaken reply at low row = count_outer p t reply low row
 next_outer p room t (LoadsSafe addr version) reply at low row = safe_outer p t addr version reply low row
 next_outer p room t (SwapsValue addr) reply at low row = ends_outer p (record t { effect = Some (reply_from None t.request.op) }) _ low
 next_outer p room t (LoadsCurrent addr) reply at low row = current_outer p (record t { walk = walk_next p t.walk reply }) addr (walk_ask p (walk_next p t.walk reply)) at low (walk_next_outer p false t.walk reply row)
@@ -282,6 +322,8 @@ next_outer p room t LoadsOld reply at low row =
     let after = walk_next_outer p false t.walk reply row in
     old_outer p (record t { walk = walk_next p t.walk reply }) (walk_ask p (walk_next p t.walk reply)) at low after (walk_tells p false (walk_next p t.walk reply) after)
 next_outer p room t (Appends its) reply at low row = append_ledto_outer p (record t { append = append_next p room t.append reply }) its (append_ask p (append_next p room t.append reply)) at low (append_next_outer p room t.append reply row)
+next_outer p room t (LoadsTail waiting) reply at low row = tail_outer p t waiting reply low
+next_outer p room t (LoadsTaken waiting) reply at low row = taken_outer p t waiting reply low
 next_outer p room t (DropsExclusive its) reply at low row = dropped_outer p (latch_moved t reply) its (latch_next_ask t.latching reply) at low (latch_next_outer p t.latching reply row)
 next_outer p room t (DropsShared its) reply at low row = unshared_outer p (latch_moved t reply) its (latch_next_ask t.latching reply) at low (latch_next_outer p t.latching reply row)
 
@@ -291,6 +333,7 @@ effect_outer p t (Ended its) row = tt
 effect_outer p t TakesShared row = row
 effect_outer p t LoadsPhase row = tt
 effect_outer p t Walks row = row
+effect_outer p t CountsTaken row = row
 effect_outer p t (LoadsSafe addr version) row = row
 effect_outer p t (SwapsValue addr) row = tt
 effect_outer p t (LoadsCurrent addr) row = row
@@ -299,6 +342,8 @@ effect_outer p t LoadsAnswer row = row
 effect_outer p t (TakesExclusive old) row = row
 effect_outer p t LoadsOld row = row
 effect_outer p t (Appends its) row = row
+effect_outer p t (LoadsTail waiting) row = tt
+effect_outer p t (LoadsTaken waiting) row = tt
 effect_outer p t (DropsExclusive its) row = row
 effect_outer p t (DropsShared its) row = row
 

@@ -12,7 +12,6 @@ use Rattle.fkv_words.specs.PhaseWords.{phase_said}
 use Rattle.fkv_plane.specs.declared.asks.Ask.{Ask}
 use Rattle.fkv_plane.specs.declared.asks.Ask.TheVariants.{Done}
 use Rattle.fkv_plane.specs.declared.places.Places.{Places}
-use Rattle.fkv_index.specs.Slots.{home_of}
 use Rattle.fkv_latch.specs.declared.latching.LatchAnswer.{LatchAnswer}
 use Rattle.fkv_latch.specs.declared.latching.LatchAnswer.TheVariants.{Taken}
 use Rattle.fkv_latch.specs.declared.latching.LatchTask.TheVariants.{TakeShared, DropShared, TakeExclusive, DropExclusive}
@@ -31,15 +30,18 @@ use Rattle.fkv_ops.specs.declared.requests.Seen.{Seen}
 use Rattle.fkv_ops.specs.declared.trying.OldValue.{OldValue}
 use Rattle.fkv_ops.specs.declared.trying.OldValue.TheVariants.{InMemory, Known}
 use Rattle.fkv_ops.specs.declared.trying.Trying.{Trying}
-use Rattle.fkv_ops.specs.declared.trying.Trying.TheVariants.{Ended, TakesShared, LoadsPhase, Walks, LoadsSafe, SwapsValue, LoadsCurrent, ChangesValue, LoadsAnswer, TakesExclusive, LoadsOld, Appends, DropsExclusive, DropsShared}
+use Rattle.fkv_ops.specs.declared.trying.Trying.TheVariants.{Ended, TakesShared, LoadsPhase, Walks, CountsTaken, LoadsSafe, SwapsValue, LoadsCurrent, ChangesValue, LoadsAnswer, TakesExclusive, LoadsOld, Appends, LoadsTail, LoadsTaken, DropsExclusive, DropsShared}
 use Rattle.fkv_ops.specs.declared.walking.WalkAnswer.{WalkAnswer}
 use Rattle.fkv_ops.specs.declared.walking.WalkAnswer.TheVariants as walk
 use Rattle.fkv_ops.specs.Values.{value_of}
 use Rattle.fkv_ops.specs.Requests.{is_read, is_blind}
 use Rattle.fkv_ops.specs.Walking.{walk_ask, walk_next, walk_on}
 use Rattle.fkv_ops.specs.Appending.{append_ask, append_next}
-use Rattle.fkv_ops.specs.Trying.{TryState, with_latch, is_wait, ended_without, ends, takes_effect, walks, wants_shared, try_begun, shared_ledto, must_shift, wants_exclusive, appends, copies_from, copies, awaits, held_used, met_nowhere, met_disk, changes, is_own_version, region_met, met_record, walked, has_walked, walk_ledto, safe_loaded, current_ledto, value_changed, told_value, answer_ledto, exclusive_ledto, old_ledto, append_ledto, exclusive_dropped, shared_dropped, latch_moved, trying_next, try_next, new_try, is_next_marked, is_still_in, phase_loaded, is_surely_own}
+use Rattle.fkv_ops.specs.Trying.{TryState, with_latch, is_wait, ended_without, ends_so, ends, is_bounded, ends_by, tail_loaded, taken_loaded, must_count, count_loaded, takes_effect, walks, wants_shared, try_begun, shared_ledto, must_shift, wants_exclusive, appends, copies_from, copies, awaits, held_used, met_nowhere, met_disk, changes, is_own_version, region_met, met_record, walked, has_walked, walk_ledto, safe_loaded, current_ledto, value_changed, told_value, answer_ledto, exclusive_ledto, old_ledto, append_ledto, exclusive_dropped, shared_dropped, latch_moved, trying_next, try_next, new_try, is_next_marked, is_still_in, phase_loaded, is_surely_own}
 use Rattle.law_world.proofs.OfGuardSessions.WalksSeen.{IsWalkAbove, TellsAbove, AsksAbove, walk_tells_above, walk_next_above}
+use Rattle.fkv_ops.specs.Bounds.{bounds_at, is_past_taken, is_past_tail}
+use Rattle.fkv_ops.specs.Waiting.{told_of, waiting_of}
+use Rattle.fkv_ops.specs.declared.answers.Waiting.{Waiting}
 
 -- by its step: its walk goes by the head that was seen, and what it has come to change lies at or above the read-only offset
 abbrev pub TryAbove : TryState → Trying → Type 0
@@ -66,9 +68,27 @@ without_above : (p : Places) (seen : Seen) (t : TryState) (its : TryAnswer) → 
 without_above p seen t its same =
     either_above (t.has_shared && not (is_wait its)) seen (with_latch p (record t { has_shared = false }) DropShared (DropsShared its)) (record t { step = Ended its }) (record { same = same; above = tt }) (record { same = same; above = tt })
 
+ends_so_above : (p : Places) (seen : Seen) (t : TryState) (its : TryAnswer) → t.seen ≡ seen → IsTryAbove seen (ends_so p t its)
+unfolding ends_so
+ends_so_above p seen t its same = either_above t.has_exclusive seen (with_latch p (record t { has_exclusive = false }) DropExclusive (DropsExclusive its)) (ended_without p t its) (record { same = same; above = tt }) (without_above p seen t its same)
+
+ends_by_above : (p : Places) (seen : Seen) (t : TryState) (its : TryAnswer) (waiting : Option Waiting) → t.seen ≡ seen → IsTryAbove seen (ends_by p t its waiting)
+ends_by_above p seen t its None same = ends_so_above p seen t its same
+ends_by_above p seen t its (Some waiting) same = either_above (is_bounded t) seen (record t { step = LoadsTail waiting }) (ends_so p t its) (record { same = same; above = tt }) (ends_so_above p seen t its same)
+
 ends_above : (p : Places) (seen : Seen) (t : TryState) (its : TryAnswer) → t.seen ≡ seen → IsTryAbove seen (ends p t its)
 unfolding ends
-ends_above p seen t its same = either_above t.has_exclusive seen (with_latch p (record t { has_exclusive = false }) DropExclusive (DropsExclusive its)) (ended_without p t its) (record { same = same; above = tt }) (without_above p seen t its same)
+ends_above p seen t its same = ends_by_above p seen t its (waiting_of its) same
+
+tail_above : (p : Places) (seen : Seen) (t : TryState) (waiting : Waiting) (tail : ℕ) → t.seen ≡ seen → IsTryAbove seen (tail_loaded p t waiting tail)
+unfolding tail_loaded
+tail_above p seen t waiting tail same =
+    either_above (is_past_tail (bounds_at t.occasion) tail) seen (ends_so p t answer.LogFull) _ (ends_so_above p seen t answer.LogFull same)
+    (either_above (t.walk.entry == 0) seen (record t { step = LoadsTaken waiting }) (ends_so p t (told_of waiting)) (record { same = same; above = tt }) (ends_so_above p seen t (told_of waiting) same))
+
+taken_above : (p : Places) (seen : Seen) (t : TryState) (waiting : Waiting) (taken : ℕ) → t.seen ≡ seen → IsTryAbove seen (taken_loaded p t waiting taken)
+unfolding taken_loaded
+taken_above p seen t waiting taken same = either_above (is_past_taken (bounds_at t.occasion) taken) seen (ends_so p t answer.IndexFull) (ends_so p t (told_of waiting)) (ends_so_above p seen t answer.IndexFull same) (ends_so_above p seen t (told_of waiting) same)
 
 walks_above : (p : Places) (seen : Seen) (t : TryState) → t.seen ≡ seen → IsTryAbove seen (walks p t)
 walks_above p seen t same = record { same = same; above = record { same = refl; above = tt } }
@@ -96,7 +116,13 @@ held_above p seen t addr (Some held) same =
     (ends_above p seen t _ same)
 
 nowhere_above : (p : Places) (seen : Seen) (t : TryState) → t.seen ≡ seen → IsTryAbove seen (met_nowhere p t)
-nowhere_above p seen t same = either_above (is_read t.request.op) seen (ends p t answer.Absent) (copies p t (Known absent_word) false) (ends_above p seen t answer.Absent same) (copies_above p seen t (Known absent_word) false same)
+nowhere_above p seen t same =
+    either_above (is_read t.request.op) seen (ends p t answer.Absent) _ (ends_above p seen t answer.Absent same)
+    (either_above (must_count p t) seen (record t { step = CountsTaken }) (copies p t (Known absent_word) false) (record { same = same; above = tt }) (copies_above p seen t (Known absent_word) false same))
+
+count_above : (p : Places) (seen : Seen) (t : TryState) (taken : ℕ) → t.seen ≡ seen → IsTryAbove seen (count_loaded p t taken)
+unfolding count_loaded
+count_above p seen t taken same = either_above (is_past_taken (bounds_at t.occasion) taken) seen (ends p t answer.IndexFull) (copies p t (Known absent_word) false) (ends_above p seen t answer.IndexFull same) (copies_above p seen t (Known absent_word) false same)
 
 disk_above : (p : Places) (seen : Seen) (t : TryState) (addr : Addr) → t.seen ≡ seen → IsTryAbove seen (met_disk p t addr)
 disk_above p seen t addr same =
@@ -130,6 +156,7 @@ walked_above p seen t walk.Nowhere same tells = nowhere_above p seen t same
 walked_above p seen t (walk.OnDisk addr) same tells = disk_above p seen t addr same
 walked_above p seen t (walk.Value value) same tells = ends_above p seen t _ same
 walked_above p seen t walk.Full same tells = ends_above p seen t _ same
+walked_above p seen t walk.Kept same tells = ends_above p seen t _ same
 walked_above p seen t walk.Contended same tells = ends_above p seen t _ same
 
 walk_ledto_above : (p : Places) (seen : Seen) (t : TryState) (ask : Ask WalkAnswer) → t.step ≡ Walks → t.seen ≡ seen → IsWalkAbove t.seen.offsets.head.0 t.walk → AsksAbove t.seen.offsets.head.0 ask → IsTryAbove seen (walk_ledto p t ask)
@@ -208,6 +235,7 @@ next_above p room seen t LoadsPhase reply at same above = phase_above p seen t (
 next_above p room seen t Walks reply at same above =
     let after = walk_next_above p t.seen.offsets.head.0 t.walk reply above in
     walk_ledto_above p seen (record t { walk = walk_next p t.walk reply }) (walk_ask p (walk_next p t.walk reply)) at same after (walk_tells_above p t.seen.offsets.head.0 (walk_next p t.walk reply) after)
+next_above p room seen t CountsTaken reply at same above = count_above p seen t reply same
 next_above p room seen t (LoadsSafe addr version) reply at same above = safe_above p seen t addr version reply same
 next_above p room seen t (SwapsValue addr) reply at same above = ends_above p seen (record t { effect = Some (reply_from None t.request.op) }) _ same
 next_above p room seen t (LoadsCurrent addr) reply at same above = current_above p seen (record t { walk = walk_next p t.walk reply }) addr (walk_ask p (walk_next p t.walk reply)) at same above
@@ -216,6 +244,8 @@ next_above p room seen t LoadsAnswer reply at same above = answer_above p seen (
 next_above p room seen t (TakesExclusive old) reply at same above = exclusive_above p seen (latch_moved t reply) old (latch_next_ask t.latching reply) at same
 next_above p room seen t LoadsOld reply at same above = old_above p seen (record t { walk = walk_next p t.walk reply }) (walk_ask p (walk_next p t.walk reply)) at same
 next_above p room seen t (Appends its) reply at same above = append_ledto_above p seen (record t { append = append_next p room t.append reply }) its (append_ask p (append_next p room t.append reply)) at same
+next_above p room seen t (LoadsTail waiting) reply at same above = tail_above p seen t waiting reply same
+next_above p room seen t (LoadsTaken waiting) reply at same above = taken_above p seen t waiting reply same
 next_above p room seen t (DropsExclusive its) reply at same above = dropped_above p seen (latch_moved t reply) its (latch_next_ask t.latching reply) at same
 next_above p room seen t (DropsShared its) reply at same above = unshared_above seen (latch_moved t reply) its (latch_next_ask t.latching reply) at same
 
@@ -228,11 +258,14 @@ effect_above t (ChangesValue addr old) above = above
 effect_above t (Ended its) above = tt
 effect_above t TakesShared above = tt
 effect_above t LoadsPhase above = tt
+effect_above t CountsTaken above = tt
 effect_above t (LoadsSafe addr version) above = tt
 effect_above t LoadsAnswer above = tt
 effect_above t (TakesExclusive old) above = tt
 effect_above t LoadsOld above = tt
 effect_above t (Appends its) above = tt
+effect_above t (LoadsTail waiting) above = tt
+effect_above t (LoadsTaken waiting) above = tt
 effect_above t (DropsExclusive its) above = tt
 effect_above t (DropsShared its) above = tt
 

@@ -11,12 +11,10 @@ use Rattle.fkv_index.specs.declared.finding.Found.{Found}
 use Rattle.fkv_index.specs.declared.finding.Found.TheVariants as found
 use Rattle.fkv_index.specs.declared.finding.Linking.TheVariants.{Never}
 use Rattle.fkv_index.specs.declared.finding.Purpose.{Purpose}
-use Rattle.fkv_index.specs.declared.finding.Purpose.TheVariants.{Update}
 use Rattle.fkv_index.specs.declared.homes.Home.{Home}
 use Rattle.fkv_index.specs.Slots.{entry_addr}
 use Rattle.fkv_index.specs.Finding.{linking_for, find_ask, find_next, find_next_ask}
-use Rattle.fkv_index.specs.Searches.{IsFoundFor}
-use Rattle.fkv_index.proofs.Shown.{MayLink, led_may}
+use Rattle.fkv_index.proofs.Shown.{MayLink, led_may, IsNoMiss}
 use Rattle.fkv_flush.specs.GuardWorld.{is_guarded}
 use Rattle.fkv_log.specs.declared.loading.LoadAnswer.{LoadAnswer}
 use Rattle.fkv_log.specs.declared.loading.LoadAnswer.TheVariants as load
@@ -44,6 +42,7 @@ HasPlace p reads w = reads ≡ false → is_guarded p w.place ≡ false
 abbrev pub WalkRow : Places → Bool → WalkState → Walking → Type 0
 WalkRow p reads w Finds = IsAtBucket p w.finding × (reads ≡ false → MayLink w.finding)
 WalkRow p reads w (Ended answer.Full) = ⊤
+WalkRow p reads w (Ended answer.Kept) = ⊤
 WalkRow p reads w (Ended answer.Contended) = ⊤
 WalkRow p reads w step = HasPlace p reads w
 
@@ -72,6 +71,7 @@ walk_outer p reads w row = walking_outer p reads w w.step row
 -- at each end but those of a search that came to nothing
 abbrev pub AnswerOuter : Places → Bool → WalkState → WalkAnswer → Type 0
 AnswerOuter p reads w answer.Full = ⊤
+AnswerOuter p reads w answer.Kept = ⊤
 AnswerOuter p reads w answer.Contended = ⊤
 AnswerOuter p reads w its = HasPlace p reads w
 
@@ -97,6 +97,7 @@ ended_tells p reads w answer.Nowhere row = row
 ended_tells p reads w (answer.OnDisk addr) row = row
 ended_tells p reads w (answer.Value value) row = row
 ended_tells p reads w answer.Full row = tt
+ended_tells p reads w answer.Kept row = tt
 ended_tells p reads w answer.Contended row = tt
 
 walking_tells : (p : Places) (reads : Bool) (w : WalkState) (step : Walking) → WalkRow p reads w step → WalkTells p reads w (walking_ask p w step)
@@ -124,10 +125,11 @@ reached_outer p reads w addr has =
     (either_outer (nat_lt addr w.head.0) p reads (walk_ended w (answer.OnDisk (record { 0 = addr }))) _ has
     (either_outer (nat_lt (addr - w.head.0) p.ring) p reads (record w { loading = loading.LoadsHeader (record { 0 = addr }); step = Meets (record { 0 = addr }) }) (walk_ended w answer.Contended) has tt))
 
-slot_outer : (p : Places) (reads : Bool) (w : WalkState) (its : Found) → FoundOuter p its → (reads ≡ false → IsFoundFor Update its) → IsWalkOuter p reads (slot_found p w its)
+slot_outer : (p : Places) (reads : Bool) (w : WalkState) (its : Found) → FoundOuter p its → (reads ≡ false → IsNoMiss its) → IsWalkOuter p reads (slot_found p w its)
 slot_outer p reads w (found.Slot place word) outer update = reached_outer p reads (record w { place = place; entry = word }) (entry_addr word) (λ e. outer)
 slot_outer p reads w found.NoSlot outer update = λ e. absurd (update e)
 slot_outer p reads w found.Full outer update = tt
+slot_outer p reads w found.Kept outer update = tt
 slot_outer p reads w found.Contended outer update = tt
 
 -- a search goes on, and for an update it may still link

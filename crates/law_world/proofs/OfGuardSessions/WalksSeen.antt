@@ -64,6 +64,7 @@ ended_above head answer.Nowhere above = tt
 ended_above head (answer.OnDisk addr) above = tt
 ended_above head (answer.Value value) above = tt
 ended_above head answer.Full above = tt
+ended_above head answer.Kept above = tt
 ended_above head answer.Contended above = tt
 
 walking_tells : (p : Places) (head : ℕ) (w : WalkState) (step : Walking) → WalkAbove head step → AsksAbove head (walking_ask p w step)
@@ -103,6 +104,7 @@ slot_above : (p : Places) (head : ℕ) (w : WalkState) (its : Found) → w.head.
 slot_above p head w (found.Slot place word) same = reached_above p head (record w { place = place; entry = word }) (entry_addr word) same
 slot_above p head w found.NoSlot same = record { same = same; above = tt }
 slot_above p head w found.Full same = record { same = same; above = tt }
+slot_above p head w found.Kept same = record { same = same; above = tt }
 slot_above p head w found.Contended same = record { same = same; above = tt }
 
 find_ledto_above : (p : Places) (head : ℕ) (w : WalkState) (ask : Ask FindAnswer) → w.step ≡ Finds → w.head.0 ≡ head → IsWalkAbove head (find_ledto p w ask)

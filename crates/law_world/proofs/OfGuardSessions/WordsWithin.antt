@@ -61,7 +61,7 @@ use Rattle.fkv_latch.specs.Latching.{latch_ask}
 use Rattle.fkv_ops.specs.declared.appending.Appending.{Appending}
 use Rattle.fkv_ops.specs.declared.appending.Appending.TheVariants as appending
 use Rattle.fkv_ops.specs.declared.trying.Trying.{Trying}
-use Rattle.fkv_ops.specs.declared.trying.Trying.TheVariants.{Ended, TakesShared, LoadsPhase, Walks, LoadsSafe, SwapsValue, LoadsCurrent, ChangesValue, LoadsAnswer, TakesExclusive, LoadsOld, Appends, DropsExclusive, DropsShared}
+use Rattle.fkv_ops.specs.declared.trying.Trying.TheVariants.{Ended, TakesShared, LoadsPhase, Walks, CountsTaken, LoadsSafe, SwapsValue, LoadsCurrent, ChangesValue, LoadsAnswer, TakesExclusive, LoadsOld, Appends, LoadsTail, LoadsTaken, DropsExclusive, DropsShared}
 use Rattle.fkv_ops.specs.declared.walking.Walking.{Walking}
 use Rattle.fkv_ops.specs.declared.walking.Walking.TheVariants as walking
 use Rattle.fkv_ops.specs.Appending.{AppendState, appending_ask}
@@ -268,7 +268,7 @@ load_within p (loading.LoadsValue addr header key) = record_within p addr.0 rec.
 reserve_within : (p : Places) (step : Reserving) → IsWithin p (reserve_ask step)
 unfolding reserve_ask
 reserve_within p reserving.AtRest = tt
-reserve_within p reserving.LoadsLimit = omega arith
+reserve_within p (reserving.LoadsLimit bound) = omega arith
 reserve_within p (reserving.LoadsTail limit) = omega arith
 reserve_within p (reserving.TakesTail tail) = omega arith
 
@@ -335,6 +335,7 @@ try_within p t (Ended its) row = tt
 try_within p t TakesShared row = passed_within p (latch_ask t.latching) _ (latch_within p t.latching row)
 try_within p t LoadsPhase row = omega arith
 try_within p t Walks row = passed_within p (walk_ask p t.walk) _ (walk_within p (is_read t.request.op) t.walk t.walk.step row)
+try_within p t CountsTaken row = omega arith
 try_within p t (LoadsSafe addr version) row = omega arith
 try_within p t (SwapsValue addr) row = record_within p addr.0 rec.Value
 try_within p t (LoadsCurrent addr) row = passed_within p (walk_ask p t.walk) _ (walk_within p false t.walk t.walk.step row)
@@ -343,6 +344,8 @@ try_within p t LoadsAnswer row = passed_within p (walk_ask p t.walk) _ (walk_wit
 try_within p t (TakesExclusive old) row = passed_within p (latch_ask t.latching) _ (latch_within p t.latching row.0)
 try_within p t LoadsOld row = passed_within p (walk_ask p t.walk) _ (walk_within p false t.walk t.walk.step row)
 try_within p t (Appends its) row = passed_within p (appending_ask p t.append t.append.step) _ (append_within p t.append t.append.step row.publishes)
+try_within p t (LoadsTail waiting) row = omega arith
+try_within p t (LoadsTaken waiting) row = omega arith
 try_within p t (DropsExclusive its) row = passed_within p (latch_ask t.latching) _ (latch_within p t.latching row)
 try_within p t (DropsShared its) row = passed_within p (latch_ask t.latching) _ (latch_within p t.latching row)
 

@@ -85,7 +85,7 @@ onward_alone keeper a (Starts task) none = one keeper a (Begins a task) (mine a)
 onward_alone keeper a GoesOn none = one keeper a (Resumes a) (mine a) tt
 
 reserve_none : (step : Reserving) → IsNoFlush (reserve_onward step)
-reserve_none reserve.LoadsLimit = tt
+reserve_none (reserve.LoadsLimit bound) = tt
 reserve_none step = tt
 
 fill_none : (step : Filling) → IsNoFlush (fill_onward step)

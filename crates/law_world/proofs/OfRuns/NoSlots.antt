@@ -117,6 +117,7 @@ try_off p t (try.Ended its) = tt
 try_off p t try.TakesShared = passed_off _ _ (latch_off t.latching)
 try_off p t try.LoadsPhase = tt
 try_off p t try.Walks = passed_off _ _ (walk_off p t.walk t.walk.step)
+try_off p t try.CountsTaken = tt
 try_off p t (try.LoadsSafe addr version) = tt
 try_off p t (try.SwapsValue addr) = tt
 try_off p t (try.LoadsCurrent addr) = passed_off _ _ (walk_off p t.walk t.walk.step)
@@ -125,6 +126,8 @@ try_off p t try.LoadsAnswer = passed_off _ _ (walk_off p t.walk t.walk.step)
 try_off p t (try.TakesExclusive old) = passed_off _ _ (latch_off t.latching)
 try_off p t try.LoadsOld = passed_off _ _ (walk_off p t.walk t.walk.step)
 try_off p t (try.Appends its) = passed_off _ _ (append_off p t.append t.append.step)
+try_off p t (try.LoadsTail waiting) = tt
+try_off p t (try.LoadsTaken waiting) = tt
 try_off p t (try.DropsExclusive its) = passed_off _ _ (latch_off t.latching)
 try_off p t (try.DropsShared its) = passed_off _ _ (latch_off t.latching)
 

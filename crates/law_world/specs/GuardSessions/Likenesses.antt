@@ -63,7 +63,7 @@ append_likeness seen a = likeness None (append_work a a.step) seen (append_undec
 
 -- a machine at its first step has begun just now
 abbrev pub reserve_onward : Reserving → Onward
-reserve_onward reserving.LoadsLimit = Starts ToReserve
+reserve_onward (reserving.LoadsLimit bound) = Starts (ToReserve bound)
 reserve_onward step = Stays
 
 abbrev pub fill_onward : Filling → Onward

@@ -87,7 +87,7 @@ class ValueReserved(Error, ValueError):
 
 
 class Full(Error):
-    """The index or the log has no room for another record, and never will have. Renew the store: `Store.renew`, `renew_file`."""
+    """The index or the log has no room for another record, and never will have. A living store's commits go on. Renew the store: `Store.renew`, `renew_file`."""
 
 
 class Spent(Error):

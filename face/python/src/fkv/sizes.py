@@ -50,7 +50,7 @@ class Size:
     opening_bytes: int  # about: at the height of an opening, without the file's bytes
     file_bytes: int  # of its file, at most
     keys: int  # that fit, all but surely
-    records: int  # that the log takes in all the store's life
+    records: int  # that calls may append in all the store's life
 
 
 def shape_of(its: CShape) -> Shape:

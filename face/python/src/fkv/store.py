@@ -56,7 +56,7 @@ class Keeping:
     turn_us: int = 0  # microseconds between two turns when nothing is to be done; 0: 500
     committed: Optional[Callable[[Commit], None]] = None  # after each finished commit
     progress: Optional[Callable[[Progress], None]] = None  # as a commit begins, and after each of its calls of the file
-    stopped: Optional[Callable[[Error], None]] = None  # once, as commits end for good
+    stopped: Optional[Callable[[Error], None]] = None  # once, as commits end for good, or the log is full
     unwarmed: Optional[Callable[[], None]] = None  # once, if memory can't be kept warm in this store
     warms: bool = True  # memory is kept warm, if it can be
 
@@ -86,7 +86,7 @@ class Stats:
     tail: int
     overflow: int
     entries: int
-    stopped: Optional[Fault]  # why no commit is finished any more
+    stopped: Optional[Fault]  # why no commit is finished any more, or that the log is full
     waited: tuple[int, ...]  # requests that calls had to wait for: updates by their first reason, reads at 0
     pending: tuple[int, ...]  # those of them that are pending just now
 

@@ -40,12 +40,13 @@ returns-in-Contended g c =
     let n = c.wait.new.machine in
     let u = g.L.Line.stands c.update_by_phase-straight.new.line in
     let updates : is_read c.args.op ≡ false = search rules in
+    let goes = goes_alike m.seat k m.state (g.L.Line.stands c.args.line.now) c.args.op c.args.going.now c.requires.may c.requires.seat c.requires.alike in
     record {
       seat = c.update_by_phase-straight.ensures.seat;
       led = c.update_by_phase-straight.ensures.led;
       machine = waiting_seat m n c.args.op c.wait.result c.wait.ensures.waits c.wait.ensures.full;
       goes_by = λ its by. waiting_goes m n c.args.op its c.wait.result c.wait.ensures.waits c.wait.ensures.full by;
-      ended = waiting_ended k m n (g.L.Line.stands c.args.line.now) u c.args.op c.wait.result updates c.requires.alike c.wait.ensures.waits c.in-Contended.ensures.done;
+      ended = waiting_ended k m n (g.L.Line.stands c.args.line.now) u c.args.op c.args.going.now c.wait.result goes updates c.requires.alike c.wait.ensures.waits c.wait.ensures.unbounded c.in-Contended.ensures.done;
       stopped = c.wait.ensures.full;
     }
 

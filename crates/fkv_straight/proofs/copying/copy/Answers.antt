@@ -2,8 +2,7 @@ use Rattle.std.proofs.Common.{◌≡◌, ℕ, refl, sym, ◌∙◌, rules, subst
 use Rattle.std.specs.Prelude.{Option}
 use Rattle.fkv_plane.specs.declared.asks.Ask.TheVariants.{Load}
 use Rattle.fkv_plane.specs.declared.places.RecordWord.TheVariants as rec
-use Rattle.fkv_log.specs.declared.reserving.Reserving.TheVariants.{LoadsLimit}
-use Rattle.fkv_straight.specs.Met.{IsAtReserve}
+use Rattle.fkv_straight.specs.Met.{IsAtReserve, limit_of}
 use Rattle.fkv_straight.proofs.Copies.{copied_reserves, copied_loads, old_asks, old_comes}
 use Rattle.fkv_straight.proofs.Goings.{blind_in, goes_at, leads_on, record_asks}
 use Rattle.fkv_straight.proofs.copying.copy.Goals as goal
@@ -38,7 +37,7 @@ append-requires-else-blind-clause-at g c =
     let comes = old_comes its c.args.its c.load-word.result s u at (leads_on its k c.args.op c.args.going.now k s u c.load-word.result goes refl c.load-word.ensures.next) in (
       its,
       goes_at its k c.args.op c.args.going.now (g.L.Line.seat c.load-word.new.self) goes c.load-word.ensures.seat,
-      subst (λ (old : Option ℕ). IsAtReserve its c.args.its.place c.args.its.entry old LoadsLimit u) (sym c.value_of_word-old.ensures) comes,
+      subst (λ (old : Option ℕ). IsAtReserve its c.args.its.place c.args.its.entry old (limit_of its) u) (sym c.value_of_word-old.ensures) comes,
     )
 
 pub returns-then-blind-clause-done : goal.returns-then-blind-clause-done
@@ -56,4 +55,4 @@ returns-else-blind-clause-done g c = λ its goes copied.
     let at = copied_loads its c.args.its s copied (blind_in its k c.args.op c.args.going.now _ goes (sym c.is_blind-blind.ensures ∙ so)) in
     let comes = old_comes its c.args.its c.load-word.result s u at (leads_on its k c.args.op c.args.going.now k s u c.load-word.result goes refl c.load-word.ensures.next) in
     c.append-else-blind.ensures.done its (goes_at its k c.args.op c.args.going.now (g.L.Line.seat c.load-word.new.self) goes c.load-word.ensures.seat)
-    (subst (λ (old : Option ℕ). IsAtReserve its c.args.its.place c.args.its.entry old LoadsLimit u) (sym c.value_of_word-old.ensures) comes)
+    (subst (λ (old : Option ℕ). IsAtReserve its c.args.its.place c.args.its.entry old (limit_of its) u) (sym c.value_of_word-old.ensures) comes)

@@ -4,9 +4,10 @@ use Rattle.fkv_map.specs.declared.operations.Call.TheVariants as call
 use Rattle.fkv_session.specs.Alike.{lasting}
 use Rattle.fkv_session.specs.Sessions.{Sitter}
 use Rattle.fkv_straight.specs.declared.hot.Due.{Due}
+use Rattle.fkv_straight.specs.declared.outcomes.Outcome.TheVariants.{Contended}
 use Rattle.fkv_straight.specs.Course.{course_of, Goes}
 use Rattle.fkv_straight.specs.Hot.{HasRoom, IsDue}
-use Rattle.fkv_straight.specs.Standing.{ComesTo, IsWaiting}
+use Rattle.fkv_straight.specs.Standing.{ComesTo}
 use Rattle.fkv_straight.proofs.Endings.{update_asks, update_caught_up, waiting_ended, waiting_goes}
 use Rattle.fkv_straight.proofs.MayGoes.{goes_alike}
 use Rattle.fkv_straight.proofs.hot.go_due.Goals as goal
@@ -46,8 +47,8 @@ returns-in-Contended-clause-ended g c =
     let due = subst (λ (d : Due). IsDue its d (g.L.Line.stands c.args.line.now)) c.in-Met.is left.due in
     let goes : Goes its k c.args.op c.args.going.now = goes_alike m.seat k m.state left.start c.args.op c.args.going.now c.requires.may c.requires.seat left.alike in
     let v = g.L.Line.stands c.update_met-straight.new.line in
-    let waits : IsWaiting its v = subst (λ o. ComesTo its o v) c.in-Contended.is (c.update_met-straight.ensures.done its goes due.2) in
-    waiting_ended k m c.wait.new.machine left.start v c.args.op c.wait.result due.0 left.alike c.wait.ensures.waits waits
+    let waits : ComesTo its Contended v = subst (λ o. ComesTo its o v) c.in-Contended.is (c.update_met-straight.ensures.done its goes due.2) in
+    waiting_ended k m c.wait.new.machine left.start v c.args.op c.args.going.now c.wait.result goes due.0 left.alike c.wait.ensures.waits c.wait.ensures.unbounded waits
 
 pub returns-in-Lost-clause-goes_by : goal.returns-in-Lost-clause-goes_by
 returns-in-Lost-clause-goes_by g c = λ its by. waiting_goes c.args.machine.now c.wait-in-Lost.new.machine c.args.op its c.wait-in-Lost.result c.wait-in-Lost.ensures.waits c.wait-in-Lost.ensures.full by
@@ -58,7 +59,8 @@ returns-in-Lost-clause-ended g c =
     let left = c.requires.left in
     let its = course_of k left.start c.args.op (call.Op c.args.op) in
     let due = subst (λ (d : Due). IsDue its d (g.L.Line.stands c.args.line.now)) c.in-Lost.is left.due in
-    waiting_ended k c.args.machine.now c.wait-in-Lost.new.machine left.start (g.L.Line.stands c.args.line.now) c.args.op c.wait-in-Lost.result due.0 left.alike c.wait-in-Lost.ensures.waits due.1
+    let goes : Goes its k c.args.op c.args.going.now = goes_alike c.args.machine.now.seat k c.args.machine.now.state left.start c.args.op c.args.going.now c.requires.may c.requires.seat left.alike in
+    waiting_ended k c.args.machine.now c.wait-in-Lost.new.machine left.start (g.L.Line.stands c.args.line.now) c.args.op c.args.going.now c.wait-in-Lost.result goes due.0 left.alike c.wait-in-Lost.ensures.waits c.wait-in-Lost.ensures.unbounded due.1
 
 pub ask_for-requires-clause-at : goal.ask_for-requires-clause-at
 ask_for-requires-clause-at g c =

@@ -5,9 +5,10 @@ use Rattle.fkv_map.specs.declared.operations.Reply.{Reply}
 use Rattle.fkv_session.specs.Alike.{lasting}
 use Rattle.fkv_session.specs.Sessions.{Sitter}
 use Rattle.fkv_straight.specs.declared.searching.Met.{Met}
+use Rattle.fkv_straight.specs.declared.outcomes.Outcome.TheVariants.{Contended}
 use Rattle.fkv_straight.specs.Course.{course_of, Goes}
 use Rattle.fkv_straight.specs.Met.{HasChanged, HasLost, HasMet, IsMet}
-use Rattle.fkv_straight.specs.Standing.{IsDone, IsWaiting}
+use Rattle.fkv_straight.specs.Standing.{ComesTo, IsDone}
 use Rattle.fkv_straight.proofs.Changes.{changed_done, lost_waits}
 use Rattle.fkv_straight.proofs.Endings.{update_asks, update_caught_up}
 use Rattle.fkv_straight.proofs.Goings.{none_of, some_of}
@@ -51,6 +52,6 @@ returns-in-None-clause-left g c =
     let v = g.L.Line.stands c.change-changed.new.line in
     let goes : Goes its k c.args.op c.args.going.now = goes_alike m.seat k m.state s c.args.op c.args.going.now c.requires.may c.requires.seat left.alike in
     let met : IsMet its c.in-Found.record u = subst (λ (x : Met). HasMet its x u) c.in-Found.is left.due.2 in
-    let waits : IsWaiting its v = lost_waits its v goes.settled left.due.1 left.due.0
+    let waits : ComesTo its Contended v = lost_waits its v goes.settled left.due.1 left.due.0
     (none_of (HasLost its v) c.change-changed.result c.in-None.is (c.change-changed.ensures.lost its goes met)) in
     (refl, record { start = s; alike = left.alike; due = (left.due.0, waits); room = tt })

@@ -1,11 +1,16 @@
 -- What a poll goes by lasts through it, and behind its end the machine has caught up.
-use Rattle.std.proofs.Common.{ap}
+use Rattle.std.proofs.Common.{refl, ap, ◌∙◌}
+use Rattle.fkv_map.specs.declared.operations.Call.TheVariants as call
 use Rattle.fkv_session.specs.Sessions.{Sitter}
+use Rattle.fkv_straight.specs.Course.{course_of}
 use Rattle.fkv_straight.proofs.Polls.{poll_alike, poll_asks, poll_begins, poll_caught_up, polled_by, unpolled_asks, unpolled_by, unpolled_caught_up, waits_in}
 use Rattle.fkv_straight.proofs.polling.poll_by.Goals as goal
 
 pub update-straight-requires-clause-goes : goal.update-straight-requires-clause-goes
-update-straight-requires-clause-goes g c = (poll_alike c.args.machine.now.seat (g.L.Line.seat c.args.line.now) c.args.machine.now.state (g.L.Line.stands c.args.line.now) c.args.its c.args.going.now c.requires.may c.requires.seat c.requires.alike).goes
+update-straight-requires-clause-goes g c =
+    let k = g.L.Line.seat c.args.line.now in
+    let s = g.L.Line.stands c.args.line.now in
+    c.in_poll-polling.ensures.goes (course_of k s c.args.its.op call.Poll) k c.args.its.op (poll_alike c.args.machine.now.seat k c.args.machine.now.state s c.args.its c.args.going.now c.requires.may c.requires.seat c.requires.alike).goes
 
 pub update-straight-requires-clause-begins : goal.update-straight-requires-clause-begins
 update-straight-requires-clause-begins g c = poll_begins c.args.machine.now.seat (g.L.Line.seat c.args.line.now) c.args.machine.now.state (g.L.Line.stands c.args.line.now) c.args.its c.args.going.now c.requires.may c.requires.seat c.requires.alike
@@ -33,10 +38,10 @@ returns-in-Contended-clause-ended g c =
     let u = g.L.Line.stands c.update-straight.new.line in
     let m = c.args.machine.now in
     let n = c.take_unpolled.new.self in
-    (unpolled_asks k s u c.args.its.op c.in-Contended.ensures.done, unpolled_caught_up m.state n.state u s k c.args.its.op c.requires.alike (ap (λ (x : Sitter). x.state) c.take_unpolled.ensures) c.in-Contended.ensures.done)
+    (unpolled_asks k s u c.args.its.op (c.in-Contended.ensures.done refl), unpolled_caught_up m.state n.state u s k c.args.its.op c.requires.alike (ap (λ (x : Sitter). x.state) c.take_unpolled.ensures) (c.in-Contended.ensures.done refl))
 
 pub returns-in-Contended-clause-goes_by : goal.returns-in-Contended-clause-goes_by
 returns-in-Contended-clause-goes_by g c = λ its by. unpolled_by c.args.machine.now c.take_unpolled.new.self its c.take_unpolled.ensures by
 
 pub update-straight-requires-clause-calm : goal.update-straight-requires-clause-calm
-update-straight-requires-clause-calm g c = c.requires.may.calm
+update-straight-requires-clause-calm g c = c.in_poll-polling.ensures.calm ∙ c.requires.may.calm

@@ -47,7 +47,7 @@ returns-in-Ok-clause-ended g c =
     let l = lasting s in
     let goes : Goes its k c.args.op c.args.going.now = goes_alike c.args.machine.now.seat k c.args.machine.now.state s c.args.op c.args.going.now c.requires.may c.requires.seat c.requires.alike in
     let ended : IsEnded l c.in-Ok.answer v = ok_of (λ (x : Told). IsEnded l x v) c.tell-told.result c.in-Ok.answer c.in-Ok.is
-    (c.tell-told.ensures.ended its (goes_at its k c.args.op c.args.going.now (g.L.Line.seat c.search-met.new.line) goes c.search-met.ensures.seat) refl
+    (c.tell-told.ensures.ended its (goes_at its k c.args.op c.args.going.now (g.L.Line.seat c.search-met.new.line) goes c.search-met.ensures.seat) _ refl
     (some_of (λ (m : Met). HasMet its m u) c.search-met.result c.in-Some.its c.in-Some.is c.search-met.ensures.met)) in
     (read_asks k v l c.in-Ok.answer ended, read_caught_up c.args.machine.now.state v l c.in-Ok.answer c.requires.alike ended)
 

@@ -19,7 +19,7 @@ load-value-requires-clause-asked g c =
     (answer_asks its c.in-Found.record u met (reads_calm its k c.args.op c.args.going.now goes c.requires.reads) (updates_in its k c.args.op c.args.going.now _ goes c.requires.reads))
 
 pub returns-then-value-clause-ended : goal.returns-then-value-clause-ended
-returns-then-value-clause-ended g c = λ its goes calls at.
+returns-then-value-clause-ended g c = λ its goes bounds calls at.
     let k = g.L.Line.seat c.args.line.now in
     let u = g.L.Line.stands c.args.line.now in
     let v = g.L.Line.stands c.load-value.new.self in
@@ -27,7 +27,7 @@ returns-then-value-clause-ended g c = λ its goes calls at.
     (leads_on its k c.args.op c.args.going.now k u v c.load-value.result goes refl c.load-value.ensures.next) c.if-value.true
 
 pub returns-else-value-clause-ended : goal.returns-else-value-clause-ended
-returns-else-value-clause-ended g c = λ its goes calls at.
+returns-else-value-clause-ended g c = λ its goes bounds calls at.
     let k = g.L.Line.seat c.args.line.now in
     let u = g.L.Line.stands c.args.line.now in
     let v = g.L.Line.stands c.load-value.new.self in
@@ -35,7 +35,7 @@ returns-else-value-clause-ended g c = λ its goes calls at.
     (leads_on its k c.args.op c.args.going.now k u v c.load-value.result goes refl c.load-value.ensures.next) c.if-value.false
 
 pub returns-in-Nowhere-clause-ended : goal.returns-in-Nowhere-clause-ended
-returns-in-Nowhere-clause-ended g c = λ its goes calls at.
+returns-in-Nowhere-clause-ended g c = λ its goes bounds calls at.
     let k = g.L.Line.seat c.args.line.now in
     let u = g.L.Line.stands c.args.line.now in
     let slot = c.in-Nowhere.field-0 in

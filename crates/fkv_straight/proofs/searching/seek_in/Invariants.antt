@@ -8,7 +8,7 @@ use Rattle.fkv_straight.proofs.searching.seek_in.Given as goal
 abbrev pub invariant-slots : goal.invariant-slots
 invariant-slots g l =
     let k = g.L.Line.seat l.fn.line in
-    let links = l.fn.going.places.overflow - l.fn._passed in
+    let links = l.fn.going.places.overflow - l.fn.passed in
     record {
       seat : g.L.Line.seat l.line ≡ k;
       led : (start : g.row.L.Denot) (call : Call) → g.L.Line.led start call l.fn.line → g.L.Line.led start call l.line;

@@ -1,5 +1,4 @@
-use Rattle.std.proofs.Common.{◌∙◌, ◌≡◌, ℕ, ap, sym, subst}
-use Rattle.fkv_index.specs.Slots.{entry_addr}
+use Rattle.std.proofs.Common.{◌∙◌, ℕ, sym, subst}
 use Rattle.fkv_straight.specs.Met.{IsReached}
 use Rattle.fkv_straight.proofs.Goings.{goes_at}
 use Rattle.fkv_straight.proofs.searching.walk.Goals as goal

@@ -1,6 +1,7 @@
 -- The call of the device stands in the list, as it has ended.
 use Rattle.std.proofs.Common.{true, false}
 use Rattle.fkv_table.specs.Planes.{opening_of}
+use Rattle.fkv_table.proofs.ByDevice.{counts_done, counts_failed}
 use Rattle.fkv_table.proofs.KeeperNotes.{spares_call}
 use Rattle.fkv_table.proofs.KeeperCalled.{after_on, called_on, went_on}
 use Rattle.fkv_table.proofs.KeeperMoments.{moments_called}
@@ -57,3 +58,9 @@ returns-in-Err-clause-moments g c =
     let went = went_on (opening_of d.seen) _ _ c.args.machine.now c.requires.table.1.opening c.requires.keeping c.requires.ask false c.note-in-Err.new.seat.me c.note-in-Err.ensures.noted (d.seen c.args.d.now) (d.may_leave c.args.d.now) c.requires.after in
     moments_called (opening_of d.seen) d.moment d.left_since _ c.args.d.now c.call_device.new.d _ _ (d.seen c.args.d.now) (d.seen c.call_device.new.d) (d.may_leave c.args.d.now) (d.may_leave c.call_device.new.d) c.requires.after after went
     (λ image left. g.met.D.Device.only_now c.args.d.now image c.requires.honest left) (c.in-Err.ensures.time c.requires.honest)
+
+pub returns-in-Ok-clause-counted : goal.returns-in-Ok-clause-counted
+returns-in-Ok-clause-counted g c = counts_done c.args.machine.now c.call_device.new.self _ _ _ _ _ _ c.requires.ask c.in-Ok.ensures.asked c.in-Ok.ensures.next c.in-Ok.ensures.cause c.in-Ok.ensures.counted
+
+pub returns-in-Err-clause-counted : goal.returns-in-Err-clause-counted
+returns-in-Err-clause-counted g c = counts_failed c.args.machine.now c.call_device.new.self _ _ _ _ _ _ c.requires.ask c.in-Err.ensures.asked c.in-Err.ensures.refused c.in-Err.ensures.cause c.in-Err.ensures.counted

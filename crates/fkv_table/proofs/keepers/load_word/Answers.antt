@@ -4,6 +4,7 @@ use Rattle.fkv_plane.specs.declared.asks.Ask.TheVariants.{Load}
 use Rattle.fkv_keeper.proofs.Shown.{due_asks}
 use Rattle.fkv_table.specs.declared.happenings.Happening.TheVariants.{KeeperMoves}
 use Rattle.fkv_table.specs.Planes.{opening_of}
+use Rattle.fkv_table.proofs.ByDevice.{word_none}
 use Rattle.fkv_table.proofs.KeeperSteps.{keeper_within, may_keep}
 use Rattle.fkv_table.proofs.KeeperWords.{word_begins, word_stepped}
 use Rattle.fkv_table.proofs.keepers.load_word.Goals as goal
@@ -31,6 +32,7 @@ returns g c =
       keeping = its.keeping;
       went = its.went;
       calls = its.calls;
+      by_device = word_none k c.keep.new.self c.args.place c.perform-word.result c.requires.due (c.keep.ensures.next false);
       fewer = its.fewer;
       beginning = word_begins (opening_of g.D.Device.seen) c.args.words.now.key c.args.words.now.table_id.slots c.args.seat.now.me c.perform-word.new.seat.me k c.keep.new.self c.args.place c.perform-word.result guard c.requires.keeping c.requires.due
           c.perform-word.ensures.told (c.keep.ensures.next false);

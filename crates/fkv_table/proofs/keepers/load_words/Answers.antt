@@ -11,6 +11,7 @@ words-init g c = record {
   keeping = c.requires.keeping;
   went = record { steps = []; begins = tt; so = refl };
   calls = refl;
+  by_device = refl;
   left = omega arith;
   beginning = λ b. b;
 }
@@ -29,6 +30,7 @@ words-preserved g c = let inv = c.words.invariant in let did = c.load_word.ensur
   keeping = did.keeping;
   went = gone_both (opening_of g.D.Device.seen) _ _ _ inv.went did.went;
   calls = did.calls ∙ inv.calls;
+  by_device = did.by_device ∙ inv.by_device;
   left = omega (arith, did.fewer, inv.left);
   beginning = λ b. did.beginning (inv.beginning b);
 }

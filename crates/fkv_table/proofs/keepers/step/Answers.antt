@@ -4,6 +4,8 @@ use Rattle.fkv_keeper.specs.Keeping.{KeeperModel, keeper_ask}
 use Rattle.fkv_table.specs.KeeperCalls.{IsBeginning}
 use Rattle.fkv_table.specs.Keeps.{IsKeeping}
 use Rattle.fkv_table.specs.Planes.{opening_of}
+use Rattle.fkv_table.specs.Turns.{ended_by_device}
+use Rattle.fkv_table.proofs.ByDevice.{step_none}
 use Rattle.fkv_table.proofs.KeeperCommits.{step_begins}
 use Rattle.fkv_table.proofs.KeeperSettled.{IsKeeperStep, keeper_in_hand, keeper_stepped}
 use Rattle.fkv_table.proofs.keepers.step.Goals as goal
@@ -51,3 +53,9 @@ pub returns-clause-beginning : goal.returns-clause-beginning
 returns-clause-beginning g c b =
     step_begins (opening_of g.D.Device.seen) c.args.words.now.key c.args.seat.now.me c.ask_by_room-next.new.seat.me c.settle.new.seat.me _ c.room-room.new.self c.ask_by_room-next.new.machine c.settle.new.machine c.ask_by_room-next.result
     c.ask_by_room-next.ensures.replied c.settle.ensures.settled (subst (λ (k : KeeperModel). IsBeginning k.state.step) (sym c.room-room.ensures.same) b)
+
+pub returns-clause-by_device : goal.returns-clause-by_device
+returns-clause-by_device g c =
+    let first = c.requires.ask ∙ ap (λ (k : KeeperModel). keeper_ask k.shape k.places k.state) (sym c.room-room.ensures.same) in
+    step_none (opening_of g.D.Device.seen) c.args.words.now.key c.args.seat.now.me c.ask_by_room-next.new.seat.me c.settle.new.seat.me c.room-room.new.self c.ask_by_room-next.new.machine c.settle.new.machine _ c.args.ask.now c.ask_by_room-next.result
+    c.ask_by_room-next.ensures.replied first c.requires.word c.ask_by_room-next.ensures.ask c.settle.ensures.settled ∙ ap (λ (k : KeeperModel). ended_by_device k.state.step) c.room-room.ensures.same

@@ -11,6 +11,7 @@ asks-init g c = record {
   keeping = c.requires.keeping;
   went = record { steps = []; begins = tt; so = refl };
   calls = refl;
+  by_device = refl;
   left = omega arith;
   beginning = λ b. b;
   asked = c.ask-ask.ensures;
@@ -31,6 +32,7 @@ asks-preserved g c = let inv = c.asks.invariant in let did = c.step-ask.ensures 
   keeping = did.keeping;
   went = gone_both (opening_of g.D.Device.seen) _ _ _ inv.went did.went;
   calls = did.calls ∙ inv.calls;
+  by_device = did.by_device ∙ inv.by_device;
   left = omega (arith, did.fewer, inv.left);
   beginning = λ b. did.beginning (inv.beginning b);
   asked = did.ask;
@@ -43,6 +45,7 @@ asks-preserved-then-is_some g c = let inv = c.asks.invariant in let did = c.step
   keeping = on.keeping;
   went = gone_both (opening_of g.D.Device.seen) _ _ _ (gone_both (opening_of g.D.Device.seen) _ _ _ inv.went did.went) on.went;
   calls = on.calls ∙ (did.calls ∙ inv.calls);
+  by_device = on.by_device ∙ (did.by_device ∙ inv.by_device);
   left = omega (arith, on.left, did.fewer, inv.left);
   beginning = λ b. on.beginning (did.beginning (inv.beginning b));
   asked = c.ask-ask-then-is_some.ensures;

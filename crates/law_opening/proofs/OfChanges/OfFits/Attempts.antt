@@ -144,7 +144,7 @@ module _ (log : Log) (flushed : ℕ) (p : Places) (bits : ℕ) where
 
   new_attempt_ok : (pending : PendingRequest) (seen : Seen) (occasion : Occasion) (spare : ℕ) (is_orphaned : Bool) → Pending pending → Ok (new_attempt bits pending seen occasion spare is_orphaned)
   unfolding try_rested
-  new_attempt_ok pending seen occasion spare is_orphaned ok = (ok, (tt, new_ok log flushed p bits no_request nothing_seen Call 0 tt))
+  new_attempt_ok pending seen occasion spare is_orphaned ok = (ok, (tt, new_ok log flushed p bits no_request nothing_seen (Call None) 0 tt))
 
   pub attempt_begins : (pending : PendingRequest) (seen : Seen) (occasion : Occasion) (spare : ℕ) (is_orphaned : Bool) → Pending pending → Ok (attempt_begun p bits pending seen occasion spare is_orphaned)
   attempt_begins pending seen occasion spare is_orphaned ok = by_test (new_attempt bits pending seen occasion spare is_orphaned) (new_attempt_ok pending seen occasion spare is_orphaned ok) pending.has_asked

@@ -70,6 +70,7 @@ use Rattle.law_refine.proofs.OfSeen.There.{there_before}
 use Rattle.law_refine.specs.Events.GhostEvents.{fixed_ghosts, ghost_events, home_in, mapped, moved_ghosts, own_ghosts, safe_at, serials_in, traced_by}
 use Rattle.law_refine.specs.Events.Lines.{lines_added}
 use Rattle.law_refine.specs.Records.Changes.{AreChangesPublished}
+use Rattle.law_refine.specs.Below.fkv_ops.Bounds.{bounds_of}
 
 -- ---- events of the log
 told_make : (lines : List TraceLine) → AllMakeFit (map Tells lines)
@@ -192,7 +193,7 @@ module _ (opening : World) (start : ℕ) (lists : ℕ → List ℕ) (ghosts : Gh
               accepts = λ has_shifted its at comes accepted its_known. its_known.0;
               keeps = λ index its at comes waits its_known. its_known.0;
               hands_over = λ polling pending spare is_orphaned its. attempt_begins L' F' K.places (bits_of K) pending s.seen AtPoll spare is_orphaned its;
-              begins_anew = λ its at done spare is_orphaned. attempt_begins L' F' K.places (bits_of K) (request_in_hand (caught_up_at K s (reply_to N.words (session_ask K s)))) (catch_after K s (reply_to N.words (session_ask K s))).seen AtCall spare is_orphaned (tt, tt);
+              begins_anew = λ its at done spare is_orphaned. attempt_begins L' F' K.places (bits_of K) (request_in_hand (caught_up_at K s (reply_to N.words (session_ask K s)))) (catch_after K s (reply_to N.words (session_ask K s))).seen (AtCall (bounds_of K.shape)) spare is_orphaned (tt, tt);
               latches = λ cause pending at its. latch_ok L' F' K.places (bits_of K) pending true its;
             })
 
@@ -207,7 +208,7 @@ module _ (opening : World) (start : ℕ) (lists : ℕ → List ℕ) (ghosts : Gh
         comes after (Begins its idle is) = subst (SessionOk L' F') (sym is)
             (begun_known (λ pending. PendingOk L' F' pending) (λ a. AttemptOk L' F' a) K s its idle stays
             (record {
-              calls = λ op made none spare is_orphaned. attempt_begins L' F' K.places (bits_of K) (request_in_hand (with_op s op)) s.seen AtCall spare is_orphaned (tt, tt);
+              calls = λ op made none spare is_orphaned. attempt_begins L' F' K.places (bits_of K) (request_in_hand (with_op s op)) s.seen (AtCall (bounds_of K.shape)) spare is_orphaned (tt, tt);
               polls = λ made awake pending spare is_orphaned known_then. attempt_begins L' F' K.places (bits_of K) pending s.seen AtPoll spare is_orphaned known_then;
             }))
         comes after (Steps is) = moved after is (is_calm s.step) refl

@@ -16,7 +16,7 @@ use Rattle.law_refine.specs.Below.fkv_ops.HeldRecord.{HeldRecord}
 use Rattle.law_refine.specs.Below.fkv_ops.OldValue.{OldValue}
 use Rattle.law_refine.specs.Below.fkv_ops.OldValue.TheVariants.{InMemory, Known}
 use Rattle.law_refine.specs.Below.fkv_ops.TheTrying.{Trying}
-use Rattle.law_refine.specs.Below.fkv_ops.TheTrying.TheVariants.{Ended, TakesExclusive, Appends, DropsExclusive, DropsShared}
+use Rattle.law_refine.specs.Below.fkv_ops.TheTrying.TheVariants.{Ended, TakesExclusive, Appends, DropsExclusive, DropsShared, LoadsTail, LoadsTaken}
 use Rattle.law_refine.specs.Below.fkv_ops.WalkAnswer.{WalkAnswer}
 use Rattle.law_refine.specs.Below.fkv_ops.WalkAnswer.TheVariants as walk
 use Rattle.law_refine.specs.Below.fkv_ops.TheWalking.{Walking}
@@ -31,6 +31,7 @@ use Rattle.law_refine.specs.Below.fkv_pending.PendingRequest.{PendingRequest}
 use Rattle.law_opening.proofs.OfChanges.Rows.{IsAt, Stays}
 use Rattle.law_log.specs.Ghosts.{Log}
 use Rattle.law_refine.specs.Events.Published.{IsPublished}
+use Rattle.law_refine.specs.Below.fkv_ops.Waiting.{told_of}
 
 -- ---- on the device
 -- a published record is there, below the flushed offset
@@ -101,6 +102,8 @@ WordsOk its = NumberFits its.key.0 × NumberFits its.value
 
 abbrev pub TryRow : Log → ℕ → TryState → Trying → Type 0
 TryRow log flushed t (Ended its) = AnswerOk log flushed its
+TryRow log flushed t (LoadsTail waiting) = AnswerOk log flushed (told_of waiting)
+TryRow log flushed t (LoadsTaken waiting) = AnswerOk log flushed (told_of waiting)
 TryRow log flushed t (DropsExclusive its) = AnswerOk log flushed its
 TryRow log flushed t (DropsShared its) = AnswerOk log flushed its
 TryRow log flushed t (TakesExclusive old) = OldOk old
@@ -187,6 +190,8 @@ module _ (log log' : Log) (stays : Stays log log') (flushed flushed' : ℕ) (ris
 
   try_row_grows : (t : TryState) (step : Trying) → TryRow log flushed t step → TryRow log' flushed' t step
   try_row_grows t (Ended its) ok = answer_grows its ok
+  try_row_grows t (LoadsTail waiting) ok = answer_grows (told_of waiting) ok
+  try_row_grows t (LoadsTaken waiting) ok = answer_grows (told_of waiting) ok
   try_row_grows t (DropsExclusive its) ok = answer_grows its ok
   try_row_grows t (DropsShared its) ok = answer_grows its ok
   try_row_grows t (TakesExclusive old) ok = ok

@@ -15,7 +15,7 @@ use Rattle.fkv_map.specs.Map.{absent_word}
 use Rattle.fkv_map.specs.declared.operations.Reply.{Reply}
 use Rattle.law_refine.specs.Below.fkv_ops.Appending.{append_ask, append_next}
 use Rattle.law_refine.specs.Below.fkv_ops.Requests.{is_blind, is_read}
-use Rattle.law_refine.specs.Below.fkv_ops.Trying.{TryState, answer_ledto, append_ledto, awaits, changes, copies, copies_from, current_ledto, ended_without, ends, appends, exclusive_dropped, exclusive_ledto, full_at, has_walked, held_used, is_own_version, is_wait, met_disk, met_nowhere, met_record, must_shift, new_try, old_ledto, region_met, safe_loaded, shared_dropped, shared_ledto, takes_effect, told_value, try_ask, try_begun, try_next, trying_ask, trying_next, value_changed, walk_ledto, walked, walks, wants_exclusive, wants_shared, with_latch, is_next_marked, latch_shared, is_still_in, phase_loaded, is_surely_own}
+use Rattle.law_refine.specs.Below.fkv_ops.Trying.{TryState, answer_ledto, append_ledto, awaits, changes, copies, copies_from, current_ledto, ended_without, ends_so, ends_by, is_bounded, tail_loaded, taken_loaded, must_count, count_loaded, ends, appends, exclusive_dropped, exclusive_ledto, full_at, has_walked, held_used, is_own_version, is_wait, met_disk, met_nowhere, met_record, must_shift, new_try, old_ledto, region_met, safe_loaded, shared_dropped, shared_ledto, takes_effect, told_value, try_ask, try_begun, try_next, trying_ask, trying_next, value_changed, walk_ledto, walked, walks, wants_exclusive, wants_shared, with_latch, is_next_marked, latch_shared, is_still_in, phase_loaded, is_surely_own}
 use Rattle.law_refine.specs.Below.fkv_ops.Values.{value_of}
 use Rattle.law_refine.specs.Below.fkv_ops.Walking.{walk_ask, walk_next, walk_on, walk_rested}
 use Rattle.law_refine.specs.Below.fkv_ops.Reason.TheVariants as reason
@@ -31,7 +31,7 @@ use Rattle.law_refine.specs.Below.fkv_ops.Seen.{Seen}
 use Rattle.law_refine.specs.Below.fkv_ops.OldValue.{OldValue}
 use Rattle.law_refine.specs.Below.fkv_ops.OldValue.TheVariants.{InMemory, Known}
 use Rattle.law_refine.specs.Below.fkv_ops.TheTrying.{Trying}
-use Rattle.law_refine.specs.Below.fkv_ops.TheTrying.TheVariants.{Ended, TakesShared, LoadsPhase, Walks, LoadsSafe, SwapsValue, LoadsCurrent, ChangesValue, LoadsAnswer, TakesExclusive, LoadsOld, Appends, DropsExclusive, DropsShared}
+use Rattle.law_refine.specs.Below.fkv_ops.TheTrying.TheVariants.{Ended, TakesShared, LoadsPhase, Walks, CountsTaken, LoadsSafe, SwapsValue, LoadsCurrent, ChangesValue, LoadsAnswer, TakesExclusive, LoadsOld, Appends, LoadsTail, LoadsTaken, DropsExclusive, DropsShared}
 use Rattle.law_refine.specs.Below.fkv_ops.WalkAnswer.{WalkAnswer}
 use Rattle.law_refine.specs.Below.fkv_ops.WalkAnswer.TheVariants as walk
 use Rattle.fkv_words.specs.declared.phase_words.PhaseSaid.{PhaseSaid}
@@ -46,6 +46,10 @@ use Rattle.law_opening.proofs.OfChanges.Rows.{TryKnown}
 use Rattle.law_opening.proofs.OfChanges.TryRows.{TryTold, append_same}
 use Rattle.law_opening.proofs.OfChanges.Walks.{passed_answer}
 use Rattle.law_log.specs.Ghosts.{Log}
+use Rattle.law_refine.specs.Below.fkv_ops.TheWaiting.{Waiting}
+use Rattle.law_refine.specs.Below.fkv_ops.TheWaiting.TheVariants.{For, ForRecord}
+use Rattle.law_refine.specs.Below.fkv_ops.Bounds.{bounds_at, is_past_tail, is_past_taken}
+use Rattle.law_refine.specs.Below.fkv_ops.Waiting.{told_of}
 
 -- no head that a session has seen lies above the flushed offset, and each value that is loaded of a published record fits
 abbrev pub TryValueTold : Log → ℕ → TryState → Trying → ℕ → Type 0
@@ -73,20 +77,50 @@ module _ (log : Log) (flushed : ℕ) (p : Places) where
       by_test true = (base, ok)
       by_test false = (base, ok)
 
-  ends_ok : (t : TryState) (its : TryAnswer) → Base t → AnswerOk log flushed its → Ok (ends p t its)
-  unfolding ends
-  ends_ok t its base ok = by_test t.has_exclusive
+  ends_so_ok : (t : TryState) (its : TryAnswer) → Base t → AnswerOk log flushed its → Ok (ends_so p t its)
+  unfolding ends_so
+  ends_so_ok t its base ok = by_test t.has_exclusive
     where
       by_test : (b : Bool) → Ok (if b then with_latch p (record t { has_exclusive = false }) DropExclusive (DropsExclusive its) else ended_without p t its)
       by_test true = (base, ok)
       by_test false = ended_ok t its base ok
 
+  waits_ok : (t : TryState) (its : TryAnswer) (waiting : Waiting) → Base t → AnswerOk log flushed its → AnswerOk log flushed (told_of waiting) → Ok (ends_by p t its (Some waiting))
+  waits_ok t its waiting base ok told = by_test (is_bounded t)
+    where
+      by_test : (b : Bool) → Ok (if b then record t { step = LoadsTail waiting } else ends_so p t its)
+      by_test true = (base, told)
+      by_test false = ends_so_ok t its base ok
+
+  ends_ok : (t : TryState) (its : TryAnswer) → Base t → AnswerOk log flushed its → Ok (ends p t its)
+  unfolding ends
+  ends_ok t (answer.Wait it) base ok = waits_ok t (answer.Wait it) (For it) base ok tt
+  ends_ok t (answer.AwaitsDisk it) base ok = waits_ok t (answer.AwaitsDisk it) (ForRecord it) base ok ok
+  ends_ok t its base ok = ends_so_ok t its base ok
+
+  tail_ok : (t : TryState) (waiting : Waiting) (tail : ℕ) → Base t → AnswerOk log flushed (told_of waiting) → Ok (tail_loaded p t waiting tail)
+  unfolding tail_loaded
+  tail_ok t waiting tail base ok = by_tests (is_past_tail (bounds_at t.occasion) tail) (t.walk.entry == 0)
+    where
+      by_tests : (a b : Bool) → Ok (if a then ends_so p t answer.LogFull else if b then record t { step = LoadsTaken waiting } else ends_so p t (told_of waiting))
+      by_tests true b = ends_so_ok t answer.LogFull base tt
+      by_tests false true = (base, ok)
+      by_tests false false = ends_so_ok t (told_of waiting) base ok
+
+  taken_ok : (t : TryState) (waiting : Waiting) (taken : ℕ) → Base t → AnswerOk log flushed (told_of waiting) → Ok (taken_loaded p t waiting taken)
+  unfolding taken_loaded
+  taken_ok t waiting taken base ok = by_test (is_past_taken (bounds_at t.occasion) taken)
+    where
+      by_test : (b : Bool) → Ok (if b then ends_so p t answer.IndexFull else ends_so p t (told_of waiting))
+      by_test true = ends_so_ok t answer.IndexFull base tt
+      by_test false = ends_so_ok t (told_of waiting) base ok
+
   index_full_ok : (t : TryState) (occasion : Occasion) → Base t → Ok (ends p t (full_at occasion answer.IndexFull))
-  index_full_ok t Call base = ends_ok t answer.IndexFull base tt
+  index_full_ok t (Call bounds) base = ends_ok t answer.IndexFull base tt
   index_full_ok t Poll base = ends_ok t (answer.Wait reason.Full) base tt
 
   log_full_ok : (t : TryState) (occasion : Occasion) → Base t → Ok (ends p t (full_at occasion answer.LogFull))
-  log_full_ok t Call base = ends_ok t answer.LogFull base tt
+  log_full_ok t (Call bounds) base = ends_ok t answer.LogFull base tt
   log_full_ok t Poll base = ends_ok t (answer.Wait reason.Full) base tt
 
   told_ok : (value : Option ℕ) → AnswerOk log flushed (told_value value)
@@ -149,11 +183,20 @@ module _ (log : Log) (flushed : ℕ) (p : Places) where
       by_read false = by_blind (is_blind t.request.op)
 
   nowhere_ok : (t : TryState) → Base t → Ok (met_nowhere p t)
-  nowhere_ok t base = by_read (is_read t.request.op)
+  nowhere_ok t base = by_tests (is_read t.request.op) (must_count p t)
     where
-      by_read : (b : Bool) → Ok (if b then ends p t answer.Absent else copies p t (Known absent_word) false)
-      by_read true = ends_ok t answer.Absent base tt
-      by_read false = copies_ok t (Known absent_word) false base absent_fits
+      by_tests : (a b : Bool) → Ok (if a then ends p t answer.Absent else if b then record t { step = CountsTaken } else copies p t (Known absent_word) false)
+      by_tests true b = ends_ok t answer.Absent base tt
+      by_tests false true = (base, tt)
+      by_tests false false = copies_ok t (Known absent_word) false base absent_fits
+
+  count_ok : (t : TryState) (taken : ℕ) → Base t → Ok (count_loaded p t taken)
+  unfolding count_loaded
+  count_ok t taken base = by_test (is_past_taken (bounds_at t.occasion) taken)
+    where
+      by_test : (b : Bool) → Ok (if b then ends p t answer.IndexFull else copies p t (Known absent_word) false)
+      by_test true = ends_ok t answer.IndexFull base tt
+      by_test false = copies_ok t (Known absent_word) false base absent_fits
 
   changes_ok : (t : TryState) (addr : Addr) → Base t → Ok (changes t addr)
   changes_ok t addr base = by_blind (is_blind t.request.op)
@@ -183,6 +226,7 @@ module _ (log : Log) (flushed : ℕ) (p : Places) where
   walked_ok t (walk.OnDisk addr) base ok = disk_ok t addr base ok
   walked_ok t (walk.Value value) base ok = ends_ok t (answer.Wait reason.Contended) base tt
   walked_ok t walk.Full base ok = index_full_ok t t.occasion base
+  walked_ok t walk.Kept base ok = index_full_ok t t.occasion base
   walked_ok t walk.Contended base ok = ends_ok t (answer.Wait reason.Contended) base tt
 
   walk_led_ok : (t : TryState) (ask : Ask WalkAnswer) → t.step ≡ Walks → Base t → walk_ask p t.walk ≡ ask → Ok (walk_ledto p t ask)
@@ -282,6 +326,7 @@ module _ (log : Log) (flushed : ℕ) (p : Places) where
   row_ok room t LoadsPhase reply at known told base ok value = phase_ok (record t { effect = None }) (phase_said reply) base
   row_ok room t Walks reply at known told base ok value =
       walk_led_ok (record t { effect = None; walk = walk_next p t.walk reply }) (walk_ask p (walk_next p t.walk reply)) at (base.0, walk_ok log flushed p t.walk reply value.0 known told base.1 value.1) refl
+  row_ok room t CountsTaken reply at known told base ok value = count_ok (record t { effect = None }) reply base
   row_ok room t (LoadsSafe addr version) reply at known told base ok value = safe_ok (record t { effect = None }) addr version reply base
   row_ok room t (SwapsValue addr) reply at known told base ok value = ends_ok (record t { effect = Some (reply_from None t.request.op) }) (answer.Done (reply_from None t.request.op)) base tt
   row_ok room t (LoadsCurrent addr) reply at known told base ok value =
@@ -295,6 +340,8 @@ module _ (log : Log) (flushed : ℕ) (p : Places) where
   row_ok room t (Appends its) reply at known told base ok value =
       append_ok (record t { effect = None; append = append_next p room t.append reply }) its (append_ask p (append_next p room t.append reply)) at base
       (λ op. subst WordsOk (sym (append_same p room t.append t.append.step reply)) (ok op))
+  row_ok room t (LoadsTail waiting) reply at known told base ok value = tail_ok (record t { effect = None }) waiting reply base ok
+  row_ok room t (LoadsTaken waiting) reply at known told base ok value = taken_ok (record t { effect = None }) waiting reply base ok
   row_ok room t (DropsExclusive its) reply at known told base ok value = dropped_ok (record t { effect = None; latching = latch_next t.latching reply }) its (latch_next_ask t.latching reply) at base ok
   row_ok room t (DropsShared its) reply at known told base ok value = unshared_ok (record t { effect = None; latching = latch_next t.latching reply }) its (latch_next_ask t.latching reply) at base ok
 
@@ -321,6 +368,9 @@ module _ (log : Log) (flushed : ℕ) (p : Places) where
   row_answers t LoadsOld its ok e = shift its (passed_answer (walk_ask p t.walk) answer.Shift its e)
   row_answers t (Appends it) its ok e = shift its (passed_answer (append_ask p t.append) answer.Shift its e)
   row_answers t LoadsPhase its ok e = cc
+  row_answers t CountsTaken its ok e = cc
+  row_answers t (LoadsTail waiting) its ok e = cc
+  row_answers t (LoadsTaken waiting) its ok e = cc
   row_answers t (LoadsSafe addr version) its ok e = cc
   row_answers t (SwapsValue addr) its ok e = cc
   row_answers t (ChangesValue addr old) its ok e = cc

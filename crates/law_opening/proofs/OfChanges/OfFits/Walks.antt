@@ -68,6 +68,7 @@ module _ (log : Log) (flushed : ℕ) (p : Places) where
   slot_ok w (found.Slot place word) below so = reached_ok (record w { place = place; entry = word }) (entry_addr word) below so
   slot_ok w found.NoSlot below so = tt
   slot_ok w found.Full below so = tt
+  slot_ok w found.Kept below so = tt
   slot_ok w found.Contended below so = tt
 
   find_ok : (w : WalkState) (ask : Ask FindAnswer) → w.step ≡ Finds → w.head.0 ≤ flushed → FindSo log ask → WalkOk log flushed (find_ledto p w ask)

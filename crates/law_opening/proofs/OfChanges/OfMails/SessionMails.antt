@@ -40,6 +40,7 @@ use Rattle.law_refine.specs.Below.fkv_session.Sessions.{SessionState, Seat, bits
 use Rattle.law_refine.specs.Below.law_local.Sessions.Known.{attempt_comes_to, is_attempting}
 use Rattle.law_refine.specs.Mail.Mailers.{attempt_mailing, session_mailing, sitting_mailing}
 use Rattle.law_opening.proofs.OfChanges.OfMails.AttemptMails.{AttemptLooks, LooksAlone, begun_looks, is_putting, next_looks, next_puts}
+use Rattle.law_refine.specs.Below.fkv_ops.Bounds.{bounds_of}
 
 -- a poll that begins lets a record go with a machine that puts nothing
 abbrev pub MailsAt : SessionState → Sitting → Type 0
@@ -64,7 +65,7 @@ turn_by s its = either_by s.wants_turn (record s { own_turn = own_turn_begun s.o
 -- an attempt begins
 attempts_by : (k : Seat) (s : SessionState) (has_shifted : Bool) → MailsSo (attempts k s has_shifted)
 unfolding attempts
-attempts_by k s has_shifted = begun_looks k.places (bits_of k) (request_in_hand s) s.seen AtCall s.spare s.is_orphaned
+attempts_by k s has_shifted = begun_looks k.places (bits_of k) (request_in_hand s) s.seen (AtCall (bounds_of k.shape)) s.spare s.is_orphaned
 
 polls_found : (k : Seat) (s : SessionState) (i : ℕ) (found : Option PendingRequest) → MailsSo (polls_request k s i found)
 polls_found k s i None = turn_by s (told.Polled (length s.requests))

@@ -11,8 +11,8 @@ use Rattle.fkv_ops.proofs.appending.Append.start.Goals as goal
 pub returns-clause-asks : goal.returns-clause-asks
 unfolding appending_asks_left
 returns-clause-asks c =
-    let its : c.start.new.self.step ≡ LoadsLimit = search rules in
-    rw (c.passed.ensures, c.start.ensures.ask, its) (passed_left (reserve_asks_left LoadsLimit) (3 + 1 + 1) (reserve_ask LoadsLimit) Contended (reserve_left LoadsLimit))
+    let its : c.start.new.self.step ≡ LoadsLimit c.args.bound = search rules in
+    rw (c.passed.ensures, c.start.ensures.ask, its) (passed_left (reserve_asks_left (LoadsLimit c.args.bound)) (3 + 1 + 1) (reserve_ask (LoadsLimit c.args.bound)) Contended (reserve_left (LoadsLimit c.args.bound)))
 
 pub returns-clause-bounded : goal.returns-clause-bounded
 unfolding appending_asks_left

@@ -49,3 +49,15 @@ returns-in-Appends-clause-asks c = asked_left c.args.self.now.places c.args.self
 pub returns-in-DropsExclusive-clause-asks : goal.returns-in-DropsExclusive-clause-asks
 unfolding trying_ask
 returns-in-DropsExclusive-clause-asks c = asked_left c.args.self.now.places c.args.self.now.state c.passed-in-DropsExclusive.result (search rules)
+
+pub returns-in-CountsTaken-clause-asks : goal.returns-in-CountsTaken-clause-asks
+unfolding trying_ask
+returns-in-CountsTaken-clause-asks c =
+    let some : 0 < try_asks_left c.args.self.now.places c.args.self.now.state = (try_left c.args.self.now.places c.args.self.now.state).0 (search rules) in
+    (λ asks. some, λ left. refl)
+
+pub returns-in-LoadsTail-clause-asks : goal.returns-in-LoadsTail-clause-asks
+unfolding trying_ask
+returns-in-LoadsTail-clause-asks c =
+    let some : 0 < try_asks_left c.args.self.now.places c.args.self.now.state = (try_left c.args.self.now.places c.args.self.now.state).0 (search rules) in
+    (λ asks. some, λ left. refl)

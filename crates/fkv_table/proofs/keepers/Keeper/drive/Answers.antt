@@ -6,6 +6,7 @@ use Rattle.fkv_keeper.specs.Keeping.{KeeperModel, keeper_ask}
 use Rattle.fkv_keeper.specs.Running.{IsTurnTold}
 use Rattle.fkv_table.specs.Keeps.{IsKeeping}
 use Rattle.fkv_table.specs.Planes.{opening_of}
+use Rattle.fkv_table.proofs.ByDevice.{device_none, told_so}
 use Rattle.fkv_table.proofs.KeeperCalled.{not_busy, over_idle}
 use Rattle.fkv_table.proofs.KeeperCommits.{leaves_device}
 use Rattle.fkv_table.proofs.keepers.Keeper.drive.Goals as goal
@@ -49,3 +50,13 @@ pub returns-in_default-clause-left : goal.returns-in_default-clause-left
 returns-in_default-clause-left g c =
     let was = c.args.self.now.machine in
     subst (λ (k : KeeperModel). keeper_asks_left k.shape k.places k.state ≤ keeper_asks_left was.shape was.places was.state) (sym c.turn_told.ensures.same) c.word_steps.ensures.left
+
+pub returns-in-Device-clause-by_device : goal.returns-in-Device-clause-by_device
+returns-in-Device-clause-by_device g c =
+    let k = c.word_steps.new.machine in
+    sym (device_none k.shape k.places k.state c.in-Device.ensures.told) ∙ c.word_steps.ensures.by_device
+
+pub returns-in_default-clause-by_device : goal.returns-in_default-clause-by_device
+returns-in_default-clause-by_device g c =
+    let idle = over_idle (opening_of g.D.Device.seen) _ _ _ c.requires.at_work.opened.opening c.word_steps.ensures.keeping (not_busy _ c.word_steps.result c.word_steps.ensures.told c.in_default.not-Device) in
+    told_so c.word_steps.new.machine c.turn_told.result idle c.turn_told.ensures.told ∙ c.word_steps.ensures.by_device

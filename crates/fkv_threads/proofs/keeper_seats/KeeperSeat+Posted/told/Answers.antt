@@ -9,7 +9,7 @@ returns c = record {
     answers = λ _. let s = c.step.ensures.stepped in record {
       medium = c.tell.new.self;
       told_to = record { its = c.tell.ensures.told; shown = c.tell.ensures.shown; opened = c.tell.ensures.opened; outcomes = c.tell.ensures.outcomes; failures = c.tell.ensures.failures };
-      stepped = record { same = record { key = s.same.key; table = s.same.table }; called = s.called; went = s.went; due = s.due; fewer = s.fewer; moments = s.moments; recovered = s.recovered; driven = s.driven };
+      stepped = record { same = record { key = s.same.key; table = s.same.table }; called = s.called; went = s.went; due = s.due; counted = s.counted; fewer = s.fewer; moments = s.moments; recovered = s.recovered; driven = s.driven };
     };
     begins = λ idle. absurd (false≢true (sym idle ∙ c.if-not-self.false));
   });

@@ -21,6 +21,7 @@ returns g c =
           left = c.drive-next.ensures.left;
           kept = c.start_turn.ensures.kept;
           leaves = rw (← c.deref.ensures) c.start_turn.ensures.device;
+          uncalled = c.drive-next.ensures.by_device ∙ c.start_turn.ensures.by_device;
           driven = record {
             went = c.drive-next.ensures.went;
             leaves = rw (← c.deref-2.ensures) c.drive-next.ensures.device;

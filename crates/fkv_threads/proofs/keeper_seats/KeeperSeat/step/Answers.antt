@@ -1,6 +1,7 @@
 -- The call of the device was made, and the turn has gone on up to the next one or to its end.
-use Rattle.std.proofs.Common.{arith, ap, refl, sym, ◌∙◌}
+use Rattle.std.proofs.Common.{Bool, arith, ap, refl, sym, subst, ◌∙◌}
 use Rattle.law_threads.specs.Below.fkv_table.Planes.{opening_of}
+use Rattle.law_threads.specs.Below.fkv_table.Turns.{IsCounted}
 use Rattle.fkv_threads.proofs.Watching.{at_there, finished_over, refused_over, turn_behind}
 use Rattle.fkv_threads.proofs.keeper_seats.KeeperSeat.step.Goals as goal
 
@@ -15,6 +16,7 @@ returns g c =
         called = c.device_step.new.pass.seat.me.0.seen;
         went = c.device_step.ensures.went;
         due = c.device_step.ensures.due;
+        counted = subst (λ (by : Bool). IsCounted 1 by (d.failed c.self.inside.device) (d.failed c.device_step.new.d) (d.refuses c.self.inside.device) (d.refuses c.device_step.new.d)) (sym c.drive-next.ensures.by_device) c.device_step.ensures.counted;
         fewer = omega (arith, c.device_step.ensures.fewer, c.drive-next.ensures.left);
         moments = rw (← c.deref.ensures) c.device_step.ensures.moments;
         recovered = rw (← c.deref.ensures) (law.turns (opening_of d.seen) _ _ _ c.device_step.ensures.at_work.keeping.allowed);

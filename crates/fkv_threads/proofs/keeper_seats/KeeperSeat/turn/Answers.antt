@@ -27,5 +27,5 @@ returns g c =
     let here = at_there d _ _ _ _ _ _ _ _ _ (λ i. (sym c.deref.ensures i).table.shared.key) (λ i. (sym c.deref.ensures i).table.shared.table_id) c.self.invariant in
     record {
       turned = there d (λ w w'. IsTurnOf d w c.make_turn.result w') _ _ _ _ k k' me me' medium medium' _ _ _ (λ i. (c.deref.ensures i).table.shared.key) (λ i. (c.deref.ensures i).table.shared.table_id) c.self.view_is
-          (turn_of d _ _ _ _ k k' me me' medium medium' _ _ idle here ran.ready ran.honest ran.after ran.kept ran.moments ran.told (law.turns (opening_of d.seen) _ _ _ ran.ready.keeping.allowed) (law.finished (opening_of d.seen)) (law.refused (opening_of d.seen)));
+          (turn_of d _ _ _ _ k k' me me' medium medium' _ _ idle here ran.ready ran.honest ran.after ran.kept ran.moments ran.told ran.counted (law.turns (opening_of d.seen) _ _ _ ran.ready.keeping.allowed) (law.finished (opening_of d.seen)) (law.refused (opening_of d.seen)));
     }
