@@ -11,7 +11,7 @@ max_sessions = 32
 abbrev pub max_pending : ℕ
 max_pending = 64
 
--- and of one session that are in hand: those that are pending, and the one of its call
+-- and so many requests of one session a living store keeps room for: those that are pending, and one to spare
 abbrev pub max_in_hand : ℕ
 max_in_hand = 65
 

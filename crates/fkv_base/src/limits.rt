@@ -4,7 +4,7 @@
 pub const MAX_SESSIONS: u64 = 32;
 /// Requests of one session that are pending, at most.
 pub const MAX_PENDING: usize = 64;
-/// Requests that a session has in hand, at most: those that are pending, and the one of its call.
+/// Requests of one session that a living store keeps room for: those that are pending, at most, and one to spare.
 pub const MAX_IN_HAND: u64 = 65;
 /// Drain slots, in which actions wait for their epoch.
 pub const DRAIN_SLOTS: usize = 8;

@@ -38,9 +38,9 @@ pub struct Shape {
 /// What the calls of a living store leave to its polls, so that no request which waits ever meets a full store.
 #[derive(Clone, Copy, Debug, PartialEq, Eq)]
 pub struct Margin {
-    /// Overflow buckets: one for each request in hand.
+    /// Overflow buckets: one for each request that room is kept for.
     pub buckets: u64,
-    /// Records at the log's end: for each request in hand one for each session, since each session can lose one to it.
+    /// Records at the log's end: for each of those requests one for each session, since each session can lose one to it.
     pub records: u64,
 }
 

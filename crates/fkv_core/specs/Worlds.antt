@@ -1,17 +1,19 @@
 -- What the Rust world shows.
 use Rattle.std.specs.Prelude.{◌≡◌, ◌<◌, ◌≤◌, ℕ, Bool, true, false, not, ◌&&◌, if◌then◌else◌, List, [], map, Option, None, Some, slice_get, slice_set}
 use Rattle.fkv_base.specs.declared.shapes.Shape.{Shape}
+use Rattle.fkv_disk.specs.Asks.{AskedCall, kinds_by}
 use Rattle.fkv_disk.specs.Bytes.{bytes_at}
 use Rattle.fkv_disk.specs.Calls.{Call as DeviceCall}
 use Rattle.fkv_disk.specs.Device.{Rose}
 use Rattle.fkv_disk.specs.Device as device
+use Rattle.fkv_disk.specs.Kinds.{Kind}
 use Rattle.fkv_flush.specs.Serving.{mail_place}
 use Rattle.fkv_flush.specs.Devices.{Adds}
 use Rattle.fkv_keeper.specs.declared.answers.KeeperTold.{KeeperTold}
 use Rattle.fkv_keeper.specs.declared.answers.KeeperTold.TheVariants.{Device}
 use Rattle.fkv_plane.specs.declared.asks.Ask.{Ask}
 use Rattle.fkv_plane.specs.declared.asks.Ask.TheVariants.{Done}
-use Rattle.fkv_keeper.specs.KeeperAsks.{keeper_calls, keeper_made, keeper_read}
+use Rattle.fkv_keeper.specs.KeeperAsks.{keeper_calls, keeper_due, keeper_made, keeper_read}
 use Rattle.fkv_keeper.specs.Keeping.{KeeperModel, keeper_ask}
 use Rattle.fkv_map.specs.declared.operations.Call.{Call}
 use Rattle.fkv_plane.specs.declared.places.Places.{Places}
@@ -53,6 +55,20 @@ LiveEventUses n its done failed failed' refuses refuses' = SparesDevice failed f
 abbrev pub EventUses : Bool → Now → event.Event → Bool → ℕ → ℕ → (ℕ → Bool) → (ℕ → Bool) → Type 0
 EventUses true n its done failed failed' refuses refuses' = SparesDevice failed failed' refuses refuses'
 EventUses false n its done failed failed' refuses refuses' = LiveEventUses n its done failed failed' refuses refuses'
+
+-- What a device says of the kinds of its calls to come, behind an event. Where the keeper asks for the device the call that is due was made, and no other one.
+-- A device may say anything of kinds, so the calls are these of each device, whether it is honest or not.
+abbrev pub kinds_asked : Ask KeeperTold → Option AskedCall → (List Kind → Bool) → List Kind → Bool
+kinds_asked (Done Device) due says = kinds_by due says
+kinds_asked ask due says = says
+
+abbrev pub live_kinds : Now → event.Event → (List Kind → Bool) → List Kind → Bool
+live_kinds n events.KeeperMove says = kinds_asked (keeper_ask n.shape n.places n.keeper) (keeper_due (record { shape = n.shape; places = n.places; state = n.keeper })) says
+live_kinds n its says = says
+
+abbrev pub kinds_behind : Bool → Now → event.Event → (List Kind → Bool) → List Kind → Bool
+kinds_behind true n its says = says
+kinds_behind false n its says = live_kinds n its says
 
 -- The keeper's step beside the words and a device: whether memory was granted, whether the call of the device succeeded, and what it read. An honest device
 -- took what the keeper writes, and gave what it reads as.

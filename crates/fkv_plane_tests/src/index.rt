@@ -3,9 +3,9 @@ use crate::index::Line::{
     Begins, Fills, Finds, Goes, Holds, Loads, Publishes, Resumes, Stores, Swaps,
 };
 use fkv_base::{Addr, Key, Shape};
-use fkv_index::Found::{Contended, Full, NoSlot, Slot};
+use fkv_index::Found::{Contended, Full, Kept, NoSlot, Slot};
 use fkv_index::PublishAnswer::{Lost, Won};
-use fkv_index::Purpose::{Read, Update};
+use fkv_index::Purpose::{Read, Update, UpdateWithin};
 use fkv_index::{Find, FindAnswer, Found, Home, Publish, PublishAnswer, Purpose, home_of};
 use fkv_plane::{Ask, Places, PlainWords};
 use fkv_words::Entry;
@@ -121,6 +121,19 @@ const LINKS: [Line; 8] = [
     Finds(15, Read, 0, Contended, 0),
     Stores(63, 2),
     Finds(9, Read, 0, Contended, 0),
+];
+
+/// Within a bound a bucket is linked only where fewer are taken, whether or not a spare is at hand.
+const WITHIN_A_BOUND: [Line; 9] = [
+    Fills(56, 1),
+    Finds(8, UpdateWithin(0), 0, Kept, 0),
+    Finds(8, UpdateWithin(0), 2, Kept, 2),
+    Finds(3, UpdateWithin(0), 0, Slot(58, 3 * TAG + 5), 0),
+    Finds(8, UpdateWithin(1), 0, Slot(64, 0), 0),
+    Holds(10, 1),
+    Fills(64, 8),
+    Finds(15, UpdateWithin(1), 0, Kept, 0),
+    Finds(15, UpdateWithin(2), 0, Slot(72, 0), 0),
 ];
 
 /// A link leaves the latch in the word that leads there as it is.
@@ -269,6 +282,7 @@ fn searches_come_to_slots(rt: HostRuntime) -> Result<(), Fail> {
         (0, 2, TWO_LINK.as_slice()),
         (0, 2, FILLED_BY_OTHERS.as_slice()),
         (0, 1, LINKS.as_slice()),
+        (0, 2, WITHIN_A_BOUND.as_slice()),
         (1, 2, BESIDE_A_LATCH.as_slice()),
         (4, 1, SPOILED.as_slice()),
     ] {

@@ -28,22 +28,26 @@ fn go_on(plane: &mut PlainWords, machine: &mut Reserve) -> Option<ReserveAnswer>
     None
 }
 
-fn reserve(plane: &mut PlainWords, shape: &Shape) -> Option<ReserveAnswer> {
+fn reserve(plane: &mut PlainWords, shape: &Shape, bound: Option<u64>) -> Option<ReserveAnswer> {
     let mut machine = Reserve::new(shape);
-    machine.start();
+    machine.start(bound);
     go_on(plane, &mut machine)
 }
 
-/// By tail and limit: the address that is taken, and the tail behind it.
+/// By tail, limit and bound: the address that is taken, and the tail behind it.
 fn reservations(rt: &impl Abort, plane: &mut PlainWords, shape: &Shape) {
-    for (tail, limit, answer, after) in [
-        (6, 8, Reserved(Addr(6)), 7),
-        (7, 8, Reserved(Addr(7)), 8),
-        (8, 8, Full, 8),
-        (4, 4, NoRoom, 4),
+    for (tail, limit, bound, answer, after) in [
+        (6, 8, None, Reserved(Addr(6)), 7),
+        (7, 8, None, Reserved(Addr(7)), 8),
+        (8, 8, None, Full, 8),
+        (4, 4, None, NoRoom, 4),
+        (5, 8, Some(6), Reserved(Addr(5)), 6),
+        (6, 8, Some(6), NoRoom, 6),
+        (7, 8, Some(6), NoRoom, 7),
+        (4, 4, Some(6), NoRoom, 4),
     ] {
         offsets(plane, tail, limit);
-        let came = (reserve(plane, shape), plane.word(3));
+        let came = (reserve(plane, shape, bound), plane.word(3));
         assert!(rt; came == (Some(answer), after));
     }
 }
@@ -52,13 +56,13 @@ fn reservations(rt: &impl Abort, plane: &mut PlainWords, shape: &Shape) {
 fn two_take_one_tail(rt: &impl Abort, plane: &mut PlainWords, shape: &Shape) {
     offsets(plane, 1, 8);
     let mut slow = Reserve::new(shape);
-    let mut ask = slow.start();
+    let mut ask = slow.start(None);
     for wanted in [Ask::Load(4), Ask::Load(3)] {
         assert!(rt; ask == wanted);
         ask = slow.drive(plane.perform(&ask));
     }
     assert!(rt; ask == Ask::Cas(3, 1, 2));
-    assert!(rt; reserve(plane, shape) == Some(Reserved(Addr(1))));
+    assert!(rt; reserve(plane, shape, None) == Some(Reserved(Addr(1))));
     assert!(rt; go_on(plane, &mut slow) == Some(Contended));
     assert!(rt; plane.word(3) == 2);
 }

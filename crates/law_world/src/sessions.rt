@@ -203,7 +203,7 @@ pub fn law_world_refusals()
 {}
 
 /// Whatever the other actors do, each call of a session is answered in its kind. Behind its asks only an operation may be refused, where the
-/// index or the log is full. A call that asks nothing is refused, as the law of refusals says, or it is a poll for which nothing waits. What an
+/// index or the log is full, or has no more left than a living store keeps for its polls. A call that asks nothing is refused, as the law of refusals says, or it is a poll for which nothing waits. What an
 /// operation is answered behind its asks stands in the words that its call has loaded. A refresh and a wake tell what the session goes by from
 /// then on, by the phase word that the call has loaded last; and what is durable is the word that the call has loaded. A session sleeps from the
 /// answer that it sleeps to the answer that it has woken, as callers see these, and is awake at all other times.

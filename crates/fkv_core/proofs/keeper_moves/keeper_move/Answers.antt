@@ -21,6 +21,7 @@ returns-in_default g c =
     record {
       moved = word_move c.args.words.now c.word_asked.new.words k c.word_asked.new.keeper _ _ _ _ _ word store c.word_asked.ensures.moved;
       ended = search rules;
+      kinds = search rules;
       honest = (λ claim. claim, λ claim. claim);
       time = λ claim. no_time _ _ _;
     }
