@@ -417,7 +417,7 @@ int32_t fkv_serial(fkv_session *session, uint64_t *serial);
 /*
  * Two sessions of one opening of a store meet: each has then seen what either had seen. So what the one was told as done is in force for
  * each later call of the other: a read gives it, or something newer. Reads do so without this call too, if something has ordered the two
- * threads' calls. With it that is proved, of reads that are answered at once. Both handles are in use by this call: hold the mutex that the
+ * threads' calls. With it that is proved, of reads that a poll answers too. Both handles are in use by this call: hold the mutex that the
  * other's thread takes for its calls. They are two, of one opening; nothing tells if they aren't. It never waits, and changes nothing else.
  * A session that sleeps may meet another. 0; -FKV_NO_SESSION after fkv_end_session of one of them, and then both stay as they are.
  */

@@ -337,17 +337,28 @@ static void found(void) {
     close_store();
 }
 
-/* A store that is opened and does nothing keeps nothing, and takes no processor. So does one that has come to rest. */
+/* What share of a processor this process takes for 400 ms, in percent. */
+static int64_t share_taken(void) {
+    int64_t real = microseconds(CLOCK_MONOTONIC), taken = microseconds(CLOCK_PROCESS_CPUTIME_ID);
+    rest_ms(400);
+    return 100 * (microseconds(CLOCK_PROCESS_CPUTIME_ID) - taken) / (microseconds(CLOCK_MONOTONIC) - real);
+}
+
+/* A store that is opened and does nothing keeps nothing, and takes no processor. So does one that has come to rest, which takes a while where
+ * the machine gives its processors to others. */
 static void idle(void) {
     open_at("turns", 0);
     start(NULL);
     fkv_session *session = joined(0);
     for (int round = 0; round < 2; round++) {
-        rest_ms(200);
-        uint64_t kept = stats_now().kept;
-        int64_t real = microseconds(CLOCK_MONOTONIC), taken = microseconds(CLOCK_PROCESS_CPUTIME_ID);
-        rest_ms(400);
-        taken = 100 * (microseconds(CLOCK_PROCESS_CPUTIME_ID) - taken) / (microseconds(CLOCK_MONOTONIC) - real);
+        uint64_t kept;
+        int64_t taken;
+        int tries = 0;
+        do {
+            rest_ms(200);
+            kept = stats_now().kept;
+            taken = share_taken();
+        } while ((taken > 5 || stats_now().kept != kept) && ++tries < 20);
         WANTS("whether it takes no processor", taken <= 5, true);
         WANTS("what it has kept meanwhile", stats_now().kept, kept);
         if (round == 0) WANTS("what a store keeps in which nothing happens", kept, 0);

@@ -4,6 +4,7 @@ A store of S sessions leaves 65 S overflow buckets, and 65 S S records at the lo
 """
 import subprocess
 
+from reserve import most_buckets, races_differ
 from rows import SECONDS, Row, told, whole
 
 SEVEN = [f"0 up {key} {10 * key} | 0 #{key} done" for key in range(1, 8)]
@@ -64,6 +65,15 @@ def calls():
     yield "one that would wait behind it", ["large 4 4 2 1 2 200 66", *FUZZY[:3], spent("0 up 4 0"), *FUZZY[4:], spent("0 add 1 1"), "1 refresh | 1 refresh rest 1"]
 
 
+def homes():
+    """Keys 8, 32776 and 65544 have one home, of which the first one makes an entry in the last overflow bucket for calls. The others take no slot."""
+    lines = [index_of(66), *SEVEN, *done([8], 8), "0 up 32776 1 | 0 #9 done", "0 add 65544 1 | 0 #10 = 1", full("0 up 9 9"), "0 add 32776 1 | 0 #11 = 2"]
+    yield "a home with an entry behind a link", lines
+    # The log's two pages in memory have fifteen records.
+    waits = ["0 up 32776 1 | 0 #16 pending", full("0 up 9 9"), "k commit | k commit 1", "k finish | 0 #16 done", "| k finished 1 points 16"]
+    yield "and one that waits", ["large 0 8 2 1 1 66 64", *SEVEN, *done([8, *range(32769, 32776)], 8), *waits, "0 get 32776 | 0 get 32776 = 1"]
+
+
 def polls():
     """64 updates that wait as calls have room, and are done behind their bound, where calls are refused. Commits go on."""
     script = [f"0 up {key} {key}" for key in range(1, 72)]
@@ -103,8 +113,9 @@ def fillings():
 
 
 def room():
-    yield from (told(name, whole(lines)) for name, lines in calls())
+    yield from (told(name, whole(lines)) for name, lines in (*calls(), *homes()))
     yield from (Row(f"polls take {name} that calls leave", whole(lines), whole(wanted)) for name, lines, wanted in polls())
+    yield from map(most_buckets, (1, 2, 4, 32))
 
 
 def difference(program, sessions, script, fault, seed):
@@ -129,8 +140,8 @@ def difference(program, sessions, script, fault, seed):
 
 
 def fillings_differ(program):
-    """How many there are, and what is otherwise."""
-    count, others = 0, []
+    """How many runs of interleaved calls there are, and what is otherwise."""
+    count, others = races_differ(program)
     for name, sessions, script, fault in fillings():
         for seed in [(), *(("--seed", str(seed)) for seed in range(SEEDS))]:
             count += 1

@@ -140,7 +140,7 @@ const USUAL: Case<'static> = Case {
     spare: 0,
 };
 
-const CASES: [(&str, &[Case<'static>]); 15] = [
+const CASES: [(&str, &[Case<'static>]); 16] = [
     ("in place", cases::IN_PLACE),
     ("copied", cases::COPIED),
     ("made", cases::MADE),
@@ -154,6 +154,7 @@ const CASES: [(&str, &[Case<'static>]); 15] = [
     ("shared", latches::SHARED),
     ("kept", latches::KEPT),
     ("bounded by buckets", bounds::BUCKETS),
+    ("of homes with entries", bounds::ENTRIES),
     ("bounded by addresses", bounds::ADDRESSES),
     ("looking for room", bounds::WAITING),
 ];

@@ -1,7 +1,7 @@
 //! Both bodies of a call, over 10^5 operations that are drawn.
 use crate::meetings::{Meeting, Meetings};
 use crate::scripts::{Draws, Keys};
-use crate::twins::{Ways, play};
+use crate::twins::{Twins, Ways, play};
 use crate::wrongs::Wrong;
 use fkv_base::{Fault, Shape};
 use fkv_plane::Places;
@@ -12,7 +12,7 @@ use std::test::Fail;
 /// So many operations over each store.
 const OPERATIONS: u64 = 12_500;
 
-const SESSIONS: u64 = 3;
+pub(crate) const SESSIONS: u64 = 3;
 
 /// A store, by its bucket bits, page, frames, mutable pages, overflow buckets, and pages on the device; how many homes and how many keys
 /// of each are drawn over it; and the number of the commit at which it begins.
@@ -50,18 +50,11 @@ fn play_scene<R: Abort>(
 ) -> Result<(), Wrong> {
     let (sizes, homes, keys, number) = scene;
     let shape = shape_of(sizes)?;
-    let buckets = Places::of(&shape).buckets as u64;
-    let keys = Keys {
-        apart: buckets.wrapping_mul(TAGS),
-        homes,
-        keys,
-    };
-    let mut draws = Draws::new(seed, keys, SESSIONS);
-    play(rt, alloc, shape, number, &mut draws, OPERATIONS, ways)
+    let drawn = Keys::of(Places::of(&shape).buckets, homes, keys);
+    let mut draws = Draws::new(seed, drawn, SESSIONS);
+    let mut twins = Twins::open(alloc, shape, number)?;
+    play(rt, &mut twins, &mut draws, OPERATIONS, ways)
 }
-
-/// So many homes have one bucket.
-const TAGS: u64 = 1 << 15;
 
 /// What operations meet that go straight to their end.
 const STRAIGHT: [Meeting; 25] = [
@@ -95,6 +88,28 @@ const STRAIGHT: [Meeting; 25] = [
 /// What few of them meet.
 const STRAIGHT_AT_TIMES: [Meeting; 1] = [Meeting::Asks];
 
+/// What those of them meet that are done in their hot part. In prepare none is.
+const HOT: [Meeting; 18] = [
+    Meeting::Read,
+    Meeting::Upsert,
+    Meeting::Delete,
+    Meeting::Add,
+    Meeting::Max,
+    Meeting::Keep,
+    Meeting::Min,
+    Meeting::Sub,
+    Meeting::And,
+    Meeting::Or,
+    Meeting::First,
+    Meeting::Rest,
+    Meeting::InProgress,
+    Meeting::WaitPending,
+    Meeting::WaitFlush,
+    Meeting::FullBucket,
+    Meeting::OverflowBucket,
+    Meeting::LongChain,
+];
+
 /// What the others meet of which the machine goes on. In prepare these are new records, and updates that lost to another session.
 const HANDED_OVER: [Meeting; 5] = [
     Meeting::UpdateInPrepare,
@@ -120,13 +135,13 @@ const POLLED: [Meeting; 3] = [Meeting::Rest, Meeting::InProgress, Meeting::WaitF
 const POLLED_AT_TIMES: [Meeting; 3] = [Meeting::NotReady, Meeting::Takes, Meeting::AsksOn];
 
 /// What is met often is met more than so many times.
-const OFTEN: u64 = 100;
+pub(crate) const OFTEN: u64 = 100;
 
 /// What is met at times is met more than so many times.
-const AT_TIMES: u64 = 10;
+pub(crate) const AT_TIMES: u64 = 10;
 
 /// Each of these was met more often than so many times.
-fn has_met(meetings: &Meetings, wanted: &[Meeting], times: u64) -> bool {
+pub(crate) fn has_met(meetings: &Meetings, wanted: &[Meeting], times: u64) -> bool {
     for meeting in wanted {
         if meetings.of(*meeting) <= times {
             return false;
@@ -146,6 +161,7 @@ fn both_bodies_agree(rt: HostRuntime) -> Result<(), Fail> {
     assert!(rt; ways.all() == 100_000);
     assert!(rt; has_met(&ways.straight, &STRAIGHT, OFTEN));
     assert!(rt; has_met(&ways.straight, &STRAIGHT_AT_TIMES, AT_TIMES));
+    assert!(rt; has_met(&ways.hot, &HOT, OFTEN));
     assert!(rt; has_met(&ways.handed_over, &HANDED_OVER, OFTEN));
     assert!(rt; has_met(&ways.refreshed, &REFRESHED, OFTEN));
     assert!(rt; has_met(&ways.polled, &POLLED, OFTEN));

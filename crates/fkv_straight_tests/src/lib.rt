@@ -4,13 +4,19 @@
 #[cfg(test)]
 mod actors;
 #[cfg(test)]
+mod aged;
+#[cfg(test)]
 mod bodies;
 #[cfg(test)]
 mod goings;
 #[cfg(test)]
+mod margins;
+#[cfg(test)]
 mod meetings;
 #[cfg(test)]
 mod plain_lines;
+#[cfg(test)]
+mod polls;
 #[cfg(test)]
 mod rivals;
 #[cfg(test)]

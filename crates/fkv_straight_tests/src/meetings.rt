@@ -1,8 +1,9 @@
 //! What operations have met.
-use fkv_base::{Addr, Phase};
+use crate::rivals::{has_mark, mark_of};
+use fkv_base::{Addr, Fault, Phase};
 use fkv_map::{Merge, Op};
-use fkv_ops::{Reason, Seen};
-use fkv_plane::{Ask, Places, RecordWord, SessionWord, SharedWord};
+use fkv_ops::{Bounds, Reason, Seen};
+use fkv_plane::{Ask, Places, PlainWords, RecordWord, SessionWord, SharedWord};
 use fkv_session::Told;
 
 /// What an operation may be, or meet.
@@ -51,9 +52,21 @@ pub(crate) enum Meeting {
     Takes,
     /// A poll asks for the record before the one that it has taken.
     AsksOn,
+    /// It takes the last overflow bucket that calls may take.
+    LastBucket,
+    /// It takes the last address that calls may take.
+    LastAddress,
+    /// It is refused, since the overflow buckets that are left are for polls.
+    IndexFull,
+    /// It is refused, since the addresses that are left are for polls.
+    LogFull,
+    /// A record that has the mark of the session's version, and was made 8,191 versions before.
+    Alike,
+    /// Such a record, of which a copy is made under the latch of its bucket.
+    AlikeAlone,
 }
 
-const MEETINGS: usize = 30;
+const MEETINGS: usize = 36;
 
 /// How many operations have met what.
 #[derive(Clone, Copy)]
@@ -101,7 +114,18 @@ impl Meetings {
         if matches!(told, Told::PendingRead(_)) {
             self.count(trace.asked());
         }
+        self.add_refusal(told);
         self.add_trace(trace);
+        self.add_bounds(trace);
+        self.add_marks(trace);
+    }
+
+    fn add_refusal(&mut self, told: Told) {
+        match told {
+            Told::Refused(Fault::IndexFull) => self.count(Meeting::IndexFull),
+            Told::Refused(Fault::LogFull) => self.count(Meeting::LogFull),
+            _ => {}
+        }
     }
 
     /// A call in this phase.
@@ -133,6 +157,24 @@ impl Meetings {
         }
         if trace.is_on_device {
             self.count(Meeting::OnDevice);
+        }
+    }
+
+    fn add_bounds(&mut self, trace: &Trace) {
+        if trace.is_last_bucket {
+            self.count(Meeting::LastBucket);
+        }
+        if trace.is_last_address {
+            self.count(Meeting::LastAddress);
+        }
+    }
+
+    fn add_marks(&mut self, trace: &Trace) {
+        if trace.is_alike {
+            self.count(Meeting::Alike);
+        }
+        if trace.is_alike && trace.is_alone {
+            self.count(Meeting::AlikeAlone);
         }
     }
 }
@@ -169,13 +211,15 @@ fn phase_of(phase: Phase) -> Meeting {
     }
 }
 
-/// Where the parts of a store's words begin: a session's mailbox, the buckets, the overflow buckets, and the records in memory.
+/// Where the parts of a store's words begin: a session's mailbox, the buckets, the overflow buckets, and the records in memory. And how many records
+/// memory has.
 #[derive(Clone, Copy)]
 pub(crate) struct Parts {
     mailbox: usize,
     buckets: usize,
     overflow: usize,
     frames: usize,
+    ring: u64,
 }
 
 impl Parts {
@@ -190,15 +234,25 @@ impl Parts {
             buckets,
             overflow,
             frames,
+            ring: places.ring as u64,
         }
+    }
+
+    /// Whether it is the place of a slot.
+    pub(crate) fn is_slot(&self, place: usize) -> bool {
+        let is_bucket = place >= self.buckets && place < self.frames;
+        is_bucket && place.wrapping_sub(self.buckets) % 8 != 7
     }
 }
 
-/// What the asks of one call have met, by a session that has seen this head.
+/// What the asks of one call have met, by a session that has seen this, in a store with these bounds.
 #[derive(Clone, Copy)]
 pub(crate) struct Trace {
     parts: Parts,
-    head: Addr,
+    seen: Seen,
+    bounds: Option<Bounds>,
+    /// Below it are records that were aged.
+    aged: Addr,
     is_full: bool,
     overflows: bool,
     records: u64,
@@ -206,6 +260,13 @@ pub(crate) struct Trace {
     is_on_device: bool,
     /// Whether its last Cas was one of the tail.
     is_at_tail: bool,
+    /// Whether it has sought to take the last overflow bucket of those for calls, and the last address.
+    is_last_bucket: bool,
+    is_last_address: bool,
+    /// Whether the last record that it has met was aged, and has the mark of the session's version.
+    is_alike: bool,
+    /// Whether it has sought a latch for itself alone.
+    is_alone: bool,
     /// Whether it has loaded the state of the mailbox, taken a record from there, and stored an address there.
     looks_into_mail: bool,
     takes_mail: bool,
@@ -213,16 +274,22 @@ pub(crate) struct Trace {
 }
 
 impl Trace {
-    pub(crate) fn new(parts: Parts, head: Addr) -> Trace {
+    pub(crate) fn new(parts: Parts, seen: Seen, bounds: Option<Bounds>, aged: Addr) -> Trace {
         Trace {
             parts,
-            head,
+            seen,
+            bounds,
+            aged,
             is_full: false,
             overflows: false,
             records: 0,
             is_read_only: false,
             is_on_device: false,
             is_at_tail: false,
+            is_last_bucket: false,
+            is_last_address: false,
+            is_alike: false,
+            is_alone: false,
             looks_into_mail: false,
             takes_mail: false,
             puts_mail: false,
@@ -258,13 +325,20 @@ impl Trace {
         }
     }
 
-    /// Notes what is asked.
-    pub(crate) fn note(&mut self, ask: &Ask<Told>) {
+    /// Notes what is asked of these words.
+    pub(crate) fn note(&mut self, words: &PlainWords, ask: &Ask<Told>) {
         match ask {
-            Ask::Load(place) => self.note_load(*place),
+            Ask::Load(place) => {
+                self.note_load(*place);
+                self.note_mark(*place, words.word(*place));
+            }
             Ask::Store(place, _) => self.puts_mail = self.puts_mail
                 || *place == self.parts.mailbox.wrapping_add(ADDRESS),
-            Ask::Cas(place, old, _) => self.note_cas(*place, *old & ADDR_MASK),
+            Ask::Cas(place, old, new) => {
+                self.note_cas(*place, *old & ADDR_MASK);
+                self.note_last(*place, *old);
+                self.is_alone = self.is_alone || *new == ALONE;
+            }
             _ => {}
         }
     }
@@ -272,9 +346,37 @@ impl Trace {
     fn note_cas(&mut self, place: usize, addr: u64) {
         self.is_at_tail = place == SharedWord::Tail.place();
         let is_slot = place >= self.parts.buckets && place < self.parts.frames;
-        if is_slot && addr != 0 && addr < self.head.0 {
+        if is_slot && addr != 0 && addr < self.seen.offsets.head.0 {
             self.is_on_device = true;
         }
+    }
+
+    /// Whether it takes the last of what calls may take, if it finds this number.
+    fn note_last(&mut self, place: usize, number: u64) {
+        if let Some(bounds) = self.bounds {
+            let next = number.wrapping_add(1);
+            if place == SharedWord::Taken.place() && next == bounds.taken {
+                self.is_last_bucket = true;
+            }
+            if place == SharedWord::Tail.place() && next == bounds.tail {
+                self.is_last_address = true;
+            }
+        }
+    }
+
+    /// What a record's header says, if this is the place of one.
+    fn note_mark(&mut self, place: usize, header: u64) {
+        let behind = place.wrapping_sub(self.parts.frames);
+        if place < self.parts.frames || behind % 3 != 0 {
+            return;
+        }
+        let head = self.seen.offsets.head.0;
+        let ahead = (behind as u64 / 3).wrapping_sub(head);
+        let addr = match ahead.checked_rem(self.parts.ring) {
+            Some(rest) => head.wrapping_add(rest),
+            None => head,
+        };
+        self.is_alike = addr < self.aged.0 && has_mark(header, mark_of(self.seen.version));
     }
 
     fn note_load(&mut self, place: usize) {
@@ -295,6 +397,9 @@ impl Trace {
 }
 
 const ADDR_MASK: u64 = (1 << 48) - 1;
+
+/// A latch that one session holds alone.
+const ALONE: u64 = 1 << 63;
 
 /// So many words a session has, and so far behind the state of its mailbox are the address and the value there.
 const SESSION_WORDS: usize = 16;

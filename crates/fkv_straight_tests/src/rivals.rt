@@ -51,9 +51,22 @@ impl Rival {
 }
 
 /// What a header keeps of a version.
-fn mark_of(version: Version) -> u64 {
+pub(crate) fn mark_of(version: Version) -> u64 {
     (version.0.wrapping_sub(1) % 8191).wrapping_add(1)
 }
+
+/// Whether the header has this mark.
+pub(crate) fn has_mark(header: u64, mark: u64) -> bool {
+    header & MARK == mark << 48
+}
+
+/// The header with this mark in place of its own.
+pub(crate) fn with_mark(header: u64, mark: u64) -> u64 {
+    header & !MARK | mark << 48
+}
+
+/// Where a header keeps the mark.
+const MARK: u64 = 8191 << 48;
 
 /// Marks the header of a record that no entry names.
 const INVALID: u64 = 1 << 62;

@@ -23,6 +23,20 @@ pub(crate) struct Keys {
     pub(crate) keys: u64,
 }
 
+/// So many homes have one bucket.
+const TAGS: u64 = 1 << 15;
+
+impl Keys {
+    /// Those of so many homes, and so many of each, if the index has so many buckets.
+    pub(crate) fn of(buckets: usize, homes: u64, keys: u64) -> Keys {
+        Keys {
+            apart: TAGS.wrapping_mul(buckets as u64),
+            homes,
+            keys,
+        }
+    }
+}
+
 /// Draws events, from a seed.
 #[derive(Drop)]
 pub(crate) struct Draws {

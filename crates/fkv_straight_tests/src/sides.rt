@@ -4,15 +4,17 @@ use crate::meetings::Trace;
 use crate::plain_lines::PlainLine;
 use crate::rivals::{Rival, be_quicker};
 use crate::wrongs::Wrong;
-use fkv_map::Call;
+use fkv_map::{Call, Op};
 use fkv_plane::{Ask, PlainWords};
 use fkv_session::{Session, Told};
-use fkv_straight::{Line, StraightSession, Went};
+use fkv_straight::{Hot, Line, StraightSession, Went};
 use std::process::Abort;
 
 /// How a call has begun.
 #[derive(Clone, Copy)]
 pub(crate) enum Way {
+    /// Straight, to its end, all of it in the hot part.
+    Hot,
     /// Straight, to its end.
     Straight,
     /// Straight, up to something unusual: the machine goes on.
@@ -27,6 +29,31 @@ pub(crate) struct Begun {
     pub(crate) way: Way,
     pub(crate) steps: usize,
     pub(crate) ask: Ask<Told>,
+}
+
+/// Begins an operation's call by its hot part, and goes on with what that leaves. None if it has none: then it has made no step.
+pub(crate) fn begin_hot<R: Abort>(
+    rt: &R,
+    words: &mut PlainWords,
+    rival: Option<Rival>,
+    session: &mut StraightSession,
+    op: Op,
+) -> Option<Begun> {
+    let mut line = PlainLine::new(rt, words, rival, session);
+    let went = session.run_hot(&mut line, op);
+    let (way, ask) = match went {
+        Hot::Ended(told) => (Way::Hot, Ask::Done(told)),
+        Hot::Left(due) => {
+            let ended = session.run_due(&mut line, op, due);
+            match ended {
+                Some(told) => (Way::Straight, Ask::Done(told)),
+                None => (Way::HandedOver, session.catch_up(&line, Call::Op(op))),
+            }
+        }
+        Hot::Stayed => return None,
+    };
+    let steps = line.replies().len();
+    Some(Begun { way, steps, ask })
 }
 
 /// Begins a call, and makes its steps as far as it goes straight. The machine goes on from there, or makes all of it.
@@ -70,7 +97,7 @@ pub(crate) fn begin_by_machine(
 ) -> Ask<Told> {
     let mut ask = machine.begin(call);
     for _ in 0..steps {
-        trace.note(&ask);
+        trace.note(words, &ask);
         be_quicker(rival, words, &ask);
         ask = step(words, machine, &ask);
     }
@@ -100,7 +127,7 @@ pub(crate) fn end(
         if let Ask::Done(told) = ask {
             return Ok(told);
         }
-        trace.note(&ask);
+        trace.note(others, &ask);
         be_quicker(rival, words, &asked);
         asked = step(words, session, &asked);
         be_quicker(rival, others, &ask);

@@ -1,12 +1,13 @@
 //! An opened store, taken apart, but for its sessions.
 use crate::actors::step;
-use fkv_base::{CommitKind, Fault, Shape};
+use crate::rivals::with_mark;
+use fkv_base::{Addr, CommitKind, Fault, Shape};
 use fkv_core::World;
 use fkv_creating::create;
 use fkv_disk::{Device, MemDisk};
 use fkv_keeper::{Keeper, KeeperTold};
 use fkv_opening::recover;
-use fkv_plane::{Ask, PlainWords};
+use fkv_plane::{Ask, Places, PlainWords, RecordWord, SharedWord};
 use fkv_session::Session;
 use std::alloc::Global;
 
@@ -41,6 +42,23 @@ impl Store {
             device,
         };
         Ok((store, sessions))
+    }
+
+    /// What a word holds.
+    pub(crate) fn word(&self, word: SharedWord) -> u64 {
+        self.words.word(word.place())
+    }
+
+    /// The records in memory that are on the device too get this mark, as if a version that has it had made them. Gives where they end.
+    pub(crate) fn age(&mut self, places: &Places, mark: u64) -> Addr {
+        let end = self.word(SharedWord::Flushed);
+        for addr in self.word(SharedWord::Head)..end {
+            let place = places.record(Addr(addr), RecordWord::Header);
+            let header = with_mark(self.words.word(place), mark);
+            let aged: Ask<KeeperTold> = Ask::Store(place, header);
+            let _ = self.words.perform(&aged);
+        }
+        Addr(end)
     }
 
     /// Whether a call of the keeper is in hand.

@@ -1,14 +1,14 @@
 //! Two stores that are given the same events: the operations, refreshes and polls of one go straight, and the machine makes those of the other.
 use crate::meetings::{Meetings, Parts, Trace};
-use crate::rivals::Rival;
+use crate::rivals::{Rival, mark_of};
 use crate::scripts::{Draws, Event};
-use crate::sides::{Begun, Way, begin, begin_by_machine, end};
+use crate::sides::{Begun, Way, begin, begin_by_machine, begin_hot, end};
 use crate::stores::Store;
 use crate::wrongs::Wrong;
-use fkv_base::{Phase, Shape, Value};
+use fkv_base::{Addr, Phase, Shape, Value, Version};
 use fkv_map::{Call, Op};
-use fkv_ops::Seen;
-use fkv_plane::Places;
+use fkv_ops::{Bounds, Seen};
+use fkv_plane::{Places, PlainWords};
 use fkv_session::{Session, Told};
 use fkv_straight::StraightSession;
 use std::alloc::Global;
@@ -19,6 +19,8 @@ use std::process::Abort;
 pub(crate) struct Ways {
     /// Straight to their end.
     pub(crate) straight: Meetings,
+    /// Those of them that are done in their hot part.
+    pub(crate) hot: Meetings,
     /// Straight up to something unusual, and on by the machine.
     pub(crate) handed_over: Meetings,
     /// By the machine from the start on.
@@ -35,6 +37,7 @@ impl Ways {
     pub(crate) fn new() -> Ways {
         Ways {
             straight: Meetings::new(),
+            hot: Meetings::new(),
             handed_over: Meetings::new(),
             by_machine: Meetings::new(),
             refreshed: Meetings::new(),
@@ -59,6 +62,10 @@ impl Ways {
 
     fn add_op(&mut self, way: Way, op: Op, seen: Seen, trace: &Trace, told: Told) {
         match way {
+            Way::Hot => {
+                self.hot.add(op, seen, trace, told);
+                self.straight.add(op, seen, trace, told);
+            }
             Way::Straight => self.straight.add(op, seen, trace, told),
             Way::HandedOver => self.handed_over.add(op, seen, trace, told),
             Way::Machine => self.by_machine.add(op, seen, trace, told),
@@ -69,7 +76,7 @@ impl Ways {
         match way {
             Way::Straight => self.polled.add_poll(phase, trace),
             Way::HandedOver => self.polled_on.add_poll(phase, trace),
-            Way::Machine => {}
+            Way::Hot | Way::Machine => {}
         }
     }
 
@@ -88,20 +95,45 @@ pub(crate) struct Twins {
     machine: Store,
     machines: Vec<Session>,
     places: Places,
+    bounds: Option<Bounds>,
+    /// Records below it were aged, where they were in memory.
+    aged: Addr,
+    /// Whether an operation begins by its hot part now: at each second call it does.
+    is_hot: bool,
 }
 
 impl Twins {
+    /// Two new stores of this shape, which begin at a commit of this number.
     pub(crate) fn open(alloc: Global, shape: Shape, number: u64) -> Result<Twins, Wrong> {
         let (straight, opened) = Store::open(alloc, shape, number)?;
         let (machine, machines) = Store::open(alloc, shape, number)?;
-        let places = Places::of(&shape);
         Ok(Twins {
             straight,
             sessions: straight_sessions(alloc, opened)?,
             machine,
             machines,
-            places,
+            places: Places::of(&shape),
+            bounds: Bounds::of(&shape),
+            aged: Addr(0),
+            is_hot: false,
         })
+    }
+
+    /// The version that the first session has seen, at rest of all. None where a session isn't there yet.
+    pub(crate) fn rests(&self) -> Option<Version> {
+        for session in self.machines.iter() {
+            if session.seen().phase != Phase::Rest {
+                return None;
+            }
+        }
+        self.machines.first().map(|session| session.seen().version)
+    }
+
+    /// In both stores the records that are in memory and on the device become as if a version with this one's mark had made them.
+    pub(crate) fn age(&mut self, version: Version) {
+        let mark = mark_of(version);
+        let _ = self.straight.age(&self.places, mark);
+        self.aged = self.machine.age(&self.places, mark);
     }
 
     /// The session of this number makes a call in both. A rival leaves the value in both, if there is one.
@@ -120,10 +152,11 @@ impl Twins {
             return Err(Wrong::NoSession);
         };
         let seen = machine.seen();
-        let mut trace = Trace::new(Parts::of(&self.places, number), seen.offsets.head);
+        let parts = Parts::of(&self.places, number);
+        let mut trace = Trace::new(parts, seen, self.bounds, self.aged);
         let rival = rival_of(self.places, seen, value);
         let words = &mut self.straight.words;
-        let Begun { way, steps, ask } = begin(rt, words, rival, session, call);
+        let Begun { way, steps, ask } = begin_by(rt, words, rival, session, call, self.is_hot);
         let others = &mut self.machine.words;
         let reached = begin_by_machine(others, rival, machine, call, steps, &mut trace);
         let told = end(
@@ -136,12 +169,7 @@ impl Twins {
             reached,
             &mut trace,
         )?;
-        if session.finished() != machine.finished() {
-            return Err(Wrong::Finished);
-        }
-        if session.serial() != machine.serial() {
-            return Err(Wrong::Serials);
-        }
+        agree(session, machine)?;
         ways.add(way, call, seen, &trace, told);
         Ok(())
     }
@@ -161,9 +189,17 @@ impl Twins {
     }
 
     /// Gives both this event, and compares them behind it.
-    fn play<R: Abort>(&mut self, rt: &R, event: Event, ways: &mut Ways) -> Result<(), Wrong> {
+    pub(crate) fn play<R: Abort>(
+        &mut self,
+        rt: &R,
+        event: Event,
+        ways: &mut Ways,
+    ) -> Result<(), Wrong> {
         match event {
-            Event::Call(number, call, value) => self.call(rt, number, call, value, ways)?,
+            Event::Call(number, call, value) => {
+                self.is_hot = !self.is_hot;
+                self.call(rt, number, call, value, ways)?;
+            }
             _ => {
                 keep(&mut self.straight, event);
                 keep(&mut self.machine, event);
@@ -171,6 +207,34 @@ impl Twins {
         }
         self.compare()
     }
+}
+
+/// Both have finished the same requests, and given the same last serial.
+fn agree(session: &StraightSession, machine: &Session) -> Result<(), Wrong> {
+    if session.finished() != machine.finished() {
+        Err(Wrong::Finished)
+    } else if session.serial() != machine.serial() {
+        Err(Wrong::Serials)
+    } else {
+        Ok(())
+    }
+}
+
+/// Begins a call straight: an operation's by its hot part, if that is wanted and there is one.
+fn begin_by<R: Abort>(
+    rt: &R,
+    words: &mut PlainWords,
+    rival: Option<Rival>,
+    session: &mut StraightSession,
+    call: Call,
+    is_hot: bool,
+) -> Begun {
+    if let (true, Call::Op(op)) = (is_hot, call) {
+        if let Some(begun) = begin_hot(rt, words, rival, session, op) {
+            return begun;
+        }
+    }
+    begin(rt, words, rival, session, call)
 }
 
 /// The rival that leaves this value, in the version that the call's session has seen.
@@ -212,17 +276,14 @@ fn keep(store: &mut Store, event: Event) {
     }
 }
 
-/// Plays events over two new stores of this shape, which begin at a commit of this number, until so many operations went.
+/// Plays events over two stores until so many operations went.
 pub(crate) fn play<R: Abort>(
     rt: &R,
-    alloc: Global,
-    shape: Shape,
-    number: u64,
+    twins: &mut Twins,
     draws: &mut Draws,
     operations: u64,
     ways: &mut Ways,
 ) -> Result<(), Wrong> {
-    let mut twins = Twins::open(alloc, shape, number)?;
     let until = ways.all().wrapping_add(operations);
     for _ in 0..u64::MAX {
         if ways.all() >= until {

@@ -37,6 +37,34 @@ const NONE_COUNTED: [(usize, u64); 7] = [
     (47, 1),
 ];
 
+/// The entry of the first three keys stands in the overflow bucket that is taken and linked; and so that the tail is at the limit besides.
+const ENTRY_BEHIND: [(usize, u64); 10] = [
+    (40, 1 + 17 * ONE),
+    (41, 1 + 11 * ONE),
+    (42, 1 + 12 * ONE),
+    (43, 1 + 13 * ONE),
+    (44, 1 + 14 * ONE),
+    (45, 1 + 15 * ONE),
+    (46, 1 + 16 * ONE),
+    (47, 1),
+    (48, ENTRY),
+    (10, 1),
+];
+
+const AT_LIMIT_BEHIND: [(usize, u64); 11] = [
+    (40, 1 + 17 * ONE),
+    (41, 1 + 11 * ONE),
+    (42, 1 + 12 * ONE),
+    (43, 1 + 13 * ONE),
+    (44, 1 + 14 * ONE),
+    (45, 1 + 15 * ONE),
+    (46, 1 + 16 * ONE),
+    (47, 1),
+    (48, ENTRY),
+    (10, 1),
+    (3, 8),
+];
+
 /// A new key, whose search comes to the link of its bucket.
 const NEW: Case<'static> = Case {
     op: Op::Upsert(FOURTH, Value(11)),
@@ -122,6 +150,82 @@ pub const BUCKETS: &[Case<'static>] = &[
         skips: 1,
         asks: &[Ask::Load(41), Ask::Load(4), Ask::Load(3), Ask::Cas(3, 6, 7)],
         ..NEW
+    },
+];
+
+/// A key without a record whose home has an entry, in an overflow bucket.
+const LATER: Case<'static> = Case {
+    op: Op::Upsert(LACKING, Value(11)),
+    occasion: NARROW,
+    words: &ENTRY_BEHIND,
+    skips: 8,
+    ..USUAL
+};
+
+/// Where another key of its home has the entry, an update takes no slot. So it goes on past the bound, also behind a link.
+pub const ENTRIES: &[Case<'static>] = &[
+    Case {
+        asks: &[
+            Ask::Load(48),
+            Ask::Load(79),
+            Ask::Load(80),
+            Ask::Load(70),
+            Ask::Load(71),
+            Ask::Load(4),
+            Ask::Load(3),
+            Ask::Cas(3, 6, 7),
+            Ask::Store(84, 11),
+            Ask::Store(83, 65539),
+            Ask::Store(82, HEADER),
+            Ask::Cas(48, ENTRY, NEW_ENTRY),
+            Ask::Done(TryAnswer::Done(Reply::Nothing)),
+        ],
+        ..LATER
+    },
+    // its chain leaves memory
+    Case {
+        head: 6,
+        read_only: 6,
+        asks: &[Ask::Load(48), Ask::Load(4), Ask::Load(3), Ask::Cas(3, 6, 7)],
+        ..LATER
+    },
+    // it waits, and the buckets don't count
+    Case {
+        occasion: Occasion::Call(Some(Bounds { taken: 1, tail: 9 })),
+        words: &AT_LIMIT_BEHIND,
+        skips: 13,
+        asks: &[
+            Ask::Load(4),
+            Ask::Load(3),
+            Ask::Load(3),
+            Ask::Done(TryAnswer::Wait(Reason::NoRoom)),
+        ],
+        ..LATER
+    },
+    Case {
+        op: Op::Add(LACKING, 5),
+        head: 6,
+        read_only: 6,
+        asks: &[
+            Ask::Load(48),
+            Ask::Load(3),
+            Ask::Done(TryAnswer::AwaitsDisk(DiskRecord {
+                entry: ENTRY,
+                addr: Addr(5),
+            })),
+        ],
+        ..LATER
+    },
+    // one whose home has none stays refused there
+    Case {
+        op: Op::Upsert(FOURTH, Value(11)),
+        asks: &[
+            Ask::Load(48),
+            Ask::Load(49),
+            Ask::Load(10),
+            Ask::Done(TryAnswer::IndexFull),
+        ],
+        ..LATER
     },
 ];
 
