@@ -1,4 +1,5 @@
 //! Two sessions that wait for each other. One thread that runs both, session after session, can't pass it.
+use fkv_options::{Options, Verdict};
 use fkv_thread_scripts::threads_script_of;
 use fkv_threading::{Gate, run_threads};
 use std::alloc::Global;
@@ -66,11 +67,12 @@ pub(crate) fn run_at_once<H: Threads + Wait + Sync>(
         is_late: AtomicBool::new(false),
     };
     let mut into = [0; 100];
-    let told = report(hands, alloc, &gate, &mut into);
+    let told = report(rt, hands, alloc, &gate, &mut into);
     !gate.is_late.load(Ordering::SeqCst) && told == REPORT
 }
 
 fn report<'o, G: Gate + Sync, H: Threads + Wait + Sync>(
+    rt: &HostRuntime,
     hands: &H,
     alloc: Global,
     gate: &G,
@@ -79,9 +81,10 @@ fn report<'o, G: Gate + Sync, H: Threads + Wait + Sync>(
     let Ok(script) = threads_script_of(alloc, SCRIPT) else {
         return &[];
     };
+    let options = Options::default();
     let mut output = Cursor::new(into);
-    match run_threads(hands, alloc, &script, &mut output, gate) {
-        Ok(0) => {}
+    match run_threads(hands, rt, alloc, &script, &mut output, &options, gate) {
+        Ok(Verdict::Agrees) => {}
         _ => return &[],
     }
     let end = output.position();

@@ -14,7 +14,7 @@ use Rattle.fkv_texts.proofs.Shown.{appends_nothing}
 use Rattle.fkv_thread_scripts.specs.Reports.{ended}
 use Rattle.fkv_thread_scripts.specs.Served.{IsServedScript, TellsRefusal}
 use Rattle.fkv_thread_scripts.specs.declared.reports.Report.{Report}
-use Rattle.fkv_threading.specs.Program.{IsEndIn, IsRunOfBytes, IsRunOfInput, IsTextOnThreads, TellsLine, WithSomeStatus, script_limit}
+use Rattle.fkv_threading.specs.Program.{IsRunOfBytes, IsRunOfInput, IsTextOnThreads, TellsLine, WithSomeStatus, script_limit}
 use Rattle.fkv_threading.specs.Written.{IsRunOnThreads, reported_text}
 
 -- ---- the input
@@ -81,32 +81,14 @@ module _ (Ends : List Line → Sizes → Result Report Fault → Type 0) where
   script_runs bytes script (Some openings.Open) a b status served is (wrote, answers) = ([], inl (script, served, subst (λ (o : Option Opening). IsTextOnThreads (Ends script.lines) o status []) (sym is) (refl, answers)), wrote)
   script_runs bytes script None a b status served is (wrote, answers) = ([], inl (script, served, subst (λ (o : Option Opening). IsTextOnThreads (Ends script.lines) o status []) (sym is) (refl, answers)), wrote)
 
-  result_runs : {E : Type 0} (bytes : List ℕ) (script : ScriptText) (a b : Option (List ℕ)) (r : Result ℕ E) → IsServedScript bytes script → IfOk r (IsRunOnThreads (Ends script.lines) script.opening (Appends a b)) → IfOk r (λ status. Writes (IsRunOfBytes Ends bytes status) a b)
+  pub result_runs : {E : Type 0} (bytes : List ℕ) (script : ScriptText) (a b : Option (List ℕ)) (r : Result ℕ E) → IsServedScript bytes script → IfOk r (IsRunOnThreads (Ends script.lines) script.opening (Appends a b)) → IfOk r (λ status. Writes (IsRunOfBytes Ends bytes status) a b)
   result_runs bytes script a b (Ok status) served h = script_runs bytes script script.opening a b status served refl h
   result_runs bytes script a b (Err e) served h = tt
 
-  result_breaks : {E : Type 0} (bytes : List ℕ) (script : ScriptText) (a b : Option (List ℕ)) (r : Result ℕ E) → IsServedScript bytes script → OnErr r (BreaksOff (WithSomeStatus (IsTextOnThreads (Ends script.lines) script.opening)) a b) → OnErr r (BreaksOff (WithSomeStatus (IsRunOfBytes Ends bytes)) a b)
+  pub result_breaks : {E : Type 0} (bytes : List ℕ) (script : ScriptText) (a b : Option (List ℕ)) (r : Result ℕ E) → IsServedScript bytes script → OnErr r (BreaksOff (WithSomeStatus (IsTextOnThreads (Ends script.lines) script.opening)) a b) → OnErr r (BreaksOff (WithSomeStatus (IsRunOfBytes Ends bytes)) a b)
   result_breaks bytes script a b (Ok status) served h = tt
   result_breaks bytes script a b (Err e) served h =
       breaks_weaker (WithSomeStatus (IsTextOnThreads (Ends script.lines) script.opening)) (WithSomeStatus (IsRunOfBytes Ends bytes)) a b (λ text its. (its.0, inl (script, served, its.1))) h
-
--- ---- over a store in memory, or in a file
-module _ {X E : Type 0} (OfMemory : List Line → Sizes → Result Report Fault → Type 0) (OfFile : List ℕ → List Line → Sizes → Result Report Fault → Type 0) (file : Option X) (path_of : X → List ℕ)
-    (bytes : List ℕ) (script : ScriptText) (a b : Option (List ℕ)) (r : Result ℕ E) (served : IsServedScript bytes script) where
-  pub runs_in_memory : file ≡ None → IfOk r (IsRunOnThreads (OfMemory script.lines) script.opening (Appends a b)) → IfOk r (λ status. Writes (IsRunOfBytes (IsEndIn OfMemory OfFile (option_map path_of file)) bytes status) a b)
-  runs_in_memory is h = subst (λ (f : Option X). IfOk r (λ status. Writes (IsRunOfBytes (IsEndIn OfMemory OfFile (option_map path_of f)) bytes status) a b)) (sym is) (result_runs OfMemory bytes script a b r served h)
-
-  pub breaks_in_memory : file ≡ None → OnErr r (BreaksOff (WithSomeStatus (IsTextOnThreads (OfMemory script.lines) script.opening)) a b) → OnErr r (BreaksOff (WithSomeStatus (IsRunOfBytes (IsEndIn OfMemory OfFile (option_map path_of file)) bytes)) a b)
-  breaks_in_memory is h = subst (λ (f : Option X). OnErr r (BreaksOff (WithSomeStatus (IsRunOfBytes (IsEndIn OfMemory OfFile (option_map path_of f)) bytes)) a b)) (sym is) (result_breaks OfMemory bytes script a b r served h)
-
-  pub runs_in_file : (path : X) → file ≡ Some path → IfOk r (IsRunOnThreads (OfFile (path_of path) script.lines) script.opening (Appends a b)) → IfOk r (λ status. Writes (IsRunOfBytes (IsEndIn OfMemory OfFile (option_map path_of file)) bytes status) a b)
-  runs_in_file path is h =
-      subst (λ (f : Option X). IfOk r (λ status. Writes (IsRunOfBytes (IsEndIn OfMemory OfFile (option_map path_of f)) bytes status) a b)) (sym is) (result_runs (OfFile (path_of path)) bytes script a b r served h)
-
-  pub breaks_in_file : (path : X) → file ≡ Some path → OnErr r (BreaksOff (WithSomeStatus (IsTextOnThreads (OfFile (path_of path) script.lines) script.opening)) a b)
-      → OnErr r (BreaksOff (WithSomeStatus (IsRunOfBytes (IsEndIn OfMemory OfFile (option_map path_of file)) bytes)) a b)
-  breaks_in_file path is h =
-      subst (λ (f : Option X). OnErr r (BreaksOff (WithSomeStatus (IsRunOfBytes (IsEndIn OfMemory OfFile (option_map path_of f)) bytes)) a b)) (sym is) (result_breaks (OfFile (path_of path)) bytes script a b r served h)
 
 -- ---- a line's text
 joined : (number name : List ℕ) → codes "script line " ++ (number ++ (codes " " ++ (name ++ (10 ∷ [])))) ≡ ended (codes "script line " ++ number ++ codes " " ++ name)

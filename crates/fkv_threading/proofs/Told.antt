@@ -36,8 +36,8 @@ use Rattle.fkv_threads.specs.Begun.{AreFirst, IsOverStore}
 use Rattle.fkv_threads.specs.Models.{IsWatching, Opening, Sitting, Watch, opening}
 use Rattle.fkv_threads.specs.Watches.{HasAsked as IsAsked, IsTurnOf}
 use Rattle.fkv_threads.specs.Runs.{run_of}
-use Rattle.fkv_threading.specs.Told.{AreLogs, HasAsked, HasMade, IsKept, IsLogOf, IsNoted, IsPlayed, IsTold, Part, WasKept, WasTold, WerePlayed, begun_by, fault_by, finish_by, is_full, is_own, newer, part_at, part_of, point_at}
-use Rattle.fkv_threading.specs.Told.{Asked, IsLastTold, KeeperCall, KeeperRun, TellsBegun, TellsFault, TellsFinish, TellsNone, Turned}
+use Rattle.fkv_threading.specs.Told.{AreLogs, HasAsked, HasMade, IsCountedTurn, IsKept, IsLogOf, IsNoted, IsPlayed, IsTold, Part, WasKept, WasTold, WerePlayed, begun_by, fault_by, finish_by, is_full, is_own, newer, part_at, part_of, point_at}
+use Rattle.fkv_threading.specs.Told.{Asked, IsLastTold, KeeperCall, KeeperPlace, KeeperRun, TellsBegun, TellsFault, TellsFinish, TellsNone, Turned}
 use Rattle.fkv_threads.specs.Below.fkv_world.Runs.{World}
 use Rattle.fkv_threads.specs.Below.law_threads.Calls.{CallRun, HasRun}
 use Rattle.fkv_threads.specs.Below.law_threads.Turns.{HasTurned}
@@ -85,40 +85,44 @@ promised_at key places number points point lines is point_is =
     λ i. part_of key (is i) (same_point i) lines
 
 -- ---- what the keeper's calls have told last
-abbrev call_run : KeeperCall → List Happening → List Happening → KeeperRun
-call_run call seen behind = record { call = call; before = seen; behind = behind }
+abbrev call_run : {D : Type 0} → KeeperCall → List Happening → List Happening → D → D → KeeperRun D
+call_run call seen behind medium left = record { call = call; before = seen; behind = behind; medium = medium; left = left }
 
-module _ {X : Type 0} (Tells : KeeperCall → X → Type 0) where
+module _ {D X : Type 0} (Tells : KeeperCall → X → Type 0) where
   -- before the first call it is nothing
-  pub last_of_none : IsLastTold Tells [] None
-  last_of_none = All-nil (TellsNone Tells)
+  pub last_of_none : IsLastTold {D = D} Tells [] None
+  last_of_none = All-nil (TellsNone {D = D} Tells)
 
   -- behind a call that tells one it is that
-  last_now : (run : KeeperRun) (runs : List KeeperRun) (its : X) → Tells run.call its → IsLastTold Tells (run ∷ runs) (Some its)
-  last_now run runs its tells = ([], run, runs, refl, tells, All-nil (TellsNone Tells))
+  last_now : (run : KeeperRun D) (runs : List (KeeperRun D)) (its : X) → Tells run.call its → IsLastTold Tells (run ∷ runs) (Some its)
+  last_now run runs its tells = ([], run, runs, refl, tells, All-nil (TellsNone {D = D} Tells))
 
   -- behind one that tells none it is what it was
-  last_before : (run : KeeperRun) (runs : List KeeperRun) (before : Option X) → TellsNone Tells run → IsLastTold Tells runs before → IsLastTold Tells (run ∷ runs) before
-  last_before run runs (Some its) none (later, that, earlier, split, tells, quiet) = (run ∷ later, that, earlier, ap (λ (rs : List KeeperRun). run ∷ rs) split, tells, All-cons (TellsNone Tells) run later none quiet)
+  last_before : (run : KeeperRun D) (runs : List (KeeperRun D)) (before : Option X) → TellsNone Tells run → IsLastTold Tells runs before → IsLastTold Tells (run ∷ runs) before
+  last_before run runs (Some its) none (later, that, earlier, split, tells, quiet) = (run ∷ later, that, earlier, ap (λ (rs : List (KeeperRun D)). run ∷ rs) split, tells, All-cons (TellsNone Tells) run later none quiet)
   last_before run runs None none quiet = All-cons (TellsNone Tells) run runs none quiet
 
-finish_if : (told before : Option Finished) (turn : Turn) (seen behind : List Happening) (runs : List KeeperRun) → turn.finished ≡ told → IsLastTold TellsFinish runs before
-    → IsLastTold TellsFinish (call_run (Turned (Ok turn)) seen behind ∷ runs) (newer told before)
-finish_if (Some its) before turn seen behind runs is was = last_now TellsFinish (call_run (Turned (Ok turn)) seen behind) runs its is
-finish_if None before turn seen behind runs is was = last_before TellsFinish (call_run (Turned (Ok turn)) seen behind) runs before (λ its tells. true≢false (ap is_some (sym tells ∙ is))) was
+module _ {D : Type 0} (medium left : D) (seen behind : List Happening) (runs : List (KeeperRun D)) where
+  -- one call more
+  abbrev one_more_run : KeeperCall → List (KeeperRun D)
+  one_more_run call = call_run call seen behind medium left ∷ runs
 
-finish_on : (answer : Result Turn Fault) (before : Option Finished) (seen behind : List Happening) (runs : List KeeperRun) → IsLastTold TellsFinish runs before → IsLastTold TellsFinish (call_run (Turned answer) seen behind ∷ runs) (finish_by before answer)
-finish_on (Ok turn) before seen behind runs was = finish_if turn.finished before turn seen behind runs refl was
-finish_on (Err why) before seen behind runs was = last_before TellsFinish (call_run (Turned (Err why)) seen behind) runs before (λ its tells. tells) was
+  finish_if : (told before : Option Finished) (turn : Turn) → turn.finished ≡ told → IsLastTold TellsFinish runs before → IsLastTold TellsFinish (one_more_run (Turned (Ok turn))) (newer told before)
+  finish_if (Some its) before turn is was = last_now TellsFinish (call_run (Turned (Ok turn)) seen behind medium left) runs its is
+  finish_if None before turn is was = last_before TellsFinish (call_run (Turned (Ok turn)) seen behind medium left) runs before (λ its tells. true≢false (ap is_some (sym tells ∙ is))) was
 
-fault_on : (answer : Result Turn Fault) (before : Option Fault) (seen behind : List Happening) (runs : List KeeperRun) → IsLastTold TellsFault runs before → IsLastTold TellsFault (call_run (Turned answer) seen behind ∷ runs) (fault_by before answer)
-fault_on (Ok turn) before seen behind runs was = last_before TellsFault (call_run (Turned (Ok turn)) seen behind) runs before (λ its tells. tells) was
-fault_on (Err Memory) before seen behind runs was = last_before TellsFault (call_run (Turned (Err Memory)) seen behind) runs before (λ its tells. tells) was
-fault_on (Err why) before seen behind runs was = last_now TellsFault (call_run (Turned (Err why)) seen behind) runs why refl
+  finish_on : (answer : Result Turn Fault) (before : Option Finished) → IsLastTold TellsFinish runs before → IsLastTold TellsFinish (one_more_run (Turned answer)) (finish_by before answer)
+  finish_on (Ok turn) before was = finish_if turn.finished before turn refl was
+  finish_on (Err why) before was = last_before TellsFinish (call_run (Turned (Err why)) seen behind medium left) runs before (λ its tells. tells) was
 
-begun_on : (kind : CommitKind) (answer : Result Version Fault) (before : Option Version) (seen behind : List Happening) (runs : List KeeperRun) → IsLastTold TellsBegun runs before → IsLastTold TellsBegun (call_run (Asked kind answer) seen behind ∷ runs) (begun_by before answer)
-begun_on kind (Ok number) before seen behind runs was = last_now TellsBegun (call_run (Asked kind (Ok number)) seen behind) runs number refl
-begun_on kind (Err why) before seen behind runs was = last_before TellsBegun (call_run (Asked kind (Err why)) seen behind) runs before (λ its tells. tells) was
+  fault_on : (answer : Result Turn Fault) (before : Option Fault) → IsLastTold TellsFault runs before → IsLastTold TellsFault (one_more_run (Turned answer)) (fault_by before answer)
+  fault_on (Ok turn) before was = last_before TellsFault (call_run (Turned (Ok turn)) seen behind medium left) runs before (λ its tells. tells) was
+  fault_on (Err Memory) before was = last_before TellsFault (call_run (Turned (Err Memory)) seen behind medium left) runs before (λ its tells. tells) was
+  fault_on (Err why) before was = last_now TellsFault (call_run (Turned (Err why)) seen behind medium left) runs why refl
+
+  begun_on : (kind : CommitKind) (answer : Result Version Fault) (before : Option Version) → IsLastTold TellsBegun runs before → IsLastTold TellsBegun (one_more_run (Asked kind answer)) (begun_by before answer)
+  begun_on kind (Ok number) before was = last_now TellsBegun (call_run (Asked kind (Ok number)) seen behind medium left) runs number refl
+  begun_on kind (Err why) before was = last_before TellsBegun (call_run (Asked kind (Err why)) seen behind medium left) runs before (λ its tells. tells) was
 
 module _ {K : Type 0} (at : K → World) where
   -- before its first call a session was told nothing
@@ -190,32 +194,6 @@ module _ {K : Type 0} (at : K → World) where
   pub told_less : (part : Part K) (whole whole' : Bool) (log : Log) → (whole' ≡ true → whole ≡ true) → IsTold at part whole log → IsTold at part whole' log
   told_less part whole whole' log less its = record { seen = its.seen; answered = its.answered; left = its.left; calls = its.calls; all = λ is. its.all (less is); told = its.told }
 
-  -- a commit that is asked for is one call more
-  pub asked_more : (key : K) (kind : CommitKind) (finished : Option Finished) (begun begun' : Option Version) (fault : Option Fault) (answer : Result Version Fault) (seen behind : List Happening) → HasAsked at key behind answer → HasKept (Commits kind) seen behind
-      → begun' ≡ begun_by begun answer → WasKept at key finished begun fault seen → WasKept at key finished begun' fault behind
-  asked_more key kind finished begun begun' fault answer seen behind asked kept next was =
-      let run : KeeperRun = call_run (Asked kind answer) seen behind in
-      record {
-        runs = run ∷ was.runs;
-        kept = ((kept, asked), refl, was.kept);
-        last = last_before TellsFinish run was.runs finished (λ its tells. tells) was.last;
-        last_begun = subst (IsLastTold TellsBegun (run ∷ was.runs)) (sym next) (begun_on kind answer begun seen behind was.runs was.last_begun);
-        refused = last_before TellsFault run was.runs fault (λ its tells. tells) was.refused;
-      }
-
-  -- and so is a turn
-  pub turned_more : (key : K) (finished finished' : Option Finished) (begun : Option Version) (fault fault' : Option Fault) (answer : Result Turn Fault) (seen behind : List Happening) → HasTurned at key behind answer → HasKept Turns seen behind
-      → finished' ≡ finish_by finished answer → fault' ≡ fault_by fault answer → WasKept at key finished begun fault seen → WasKept at key finished' begun fault' behind
-  turned_more key finished finished' begun fault fault' answer seen behind turned kept next refuses was =
-      let run : KeeperRun = call_run (Turned answer) seen behind in
-      record {
-        runs = run ∷ was.runs;
-        kept = ((kept, turned), refl, was.kept);
-        last = subst (IsLastTold TellsFinish (run ∷ was.runs)) (sym next) (finish_on answer finished seen behind was.runs was.last);
-        last_begun = last_before TellsBegun run was.runs begun (λ its tells. tells) was.last_begun;
-        refused = subst (IsLastTold TellsFault (run ∷ was.runs)) (sym refuses) (fault_on answer fault seen behind was.runs was.refused);
-      }
-
   -- one log more, that of the session at the next number
   pub logs_more : (key : K) (points : List Serial) (lines : List Line) (whole whole' its_whole : Bool) (logs all : List Log) (log : Log) (part : Part K) → all ≡ logs ++ log ∷ [] → whole' ≡ (whole && its_whole) → AreLogs at key points lines whole logs → part ≡ part_at key points lines (length logs)
       → IsTold at part its_whole log → AreLogs at key points lines whole' all
@@ -226,16 +204,15 @@ module _ {K : Type 0} (at : K → World) where
       (told_less (part_at key points lines (length logs)) its_whole whole' log this (subst (λ (p : Part K). IsTold at p its_whole log) part_is its))
 
 -- what threads leave at the table of a store that was opened
-pub is_played : {X E D : Type 0} (device : Ghosts D) (whole : X → Bool) (logs : X → List Log) (medium : X → D) (finished : X → Option Finished) (begun : X → Option Version) (fault : X → Option Fault) (r : Result X E) (key : Opening D) (opened : Opened) (lines : List Line) (first : D) (points : List Serial) (sessions : ℕ)
-    → IsOverStore (opening device) key opened (device.seen first) → sessions ≡ opened.shape.sessions → points ≡ opened.points.items → IfOk r (λ x. WerePlayed device key points lines sessions (whole x) (logs x) (medium x) (finished x) (begun x) (fault x))
+pub is_played : {X E D : Type 0} (device : Ghosts D) (whole : X → Bool) (logs : X → List Log) (medium : X → D) (finished : X → Option Finished) (begun : X → Option Version) (fault : X → Option Fault) (r : Result X E) (key : Opening D) (opened : Opened) (lines : List Line) (first its_first : D) (points : List Serial) (sessions : ℕ)
+    → IsOverStore (opening device) key opened (device.seen first) → sessions ≡ opened.shape.sessions → points ≡ opened.points.items → its_first ≡ first → IfOk r (λ x. WerePlayed device key its_first points lines sessions (whole x) (logs x) (medium x) (finished x) (begun x) (fault x))
     → IfOk r (λ x. IsPlayed device opened lines first (whole x) (logs x) (medium x) (finished x) (begun x) (fault x))
-is_played device whole logs medium finished begun fault (Ok x) key opened lines first points sessions over count same played = record {
+is_played {D = D} device whole logs medium finished begun fault (Ok x) key opened lines first its_first points sessions over count same begins played = record {
   key = key;
   over = over;
-  played = subst (λ (n : ℕ). WerePlayed device key opened.points.items lines n (whole x) (logs x) (medium x) (finished x) (begun x) (fault x)) count
-      (subst (λ (ps : List Serial). WerePlayed device key ps lines sessions (whole x) (logs x) (medium x) (finished x) (begun x) (fault x)) same played);
+  played = subst (λ (z : ℕ × List Serial × D). WerePlayed device key z.2 z.1 lines z.0 (whole x) (logs x) (medium x) (finished x) (begun x) (fault x)) (λ i. (count i, same i, begins i)) played;
 }
-is_played device whole logs medium finished begun fault (Err e) key opened lines first points sessions over count same played = tt
+is_played device whole logs medium finished begun fault (Err e) key opened lines first its_first points sessions over count same begins played = tt
 
 -- as many as there were taken, and one more of each
 pub counted : {X Y : Type 0} (xs all : List X) (more : X) (ys : List Y) (next : Y) → all ≡ xs ++ more ∷ [] → length xs ≡ length ys → length all ≡ length (ys ++ next ∷ [])
@@ -246,6 +223,39 @@ pub next_at : {X Z : Type 0} (items given : List X) (first at behind : IntoIter 
 next_at items given first at behind next item held counted by is step =
     let turn = YieldsList-turn (YieldsList-from_vec {s = first} items held counted) given at by next behind item is step in
     slice_get_read items (length items) (length given) item refl turn.0 turn.1
+
+-- ---- a call of the keeper more
+module _ {D : Type 0} (device : Ghosts D) where
+  -- before the first one nothing was seen, and the device is the first
+  pub kept_nothing : (key : Opening D) (first medium : D) (seen : List Happening) → seen ≡ [] → medium ≡ first → WasKept device key first None None None seen medium
+  kept_nothing key first medium seen none same =
+      record { runs = []; kept = (none, same); last = last_of_none TellsFinish; last_begun = last_of_none TellsBegun; refused = last_of_none TellsFault }
+
+  -- a commit that is asked for is one call more
+  pub asked_more : (key : Opening D) (first : D) (kind : CommitKind) (finished : Option Finished) (begun begun' : Option Version) (fault : Option Fault) (answer : Result Version Fault) (seen behind : List Happening) (medium left : D) → HasAsked (opening device) key behind answer
+      → HasKept (Commits kind) seen behind → left ≡ medium → begun' ≡ begun_by begun answer → WasKept device key first finished begun fault seen medium → WasKept device key first finished begun' fault behind left
+  asked_more key first kind finished begun begun' fault answer seen behind medium left asked kept same next was =
+      let run : KeeperRun D = call_run (Asked kind answer) seen behind medium left in
+      record {
+        runs = run ∷ was.runs;
+        kept = ((kept, asked, same), refl, refl, was.kept);
+        last = last_before TellsFinish run was.runs finished (λ its tells. tells) was.last;
+        last_begun = subst (IsLastTold TellsBegun (run ∷ was.runs)) (sym next) (begun_on medium left seen behind was.runs kind answer begun was.last_begun);
+        refused = last_before TellsFault run was.runs fault (λ its tells. tells) was.refused;
+      }
+
+  -- and so is a turn
+  pub turned_more : (key : Opening D) (first : D) (finished finished' : Option Finished) (begun : Option Version) (fault fault' : Option Fault) (answer : Result Turn Fault) (seen behind : List Happening) (medium left : D) → HasTurned (opening device) key behind answer
+      → HasKept Turns seen behind → IsCountedTurn device answer medium left → finished' ≡ finish_by finished answer → fault' ≡ fault_by fault answer → WasKept device key first finished begun fault seen medium → WasKept device key first finished' begun fault' behind left
+  turned_more key first finished finished' begun fault fault' answer seen behind medium left turned kept counted next refuses was =
+      let run : KeeperRun D = call_run (Turned answer) seen behind medium left in
+      record {
+        runs = run ∷ was.runs;
+        kept = ((kept, turned, counted), refl, refl, was.kept);
+        last = subst (IsLastTold TellsFinish (run ∷ was.runs)) (sym next) (finish_on medium left seen behind was.runs answer finished was.last);
+        last_begun = last_before TellsBegun run was.runs begun (λ its tells. tells) was.last_begun;
+        refused = subst (IsLastTold TellsFault (run ∷ was.runs)) (sym refuses) (fault_on medium left seen behind was.runs answer fault was.refused);
+      }
 
 -- a turn of the keeper, as the thread law speaks of it
 pub has_turned : {D : Type 0} (device : Ghosts D) (w w' : Watch (Opening D) D) (answer : Result Turn Fault) → IsTurnOf device w answer w' → HasTurned (opening device) w.key w'.seen answer
@@ -276,10 +286,10 @@ has_asked {D} device kind w w' answer asked =
     })
 
 -- the keeper's device, as the keeper has seen it
-pub is_kept : {D : Type 0} (device : Ghosts D) (w : Watch (Opening D) D) (key : Opening D) (medium : D) (finished : Option Finished) (begun : Option Version) (fault : Option Fault) → w.key ≡ key → medium ≡ w.device → IsWatching device w
-    → WasKept (opening device) w.key finished begun fault w.seen → IsKept device key medium finished begun fault
-is_kept {D} device w key medium finished begun fault same is its was =
-    subst (λ (z : Opening D × D). IsKept device z.0 z.1 finished begun fault) (λ i. (same i, sym is i))
+pub is_kept : {D : Type 0} (device : Ghosts D) (w : Watch (Opening D) D) (place : KeeperPlace D) (first medium : D) (finished : Option Finished) (begun : Option Version) (fault : Option Fault) → record { key = w.key; first = first } ≡ place → medium ≡ w.device → IsWatching device w
+    → WasKept device w.key first finished begun fault w.seen w.device → IsKept device place.key place.first medium finished begun fault
+is_kept {D} device w place first medium finished begun fault same is its was =
+    subst (λ (z : KeeperPlace D × D). IsKept device z.0.key z.0.first z.1 finished begun fault) (λ i. (same i, sym is i))
     (record {
       seen = w.seen;
       is_honest = its.its.honest;

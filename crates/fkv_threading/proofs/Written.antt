@@ -1,5 +1,5 @@
 -- What is written is the report of a run, or a refusal.
-use Rattle.std.proofs.Common.{◌≡◌, ◌↔◌, ◌∙◌, inr, ℕ, List, [], true, false, Option, Some, Result, Ok, Err, IfOk, OnErr, OnOk, subst, sym, refl, append-nil}
+use Rattle.std.proofs.Common.{◌≡◌, ◌↔◌, ◌∙◌, inl, inr, ℕ, List, [], true, false, Option, Some, None, Result, Ok, Err, IfOk, OnErr, OnOk, subst, sym, refl, append-nil}
 use Rattle.std.specs.Io.KnownBytes.{Appends, Keeps}
 use Rattle.fkv_base.specs.declared.classes.StoreClass.{StoreClass}
 use Rattle.fkv_base.specs.declared.faults.Fault.{Fault}
@@ -90,11 +90,24 @@ run_written Ends lines lines' opening sizes Wrote status reported is same ends w
     subst (λ (o : Option Opening). IsRunOnThreads (Ends lines) o Wrote status) (sym is)
     (reported, subst (λ (ls : List Line). Ends ls sizes reported) same ends, wrote, answers)
 
--- so it is of a result
-pub result_written : {F : Type 0} (Ends : List Line → Sizes → Result Report Fault → Type 0) (lines lines' : List Line) (opening : Option Opening) (sizes : Sizes) (before behind : Option (List ℕ)) (r : Result ℕ F) (reported : Result Report Fault)
-    → opening ≡ Some (openings.Shape sizes) → lines' ≡ lines → Ends lines' sizes reported → OnOk r (Appends before behind (reported_text reported)) → IfOk r (λ status. status ≡ reported_status reported) → IfOk r (IsRunOnThreads (Ends lines) opening (Appends before behind))
-result_written Ends lines lines' opening sizes before behind (Ok status) reported is same ends wrote answers = run_written Ends lines lines' opening sizes (Appends before behind) status reported is same ends wrote answers
-result_written Ends lines lines' opening sizes before behind (Err e) reported is same ends wrote answers = tt
+-- what is said of a run's end and of what was written may be less
+pub run_weaker : (Ends Ends' : Sizes → Result Report Fault → Type 0) (Wrote Wrote' : List ℕ → Type 0) (opening : Option Opening) (status : ℕ) → ((sizes : Sizes) (reported : Result Report Fault) → Ends sizes reported → Ends' sizes reported) → ((text : List ℕ) → Wrote text → Wrote' text)
+    → IsRunOnThreads Ends opening Wrote status → IsRunOnThreads Ends' opening Wrote' status
+run_weaker Ends Ends' Wrote Wrote' (Some (openings.Shape sizes)) status ends_less wrote_less (reported, ends, wrote, answers) = (reported, ends_less sizes reported ends, wrote_less (reported_text reported) wrote, answers)
+run_weaker Ends Ends' Wrote Wrote' (Some openings.Open) status ends_less wrote_less (wrote, answers) = (wrote_less [] wrote, answers)
+run_weaker Ends Ends' Wrote Wrote' None status ends_less wrote_less (wrote, answers) = (wrote_less [] wrote, answers)
+
+-- a whole text is a beginning of itself
+pub whole_breaks : (Ends : Sizes → Result Report Fault → Type 0) (opening : Option Opening) (before behind : Option (List ℕ)) (status : ℕ) → IsRunOnThreads Ends opening (Appends before behind) status → BreaksOff (WithSomeStatus (IsTextOnThreads Ends opening)) before behind
+whole_breaks Ends (Some (openings.Shape sizes)) before behind status (reported, ends, wrote, answers) =
+    let text : List ℕ = reported_text reported in
+    (text, inr ([], subst (WithSomeStatus (IsTextOnThreads Ends (Some (openings.Shape sizes)))) (sym (append-nil text)) (status, (reported, ends, refl, answers))), wrote)
+whole_breaks Ends (Some openings.Open) before behind status (wrote, answers) = ([], inl refl, wrote)
+whole_breaks Ends None before behind status (wrote, answers) = ([], inl refl, wrote)
+
+-- behind a flush it stays written
+pub run_flushed : (Ends : Sizes → Result Report Fault → Type 0) (opening : Option Opening) (status : ℕ) (a b c : Option (List ℕ)) → IsRunOnThreads Ends opening (Appends a b) status → Keeps b c → IsRunOnThreads Ends opening (Appends a c) status
+run_flushed Ends opening status a b c its kept = run_weaker Ends Ends (Appends a b) (Appends a c) opening status (λ sizes reported ends. ends) (λ text wrote. appends_kept a b c text wrote kept) its
 
 -- where the writer fails, a beginning of that is written
 pub run_breaks : (Ends : List Line → Sizes → Result Report Fault → Type 0) (lines lines' : List Line) (opening : Option Opening) (sizes : Sizes) (before behind : Option (List ℕ)) (reported : Result Report Fault)

@@ -26,6 +26,7 @@ use Rattle.fkv_threads.specs.Below.fkv_table.Happening.TheVariants.{Commits, Tur
 use Rattle.fkv_threads.specs.Below.fkv_table.KeeperCalls.{HasKept}
 use Rattle.fkv_threads.specs.Below.fkv_table.Keeps.{IsAfterSeen, IsKeeperReady}
 use Rattle.fkv_threads.specs.Below.fkv_table.Starts.{EachAt}
+use Rattle.fkv_threads.specs.Below.fkv_table.Turns.{IsCounted, told_by_device}
 use Rattle.fkv_thread_scripts.specs.Calls.{calls_of}
 use Rattle.fkv_thread_scripts.specs.Logs.{accepted_by, durable_by, told_by}
 use Rattle.fkv_thread_scripts.specs.declared.logs.Log.{Log}
@@ -115,11 +116,19 @@ pub data KeeperCall : Type 0 where
   Turned : Result Turn Fault → KeeperCall
   Asked : CommitKind → Result Version Fault → KeeperCall
 
--- A call of the keeper. `before` is what its pass had seen when it was called, and `behind` what it has seen behind the answer.
-pub record KeeperRun : Type 0 where
+-- A call of the keeper. `before` is what its pass had seen when it was called, and `behind` what it has seen behind the answer. `medium` is its device as it was called, and
+-- `left` as the call has left it.
+pub record KeeperRun (D : Type 0) : Type 0 where
   pub call : KeeperCall
   pub before : List Happening
   pub behind : List Happening
+  pub medium : D
+  pub left : D
+
+-- The keeper as a contract sees it: the key of the table at which it sits, and the device with which it began.
+pub record KeeperPlace (D : Type 0) : Type 0 where
+  pub key : Opening D
+  pub first : D
 
 -- behind a turn with this answer: the commit that it tells as finished, or the one before
 abbrev pub newer : Option Finished → Option Finished → Option Finished
@@ -157,14 +166,14 @@ TellsFault (Turned (Err Memory)) its = ⊥
 TellsFault (Turned (Err fault)) its = fault ≡ its
 TellsFault call its = ⊥
 
-module _ {X : Type 0} (Tells : KeeperCall → X → Type 0) where
+module _ {D X : Type 0} (Tells : KeeperCall → X → Type 0) where
   -- this call tells none
-  abbrev pub TellsNone : KeeperRun → Type 0
+  abbrev pub TellsNone : KeeperRun D → Type 0
   TellsNone run = (its : X) → Tells run.call its → ⊥
 
   -- Of these calls, the newest first, one tells this, and no call behind it tells any. Or none of them does.
-  abbrev pub IsLastTold : List KeeperRun → Option X → Type 0
-  IsLastTold runs (Some its) = (behind : List KeeperRun) × (run : KeeperRun) × (before : List KeeperRun) × (runs ≡ behind ++ run ∷ before) × Tells run.call its × All TellsNone behind
+  abbrev pub IsLastTold : List (KeeperRun D) → Option X → Type 0
+  IsLastTold runs (Some its) = (behind : List (KeeperRun D)) × (run : KeeperRun D) × (before : List (KeeperRun D)) × (runs ≡ behind ++ run ∷ before) × Tells run.call its × All TellsNone behind
   IsLastTold runs None = All TellsNone runs
 
 module _ {K : Type 0} (at : K → World) where
@@ -207,48 +216,52 @@ module _ {K : Type 0} (at : K → World) where
     pub seen : (let pass = me in pass.0.seen ≡ behind)
     pub told : (let k = machine in IsBeginTold (keeper_ask k.shape k.places k.state) answer)
 
-  -- A call of the keeper stands in the list, once, and is answered so.
-  abbrev pub HasKeptCall : K → KeeperCall → List Happening → List Happening → Type 0
-  HasKeptCall key (Turned answer) before behind = HasKept Turns before behind × HasTurned at key behind answer
-  HasKeptCall key (Asked kind answer) before behind = HasKept (Commits kind) before behind × HasAsked key behind answer
-
-  -- All calls that the keeper has made at the table, the newest first, where its pass has seen these events. Each call's list goes on from that of the one before, and
-  -- the first began with nothing seen. So each turn that stands in the list is one of these.
-  abbrev pub AreKept : K → List KeeperRun → List Happening → Type 0
-  AreKept key [] seen = seen ≡ []
-  AreKept key (its ∷ before) seen = HasKeptCall key its.call its.before its.behind × (its.behind ≡ seen) × AreKept key before its.before
-
-  -- Of all its calls this is the last commit that a turn has told as finished, the last number that was told as begun, and the fault for which a turn has ended the run.
-  pub record WasKept (key : K) (finished : Option Finished) (begun : Option Version) (fault : Option Fault) (seen : List Happening) : Type 0 where
-    pub runs : List KeeperRun
-    pub kept : AreKept key runs seen
-    pub last : IsLastTold TellsFinish runs finished
-    pub last_begun : IsLastTold TellsBegun runs begun
-    pub refused : IsLastTold TellsFault runs fault
-
   -- each log is what its session was told
   abbrev pub AreLogs : K → List Serial → List Line → Bool → List Log → Type 0
   AreLogs key points lines whole logs = EachAt logs (λ number log. IsTold (part_at key points lines number) whole log)
 
 module _ {D : Type 0} (device : Ghosts D) where
+  -- A turn with this answer has called its device, and has left it so. It tells `Device` only if the device has counted a failure in these calls, and it does if the device refuses one of them.
+  abbrev pub IsCountedTurn : Result Turn Fault → D → D → Type 0
+  IsCountedTurn answer medium left = (count : ℕ) × IsCounted count (told_by_device answer) (device.failed medium) (device.failed left) (device.refuses medium) (device.refuses left)
+
+  -- A call of the keeper stands in the list, once, and is answered so. A turn has left its device so; to ask for a commit is no call of it.
+  abbrev pub HasKeptCall : Opening D → KeeperCall → List Happening → List Happening → D → D → Type 0
+  HasKeptCall key (Turned answer) before behind medium left = HasKept Turns before behind × HasTurned (opening device) key behind answer × IsCountedTurn answer medium left
+  HasKeptCall key (Asked kind answer) before behind medium left = HasKept (Commits kind) before behind × HasAsked (opening device) key behind answer × (left ≡ medium)
+
+  -- All calls that the keeper has made at the table, the newest first, where its pass has seen these events, and its device is so. Each call's list and device go on from those of the one
+  -- before, and the first began with nothing seen and with the first device. So each turn that stands in the list is one of these.
+  abbrev pub AreKept : Opening D → D → List (KeeperRun D) → List Happening → D → Type 0
+  AreKept key first [] seen medium = (seen ≡ []) × (medium ≡ first)
+  AreKept key first (its ∷ before) seen medium = HasKeptCall key its.call its.before its.behind its.medium its.left × (its.behind ≡ seen) × (its.left ≡ medium) × AreKept key first before its.before its.medium
+
+  -- Of all its calls this is the last commit that a turn has told as finished, the last number that was told as begun, and the fault for which a turn has ended the run.
+  pub record WasKept (key : Opening D) (first : D) (finished : Option Finished) (begun : Option Version) (fault : Option Fault) (seen : List Happening) (medium : D) : Type 0 where
+    pub runs : List (KeeperRun D)
+    pub kept : AreKept key first runs seen medium
+    pub last : IsLastTold TellsFinish runs finished
+    pub last_begun : IsLastTold TellsBegun runs begun
+    pub refused : IsLastTold TellsFault runs fault
+
   -- The keeper's medium is honest and is as the calls leave it that the list of events gives. These are the last commit that a turn has told as finished, the last number
   -- that was told as begun, and the fault for which a turn has ended the run.
-  pub record IsKept (key : Opening D) (medium : D) (finished : Option Finished) (begun : Option Version) (fault : Option Fault) : Type 0 where
+  pub record IsKept (key : Opening D) (first medium : D) (finished : Option Finished) (begun : Option Version) (fault : Option Fault) : Type 0 where
     pub seen : List Happening
     pub is_honest : device.honest medium
     pub behind : IsAfterSeen (opening device) key seen (device.seen medium) (device.may_leave medium)
-    pub told : WasKept (opening device) key finished begun fault seen
+    pub told : WasKept key first finished begun fault seen medium
 
   -- ---- a run
-  -- What threads leave that have played lines at a table: a log of each session, which is what it was told from its point on, and the keeper's medium and
-  -- what it was told.
-  pub record WerePlayed (key : Opening D) (points : List Serial) (lines : List Line) (sessions : ℕ) (whole : Bool) (logs : List Log) (medium : D) (finished : Option Finished) (begun : Option Version) (fault : Option Fault) : Type 0 where
+  -- What threads leave that have played lines at a table: a log of each session, which is what it was told from its point on, and the keeper's medium, which was this one
+  -- at first, and what it was told.
+  pub record WerePlayed (key : Opening D) (first : D) (points : List Serial) (lines : List Line) (sessions : ℕ) (whole : Bool) (logs : List Log) (medium : D) (finished : Option Finished) (begun : Option Version) (fault : Option Fault) : Type 0 where
     pub count : length logs ≡ sessions
     pub each : AreLogs (opening device) key points lines whole logs
-    pub kept : IsKept key medium finished begun fault
+    pub kept : IsKept key first medium finished begun fault
 
   -- So it is at the table of this store, which the medium held as it was opened.
   pub record IsPlayed (opened : Opened) (lines : List Line) (first : D) (whole : Bool) (logs : List Log) (medium : D) (finished : Option Finished) (begun : Option Version) (fault : Option Fault) : Type 0 where
     pub key : Opening D
     pub over : IsOverStore (opening device) key opened (device.seen first)
-    pub played : WerePlayed key opened.points.items lines opened.shape.sessions whole logs medium finished begun fault
+    pub played : WerePlayed key first opened.points.items lines opened.shape.sessions whole logs medium finished begun fault

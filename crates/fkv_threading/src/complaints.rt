@@ -18,20 +18,20 @@ impl fmt::Display for Faulty {
     }
 }
 
-/// Tells what the status of a run over the file of this path means, or what is wrong with the file.
+/// Tells what the status of a run means, or what is wrong with the file of this path.
 pub(crate) fn complain_of_end<E: Write>(
     complaints: &mut E,
-    path: &str,
+    file: Option<&str>,
     status: u8,
     trouble: Option<Trouble>,
 ) {
-    match trouble {
-        Some(trouble) => complain(complaints, &FileTrouble { path, trouble }),
-        None => complain_of_status(complaints, status),
+    match (file, trouble) {
+        (Some(path), Some(trouble)) => complain(complaints, &FileTrouble { path, trouble }),
+        _ => complain_of_status(complaints, status),
     }
 }
 
-pub(crate) fn complain_of_status<E: Write>(complaints: &mut E, status: u8) {
+fn complain_of_status<E: Write>(complaints: &mut E, status: u8) {
     match status {
         1 => complain(
             complaints,

@@ -31,7 +31,7 @@ pub(crate) fn play_keeper<D: Device + Drop, R: Wait>(
     sessions: u64,
     mut keeping: Keeping<D>,
 ) -> KeeperEnd<D>
-    ensures { said.IsKept D.Device keeping result.device result.finished result.begun result.fault }
+    ensures { said.IsKept D.Device keeping.key keeping.first result.device result.finished result.begun result.fault }
 {
     play_lines(rt, progress, lines, &mut keeping);
     progress.end_keeper_lines();

@@ -8,12 +8,15 @@ use fkv_disk::Device;
 use fkv_keeper::{Finished, Turn};
 use fkv_threads::KeeperSeat;
 use std::marker::Model;
+use std::snapshot::Snapshot;
 
 /// A keeper that is ready for its next call, with what all its calls have told: the last commit that a turn told as finished, the last number that was told as
-/// begun, and the fault for which a turn has ended the run. A contract sees it as the table's key.
+/// begun, and the fault for which a turn has ended the run. A contract sees it as the table's key, and the device with which it began.
 #[derive(Drop)]
 pub(crate) struct Keeping<D: Device + Drop> {
     pub(crate) seat: KeeperSeat<D>,
+    /// The device, as the table was opened over it.
+    pub(crate) first: Snapshot<D>,
     pub(crate) finished: Option<Finished>,
     pub(crate) begun: Option<Version>,
     pub(crate) fault: Option<Fault>,
@@ -23,11 +26,12 @@ impl<D: Device + Drop> Model for Keeping<D> {
     ghost use Rattle.std.specs.Prelude.{◌≡◌, false};
     ghost use Rattle.fkv_threading.specs.Said as said;
 
-    ghost Value = { said.Opening D };
+    ghost Value = { said.KeeperPlace D };
 
-    ghost view = { λ s. s.seat.key };
+    ghost view = { λ s. record { key = s.seat.key; first = s.first.value } };
 
-    ghost invariant = { λ s. (s.seat.in_turn ≡ false) × said.WasKept (said.opening D.Device) s.seat.key s.finished s.begun s.fault s.seat.seen };
+    ghost invariant = { λ s. (s.seat.in_turn ≡ false)
+        × said.WasKept D.Device s.seat.key s.first.value s.finished s.begun s.fault s.seat.seen s.seat.device };
 }
 
 impl<D: Device + Drop> Keeping<D> {
@@ -55,13 +59,14 @@ impl<D: Device + Drop> Keeping<D> {
 
     /// The device, behind the turns' calls, and what all calls have told.
     pub(crate) fn end(self) -> KeeperEnd<D>
-        ensures { said.IsKept D.Device self result.device result.finished result.begun result.fault }
+        ensures { said.IsKept D.Device self.key self.first result.device result.finished result.begun result.fault }
     {
         let Keeping {
             seat,
             finished,
             begun,
             fault,
+            ..
         } = self;
         KeeperEnd {
             device: seat.into_device(),

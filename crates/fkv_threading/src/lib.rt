@@ -16,5 +16,5 @@ mod sessions;
 pub use gates::{Gate, Open};
 pub use keepers::KeeperEnd;
 pub use playing::{Played, play};
-pub use programs::{run_threads, run_threads_in_file};
+pub use programs::run_threads;
 pub use runs::{refuse_seed, run};

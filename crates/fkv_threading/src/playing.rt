@@ -17,6 +17,7 @@ use fkv_opening::Opened;
 use fkv_thread_scripts::{Log, calls_of};
 use fkv_threads::{OpenSeats, Seated, Table, open_seats};
 use std::alloc::Global;
+use std::snapshot::Snapshot;
 use std::sync::Wait;
 use std::thread::{self, PromisedHandle, Scope, Threads};
 
@@ -32,8 +33,8 @@ pub struct Played<D: Device + Drop> {
 
 /// Plays lines over a store that was opened from this device: each session's on a thread of its own, and the keeper's on the caller's. It returns
 /// when they have all ended. Each log is what its session was told by its calls at the table, which are those of its lines. The keeper's last commit is
-/// the last that a turn told as finished, of all turns, and its fault that for which a turn has ended the run. `Memory` where memory or a thread was
-/// refused; then the store is dropped, the device too.
+/// the last that a turn told as finished, of all turns, and its fault that for which a turn has ended the run. A turn tells `Device` only if the device has
+/// counted a failure in it. `Memory` where memory or a thread was refused; then the store is dropped, the device too.
 pub fn play<D: Device + Drop + Send, G: Gate + Sync, R: Threads + Wait + Sync>(
     rt: &R,
     alloc: Global,
@@ -50,6 +51,7 @@ pub fn play<D: Device + Drop + Send, G: Gate + Sync, R: Threads + Wait + Sync>(
     ensures err { said.OnErr result (result ≡ said.Err said.Memory) }
 {
     let points = copy_of(alloc, &opened.points)?;
+    let first = Snapshot::of(&device);
     let OpenSeats {
         table,
         sessions,
@@ -57,6 +59,7 @@ pub fn play<D: Device + Drop + Send, G: Gate + Sync, R: Threads + Wait + Sync>(
     } = open_seats(alloc, opened, device)?;
     let keeping = Keeping {
         seat: keeper,
+        first,
         finished: None,
         begun: None,
         fault: None,
@@ -76,8 +79,8 @@ fn play_over<'t, D: Device + Drop + Send, G: Gate + Sync, R: Threads + Wait + Sy
     gate: &G,
 ) -> Result<Played<D>, Fault>
     requires first { said.AreFirst table.now.table.shared.key table.now.table.shared.table_id sessions.items }
-    requires keeper { keeping ≡ table.now.table.shared.key }
-    ensures ok { said.IfOk result (λ its. said.WerePlayed D.Device table.now.table.shared.key points.now lines.now
+    requires keeper { keeping.key ≡ table.now.table.shared.key }
+    ensures ok { said.IfOk result (λ its. said.WerePlayed D.Device table.now.table.shared.key keeping.first points.now lines.now
         (length sessions.items) its.is_whole its.logs.items its.keeper.device its.keeper.finished its.keeper.begun its.keeper.fault) }
     ensures err { said.OnErr result (result ≡ said.Err said.Memory) }
 {
@@ -138,8 +141,8 @@ fn play_seats<'t, D: Device + Drop + Send, G: Gate + Sync, R: Threads + Wait + S
     gate: &G,
 ) -> Result<Played<D>, Fault>
     requires seats { said.AreSeated table.now.table.shared.key points.now lines.now players.items }
-    requires keeper { keeping ≡ table.now.table.shared.key }
-    ensures ok { said.IfOk result (λ its. said.WerePlayed D.Device table.now.table.shared.key points.now lines.now
+    requires keeper { keeping.key ≡ table.now.table.shared.key }
+    ensures ok { said.IfOk result (λ its. said.WerePlayed D.Device table.now.table.shared.key keeping.first points.now lines.now
         (length players.items) its.is_whole its.logs.items its.keeper.device its.keeper.finished its.keeper.begun its.keeper.fault) }
     ensures err { said.OnErr result (result ≡ said.Err said.Memory) }
 {
@@ -149,8 +152,8 @@ fn play_seats<'t, D: Device + Drop + Send, G: Gate + Sync, R: Threads + Wait + S
         thread::scope_env(),
         rt,
         |scope| -> Result<Played<D>, Fault>
-            requires { said.AreSeated table.now.table.shared.key points.now lines.now players.items × (keeping ≡ table.now.table.shared.key) }
-            ensures ok { said.IfOk result (λ its. said.WerePlayed D.Device table.entry.now.table.shared.key points.entry.now lines.entry.now
+            requires { said.AreSeated table.now.table.shared.key points.now lines.now players.items × (keeping.key ≡ table.now.table.shared.key) }
+            ensures ok { said.IfOk result (λ its. said.WerePlayed D.Device table.entry.now.table.shared.key keeping.first points.entry.now lines.entry.now
                 (length players.items) its.is_whole its.logs.items its.keeper.device its.keeper.finished its.keeper.begun its.keeper.fault) }
             ensures err { said.OnErr result (result ≡ said.Err said.Memory) }
         {
@@ -179,8 +182,8 @@ fn play_in<'s, 't: 's, E, D: Device + Drop + Send, G: Gate + Sync, R: Threads + 
     keeping: Keeping<D>,
 ) -> Result<Played<D>, Fault>
     requires seats { said.AreSeated table.now.table.shared.key points.now lines.now players.items }
-    requires keeper { keeping ≡ table.now.table.shared.key }
-    ensures ok { said.IfOk result (λ its. said.WerePlayed D.Device table.now.table.shared.key points.now lines.now
+    requires keeper { keeping.key ≡ table.now.table.shared.key }
+    ensures ok { said.IfOk result (λ its. said.WerePlayed D.Device table.now.table.shared.key keeping.first points.now lines.now
         (length players.items) its.is_whole its.logs.items its.keeper.device its.keeper.finished its.keeper.begun its.keeper.fault) }
     ensures err { said.OnErr result (result ≡ said.Err said.Memory) }
 {

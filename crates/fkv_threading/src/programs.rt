@@ -1,5 +1,5 @@
 //! A script on threads, from the line that makes its store to its report.
-ghost use Rattle.std.specs.Prelude.{◌≡◌, ◌⊎◌, Some, None, true, if◌then◌else◌};
+ghost use Rattle.std.specs.Prelude.{◌≡◌, ◌≢◌, ◌≤◌, ◌⊎◌, [], Some, None, true, if◌then◌else◌};
 ghost use Rattle.fkv_threading.specs.Said as said;
 
 use crate::gates::Gate;
@@ -12,6 +12,7 @@ use fkv_files::{Mirror, StorePlaces, Trouble};
 use fkv_keeper::Finished;
 use fkv_lines::{Line, Opening, Script, Sizes};
 use fkv_opening::recover;
+use fkv_options::{Options, RunFault, Verdict};
 use fkv_pairs::content;
 use fkv_runs::write_text;
 use fkv_texts::write_refusal;
@@ -21,60 +22,147 @@ use std::io::{self, Write};
 use std::sync::Wait;
 use std::thread::Threads;
 
-/// Runs a script for threads over a new store in memory, and writes its report: each session's lines on a thread of its own, and the keeper's on the
-/// caller's. The status: 0; 1 where something differs; 2 where the sizes are no shape's; 3 where a store or a turn was refused. An `Err`
-/// is memory, a thread or the output; then what is written is a beginning.
-#[tactic(auto, using(fkv_texts::proofs::Shown::appends_nothing))]
-pub fn run_threads<G: Gate + Sync, W: Write, R: Threads + Wait + Sync>(
+/// Runs a script for threads over a new store, in memory or in the file that the options name, and writes its report. Each session's lines run on a thread of
+/// their own, and the keeper's on the caller's. A file is opened again for the report. What there is to print is printed. Of the options it goes by the file
+/// alone.
+///
+/// An `Err` is a run that ended early. Its status is 2 where the sizes are no shape's, and 3 where a store or a turn was refused. It is 4 where memory, a thread or
+/// the output was; then what is written is a beginning.
+pub fn run_threads<G: Gate + Sync, W: Write, R: Threads + Wait + Sync, S: StorePlaces>(
     rt: &R,
+    places: &S,
     alloc: Global,
+    script: &Script,
+    output: &mut W,
+    options: &Options,
+    gate: &G,
+) -> Result<Verdict, RunFault>
+where
+    S::Disk: Send,
+    ensures whole { said.ended_status result ≢ 4 → said.IsRunOnThreads (said.IsEndIn
+        (said.IsEndInMemory ⟦<Fuse<MemDisk> as Device>⟧ ⟦<MemDisk as Device>⟧)
+        (said.WithSomeTrouble (said.IsEndInFile S.Disk.Device ⟦<Mirror<S::Disk> as Device>⟧ ⟦<ReadAhead<S::Disk> as Device>⟧
+        (S.is_opened places.now) (S.is_made places.now))) (said.option_map said.string_bytes options.now.file) script.now.lines.items)
+        script.now.opening (said.Appends (W.contents output.old) (W.contents output.new)) (said.ended_status result) }
+    ensures part { said.ended_status result ≡ 4 → said.BreaksOff (said.WithSomeStatus (said.IsTextOnThreads (said.IsEndIn
+        (said.IsEndInMemory ⟦<Fuse<MemDisk> as Device>⟧ ⟦<MemDisk as Device>⟧)
+        (said.WithSomeTrouble (said.IsEndInFile S.Disk.Device ⟦<Mirror<S::Disk> as Device>⟧ ⟦<ReadAhead<S::Disk> as Device>⟧
+        (S.is_opened places.now) (S.is_made places.now))) (said.option_map said.string_bytes options.now.file) script.now.lines.items)
+        script.now.opening)) (W.contents output.old) (W.contents output.new) }
+    ensures early { said.IfErr result (λ fault. (2 ≤ fault.status) × (said.string_bytes fault.text ≡ [])) }
+{
+    match run_flushed(rt, places, alloc, path_of(options), script, output, gate) {
+        Ok(status) => ended_at(alloc, status),
+        Err(_) => Err(RunFault::want(alloc)),
+    }
+}
+
+/// The path of the file that the options name.
+fn path_of(options: &Options) -> Option<&str>
+    ensures { said.option_map (λ path. path.now) result ≡ said.option_map said.string_bytes options.now.file }
+{
+    match &options.file {
+        Some(path) => Some(path.as_str()),
+        None => None,
+    }
+}
+
+/// How a run ended that has come to this status, and has written its texts: early, where that is above 1.
+fn ended_at(alloc: Global, status: u8) -> Result<Verdict, RunFault>
+    ensures status { said.ended_status result ≡ status }
+    ensures early { said.IfErr result (λ fault. (2 ≤ fault.status) × (said.string_bytes fault.text ≡ [])) }
+{
+    match status {
+        0 => Ok(Verdict::Agrees),
+        1 => Ok(Verdict::Differs),
+        _ => Err(RunFault::printed(alloc, status)),
+    }
+}
+
+/// Runs a script as `run_script` does, and flushes the output. The status.
+fn run_flushed<G: Gate + Sync, W: Write, R: Threads + Wait + Sync, S: StorePlaces>(
+    rt: &R,
+    places: &S,
+    alloc: Global,
+    file: Option<&str>,
     script: &Script,
     output: &mut W,
     gate: &G,
 ) -> io::Result<u8>
-    ensures whole { said.IfOk result (said.IsRunOnThreads (said.IsEndInMemory ⟦<Fuse<MemDisk> as Device>⟧ ⟦<MemDisk as Device>⟧
-        script.now.lines.items) script.now.opening (said.Appends (W.contents output.old) (W.contents output.new))) }
-    ensures part { said.OnErr result (said.BreaksOff (said.WithSomeStatus (said.IsTextOnThreads
-        (said.IsEndInMemory ⟦<Fuse<MemDisk> as Device>⟧ ⟦<MemDisk as Device>⟧ script.now.lines.items) script.now.opening))
-        (W.contents output.old) (W.contents output.new)) }
+where
+    S::Disk: Send,
+    ensures whole { said.IfOk result (said.IsRunOnThreads (said.IsEndIn
+        (said.IsEndInMemory ⟦<Fuse<MemDisk> as Device>⟧ ⟦<MemDisk as Device>⟧)
+        (said.WithSomeTrouble (said.IsEndInFile S.Disk.Device ⟦<Mirror<S::Disk> as Device>⟧ ⟦<ReadAhead<S::Disk> as Device>⟧
+        (S.is_opened places.now) (S.is_made places.now))) (said.option_map (λ path. path.now) file.entry) script.now.lines.items)
+        script.now.opening (said.Appends (W.contents output.old) (W.contents output.new))) }
+    ensures part { said.OnErr result (said.BreaksOff (said.WithSomeStatus (said.IsTextOnThreads (said.IsEndIn
+        (said.IsEndInMemory ⟦<Fuse<MemDisk> as Device>⟧ ⟦<MemDisk as Device>⟧)
+        (said.WithSomeTrouble (said.IsEndInFile S.Disk.Device ⟦<Mirror<S::Disk> as Device>⟧ ⟦<ReadAhead<S::Disk> as Device>⟧
+        (S.is_opened places.now) (S.is_made places.now))) (said.option_map (λ path. path.now) file.entry) script.now.lines.items)
+        script.now.opening)) (W.contents output.old) (W.contents output.new)) }
 {
-    let sizes = match script.opening {
-        Some(Opening::Shape(sizes)) => sizes,
-        _ => return Ok(0),
-    };
-    let reported = report_in_memory(rt, alloc, sizes, &script.lines, gate);
-    write_reported(alloc, output, reported)
+    let (status, _) = run_script(rt, places, alloc, file, script, output, gate)?;
+    output.flush()?;
+    Ok(status)
 }
 
-/// The same over a new store in the file of this path, which is opened again for the report. Behind the status stands what is wrong with the
-/// file, if that is why it is 3.
+/// Runs a script over a new store, in memory or in the file of this path, and writes its report. The status: 0; 1 where something differs; 2 where the sizes
+/// are no shape's; 3 where a store or a turn was refused. Behind it stands what is wrong with the file, if that is why it is 3. An `Err` is memory, a thread or
+/// the output; then what is written is a beginning.
 #[tactic(auto, using(fkv_texts::proofs::Shown::appends_nothing))]
-pub fn run_threads_in_file<G: Gate + Sync, W: Write, R: Threads + Wait + Sync, S: StorePlaces>(
+pub(crate) fn run_script<G: Gate + Sync, W: Write, R: Threads + Wait + Sync, S: StorePlaces>(
     rt: &R,
     places: &S,
     alloc: Global,
-    path: &str,
+    file: Option<&str>,
     script: &Script,
     output: &mut W,
     gate: &G,
 ) -> io::Result<(u8, Option<Trouble>)>
 where
     S::Disk: Send,
-    ensures whole { said.IfOk result (λ end. said.IsRunOnThreads (said.IsEndInFile S.Disk.Device ⟦<Mirror<S::Disk> as Device>⟧
-        ⟦<ReadAhead<S::Disk> as Device>⟧ (S.is_opened places.now) (S.is_made places.now) path.now script.now.lines.items) script.now.opening
-        (said.Appends (W.contents output.old) (W.contents output.new)) end.0) }
-    ensures part { said.OnErr result (said.BreaksOff (said.WithSomeStatus (said.IsTextOnThreads
-        (said.IsEndInFile S.Disk.Device ⟦<Mirror<S::Disk> as Device>⟧ ⟦<ReadAhead<S::Disk> as Device>⟧ (S.is_opened places.now)
-        (S.is_made places.now) path.now script.now.lines.items) script.now.opening)) (W.contents output.old) (W.contents output.new)) }
+    ensures whole { said.IfOk result (λ end. said.IsRunOnThreads (said.IsEndIn
+        (said.IsEndInMemory ⟦<Fuse<MemDisk> as Device>⟧ ⟦<MemDisk as Device>⟧)
+        (said.IsEndInFile S.Disk.Device ⟦<Mirror<S::Disk> as Device>⟧ ⟦<ReadAhead<S::Disk> as Device>⟧
+        (S.is_opened places.now) (S.is_made places.now) end.1) (said.option_map (λ path. path.now) file.entry) script.now.lines.items)
+        script.now.opening (said.Appends (W.contents output.old) (W.contents output.new)) end.0) }
+    ensures part { said.OnErr result (said.BreaksOff (said.WithSomeStatus (said.IsTextOnThreads (said.IsEndIn
+        (said.IsEndInMemory ⟦<Fuse<MemDisk> as Device>⟧ ⟦<MemDisk as Device>⟧)
+        (said.WithSomeTrouble (said.IsEndInFile S.Disk.Device ⟦<Mirror<S::Disk> as Device>⟧ ⟦<ReadAhead<S::Disk> as Device>⟧
+        (S.is_opened places.now) (S.is_made places.now))) (said.option_map (λ path. path.now) file.entry) script.now.lines.items)
+        script.now.opening)) (W.contents output.old) (W.contents output.new)) }
 {
     let sizes = match script.opening {
         Some(Opening::Shape(sizes)) => sizes,
         _ => return Ok((0, None)),
     };
-    let reported = report_in_file(rt, places, alloc, path, sizes, &script.lines, gate);
-    let (reported, trouble) = told_apart(reported);
+    let (reported, trouble) = end_of_run(rt, places, alloc, file, sizes, &script.lines, gate);
     let status = write_reported(alloc, output, reported)?;
     Ok((status, trouble))
+}
+
+/// The report of these lines over a new store of these sizes, in memory or in the file of this path. Behind it stands what is wrong with the file, if that is why
+/// there is none.
+fn end_of_run<G: Gate + Sync, R: Threads + Wait + Sync, S: StorePlaces>(
+    rt: &R,
+    places: &S,
+    alloc: Global,
+    file: Option<&str>,
+    sizes: Sizes,
+    lines: &[Line],
+    gate: &G,
+) -> (Result<Report, Fault>, Option<Trouble>)
+where
+    S::Disk: Send,
+    ensures { said.IsEndIn (said.IsEndInMemory ⟦<Fuse<MemDisk> as Device>⟧ ⟦<MemDisk as Device>⟧)
+        (said.IsEndInFile S.Disk.Device ⟦<Mirror<S::Disk> as Device>⟧ ⟦<ReadAhead<S::Disk> as Device>⟧
+        (S.is_opened places.now) (S.is_made places.now) result.1) (said.option_map (λ path. path.now) file.entry) lines.now sizes result.0 }
+{
+    match file {
+        Some(path) => told_apart(report_in_file(rt, places, alloc, path, sizes, lines, gate)),
+        None => (report_in_memory(rt, alloc, sizes, lines, gate), None),
+    }
 }
 
 /// Why there is no report of a run over a file.
@@ -86,17 +174,17 @@ pub(crate) enum NoReport {
     Closed(Trouble),
 }
 
-/// What is written of a run, and what is wrong with the file where that is why there is no report. As a file is opened, memory may be refused or a call of
-/// the device fail, and no other fault is met.
+/// What is written of a run, and what is wrong with the file where that is why there is no report: it is then refused as the device's failure. Memory that was
+/// refused is no trouble with the file.
 fn told_apart(reported: Result<Report, NoReport>) -> (Result<Report, Fault>, Option<Trouble>)
+    ensures closed { said.IfSome result.1 (λ trouble. (result.0 ≡ said.Err said.Device) × (reported ≡ said.Err (said.Closed trouble))) }
     ensures ok { said.IfOk result.0 (λ report. reported ≡ said.Ok report) }
-    ensures err { said.IfErr result.0 (λ why. said.IsOfMedium why ⊎ (reported ≡ said.Err (said.Refused why))) }
+    ensures err { result.1 ≡ None → said.IfErr result.0 (λ why. (why ≡ said.Memory) ⊎ (reported ≡ said.Err (said.Refused why))) }
 {
     match reported {
         Ok(report) => (Ok(report), None),
         Err(NoReport::Refused(fault)) => (Err(fault), None),
         Err(NoReport::Closed(Trouble::Fault(Fault::Memory))) => (Err(Fault::Memory), None),
-        Err(NoReport::Closed(Trouble::Fault(_))) => (Err(Fault::Device), None),
         Err(NoReport::Closed(trouble)) => (Err(Fault::Device), Some(trouble)),
     }
 }

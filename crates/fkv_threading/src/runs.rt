@@ -2,9 +2,9 @@
 ghost use Rattle.std.specs.Prelude.{◌≡◌};
 ghost use Rattle.fkv_threading.specs.Said as said;
 
-use crate::complaints::{Faulty, complain, complain_of_end, complain_of_status};
+use crate::complaints::{Faulty, complain, complain_of_end};
 use crate::gates::Open;
-use crate::programs::{run_threads, run_threads_in_file};
+use crate::programs::run_script;
 use fkv_base::{Fault, ScriptFault};
 use fkv_disk::{Device, Fuse, MemDisk, ReadAhead};
 use fkv_files::{Mirror, StorePlaces};
@@ -36,13 +36,13 @@ where
     S::Disk: Send,
     ensures whole { said.IfOk result (λ status. said.Writes (said.IsRunOfInput (said.IsEndIn
         (said.IsEndInMemory ⟦<Fuse<MemDisk> as Device>⟧ ⟦<MemDisk as Device>⟧)
-        (said.IsEndInFile S.Disk.Device ⟦<Mirror<S::Disk> as Device>⟧ ⟦<ReadAhead<S::Disk> as Device>⟧ (S.is_opened places.now) (S.is_made places.now))
-        (said.option_map (λ path. path.now) file.entry))
+        (said.WithSomeTrouble (said.IsEndInFile S.Disk.Device ⟦<Mirror<S::Disk> as Device>⟧ ⟦<ReadAhead<S::Disk> as Device>⟧
+        (S.is_opened places.now) (S.is_made places.now))) (said.option_map (λ path. path.now) file.entry))
         (I.remaining input) status) (W.contents output.old) (W.contents output.new)) }
     ensures part { said.OnErr result (said.BreaksOff (said.WithSomeStatus (said.IsRunOfInput (said.IsEndIn
         (said.IsEndInMemory ⟦<Fuse<MemDisk> as Device>⟧ ⟦<MemDisk as Device>⟧)
-        (said.IsEndInFile S.Disk.Device ⟦<Mirror<S::Disk> as Device>⟧ ⟦<ReadAhead<S::Disk> as Device>⟧ (S.is_opened places.now) (S.is_made places.now))
-        (said.option_map (λ path. path.now) file.entry))
+        (said.WithSomeTrouble (said.IsEndInFile S.Disk.Device ⟦<Mirror<S::Disk> as Device>⟧ ⟦<ReadAhead<S::Disk> as Device>⟧
+        (S.is_opened places.now) (S.is_made places.now))) (said.option_map (λ path. path.now) file.entry))
         (I.remaining input))) (W.contents output.old) (W.contents output.new)) }
 {
     match script_bytes(alloc, input) {
@@ -97,64 +97,46 @@ where
     S::Disk: Send,
     ensures whole { said.IfOk result (λ status. said.Writes (said.IsRunOfBytes (said.IsEndIn
         (said.IsEndInMemory ⟦<Fuse<MemDisk> as Device>⟧ ⟦<MemDisk as Device>⟧)
-        (said.IsEndInFile S.Disk.Device ⟦<Mirror<S::Disk> as Device>⟧ ⟦<ReadAhead<S::Disk> as Device>⟧ (S.is_opened places.now) (S.is_made places.now))
-        (said.option_map (λ path. path.now) file.entry))
+        (said.WithSomeTrouble (said.IsEndInFile S.Disk.Device ⟦<Mirror<S::Disk> as Device>⟧ ⟦<ReadAhead<S::Disk> as Device>⟧
+        (S.is_opened places.now) (S.is_made places.now))) (said.option_map (λ path. path.now) file.entry))
         bytes.now status) (W.contents output.old) (W.contents output.new)) }
     ensures part { said.OnErr result (said.BreaksOff (said.WithSomeStatus (said.IsRunOfBytes (said.IsEndIn
         (said.IsEndInMemory ⟦<Fuse<MemDisk> as Device>⟧ ⟦<MemDisk as Device>⟧)
-        (said.IsEndInFile S.Disk.Device ⟦<Mirror<S::Disk> as Device>⟧ ⟦<ReadAhead<S::Disk> as Device>⟧ (S.is_opened places.now) (S.is_made places.now))
-        (said.option_map (λ path. path.now) file.entry))
+        (said.WithSomeTrouble (said.IsEndInFile S.Disk.Device ⟦<Mirror<S::Disk> as Device>⟧ ⟦<ReadAhead<S::Disk> as Device>⟧
+        (S.is_opened places.now) (S.is_made places.now))) (said.option_map (λ path. path.now) file.entry))
         bytes.now)) (W.contents output.old) (W.contents output.new)) }
 {
     match threads_script_of(alloc, bytes) {
-        Ok(script) => match file {
-            Some(path) => run_in_file(rt, places, alloc, path, &script, output, complaints),
-            None => run_in_memory(rt, alloc, &script, output, complaints),
-        },
+        Ok(script) => run_told(rt, places, alloc, file, &script, output, complaints),
         Err(fault) => refuse_script(alloc, output, complaints, fault),
     }
 }
 
-/// Runs a script over a new store in memory.
-fn run_in_memory<R: Threads + Wait + Sync, W: Write, E: Write>(
-    rt: &R,
-    alloc: Global,
-    script: &Script,
-    output: &mut W,
-    complaints: &mut E,
-) -> io::Result<u8>
-    ensures whole { said.IfOk result (said.IsRunOnThreads (said.IsEndInMemory ⟦<Fuse<MemDisk> as Device>⟧ ⟦<MemDisk as Device>⟧
-        script.now.lines.items) script.now.opening (said.Appends (W.contents output.old) (W.contents output.new))) }
-    ensures part { said.OnErr result (said.BreaksOff (said.WithSomeStatus (said.IsTextOnThreads
-        (said.IsEndInMemory ⟦<Fuse<MemDisk> as Device>⟧ ⟦<MemDisk as Device>⟧ script.now.lines.items) script.now.opening))
-        (W.contents output.old) (W.contents output.new)) }
-{
-    let status = run_threads(rt, alloc, script, output, &Open)?;
-    complain_of_status(complaints, status);
-    Ok(status)
-}
-
-/// Runs a script over a new store in the file of this path.
-fn run_in_file<R: Threads + Wait + Sync, S: StorePlaces, W: Write, E: Write>(
+/// Runs a script over a new store, in memory or in the file of this path, and tells what its status means.
+fn run_told<R: Threads + Wait + Sync, S: StorePlaces, W: Write, E: Write>(
     rt: &R,
     places: &S,
     alloc: Global,
-    path: &str,
+    file: Option<&str>,
     script: &Script,
     output: &mut W,
     complaints: &mut E,
 ) -> io::Result<u8>
 where
     S::Disk: Send,
-    ensures whole { said.IfOk result (said.IsRunOnThreads (said.IsEndInFile S.Disk.Device ⟦<Mirror<S::Disk> as Device>⟧
-        ⟦<ReadAhead<S::Disk> as Device>⟧ (S.is_opened places.now) (S.is_made places.now) path.now script.now.lines.items) script.now.opening
-        (said.Appends (W.contents output.old) (W.contents output.new))) }
-    ensures part { said.OnErr result (said.BreaksOff (said.WithSomeStatus (said.IsTextOnThreads
-        (said.IsEndInFile S.Disk.Device ⟦<Mirror<S::Disk> as Device>⟧ ⟦<ReadAhead<S::Disk> as Device>⟧ (S.is_opened places.now)
-        (S.is_made places.now) path.now script.now.lines.items) script.now.opening)) (W.contents output.old) (W.contents output.new)) }
+    ensures whole { said.IfOk result (said.IsRunOnThreads (said.IsEndIn
+        (said.IsEndInMemory ⟦<Fuse<MemDisk> as Device>⟧ ⟦<MemDisk as Device>⟧)
+        (said.WithSomeTrouble (said.IsEndInFile S.Disk.Device ⟦<Mirror<S::Disk> as Device>⟧ ⟦<ReadAhead<S::Disk> as Device>⟧
+        (S.is_opened places.now) (S.is_made places.now))) (said.option_map (λ path. path.now) file.entry) script.now.lines.items)
+        script.now.opening (said.Appends (W.contents output.old) (W.contents output.new))) }
+    ensures part { said.OnErr result (said.BreaksOff (said.WithSomeStatus (said.IsTextOnThreads (said.IsEndIn
+        (said.IsEndInMemory ⟦<Fuse<MemDisk> as Device>⟧ ⟦<MemDisk as Device>⟧)
+        (said.WithSomeTrouble (said.IsEndInFile S.Disk.Device ⟦<Mirror<S::Disk> as Device>⟧ ⟦<ReadAhead<S::Disk> as Device>⟧
+        (S.is_opened places.now) (S.is_made places.now))) (said.option_map (λ path. path.now) file.entry) script.now.lines.items)
+        script.now.opening)) (W.contents output.old) (W.contents output.new)) }
 {
-    let (status, trouble) = run_threads_in_file(rt, places, alloc, path, script, output, &Open)?;
-    complain_of_end(complaints, path, status, trouble);
+    let (status, trouble) = run_script(rt, places, alloc, file, script, output, &Open)?;
+    complain_of_end(complaints, file, status, trouble);
     Ok(status)
 }
 

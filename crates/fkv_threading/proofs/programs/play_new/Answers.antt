@@ -5,7 +5,7 @@ use Rattle.fkv_threading.proofs.programs.play_new.Goals as goal
 
 pub returns-in_err-opened-clause-err : goal.returns-in_err-opened-clause-err
 returns-in_err-opened-clause-err g c =
-    let why = unmade g.D.Device c.args.device c.args.shape c.args.lines.now _ _ c.in_err-opened.field-0.0 c.in_err-opened.ensures.err in
+    let why = unmade g.D.Device c.args.device c.args.shape c.args.lines.now c.create_opened.new.d c.in_err-opened.field-0.0 c.in_err-opened.ensures.err in
     search (rules, why)
 
 pub returns-in_err-played-clause-err : goal.returns-in_err-played-clause-err

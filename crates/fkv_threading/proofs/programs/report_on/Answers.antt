@@ -19,12 +19,12 @@ returns-clause-ok g c =
 pub returns-in_err-opened-clause-err : goal.returns-in_err-opened-clause-err
 returns-in_err-opened-clause-err g c =
     let p = err_from_is_err_and c.from_residual.result c.from_residual.ensures.1 in
-    rw (p.1, p.2) (unrecovered g.D.Device c.args.logs.now c.args.device.now _ _ c.in_err-opened.field-0.0 c.in_err-opened.ensures.err)
+    rw (p.1, p.2) (unrecovered g.D.Device c.args.logs.now c.args.device.now c.recover.new.d c.in_err-opened.field-0.0 c.in_err-opened.ensures.err)
 
 pub returns-in_err-pairs-clause-err : goal.returns-in_err-pairs-clause-err
 returns-in_err-pairs-clause-err g c =
     let p = err_from_is_err_and c.from_residual-in_err-pairs.result c.from_residual-in_err-pairs.ensures.1 in
-    rw (p.1, p.2) (unread g.D.Device c.args.logs.now c.args.device.now _ _ c.in_err-pairs.field-0.0 c.in_err-pairs.ensures.err)
+    rw (p.1, p.2) (unread g.D.Device c.args.logs.now c.args.device.now c.recover.new.d c.content.new.d c.in_err-pairs.field-0.0 c.in_ok-opened.ensures.quiet.no_fewer_failures c.in_err-pairs.ensures.err)
 
 pub returns-clause-err : goal.returns-clause-err
 returns-clause-err g c =

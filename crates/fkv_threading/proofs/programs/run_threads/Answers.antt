@@ -1,20 +1,15 @@
--- What is written is the report of the run, or a refusal, or a beginning of that.
-use Rattle.std.proofs.Common.{◌≡◌, Some, rules}
-use Rattle.std.proofs.lemmas.Result.{on_err_weaker}
-use Rattle.fkv_lines.specs.declared.scripts.Opening.TheVariants as openings
-use Rattle.fkv_threading.specs.Refused.{IsEndOfRun}
-use Rattle.fkv_threading.proofs.Refused.{ended}
-use Rattle.fkv_threading.proofs.Written.{result_written, run_breaks}
+-- The run of the options' file is what is written, and its status is the run's.
+use Rattle.fkv_threading.specs.Program.{IsEndIn}
+use Rattle.fkv_threading.specs.Refused.{IsEndInFile, IsEndInMemory, WithSomeTrouble}
+use Rattle.fkv_threading.proofs.Written.{whole_breaks}
 use Rattle.fkv_threading.proofs.programs.run_threads.Goals as goal
 
-pub returns-clause-whole : goal.returns-clause-whole
-returns-clause-whole g c =
-    let is : c.args.script.now.opening ≡ Some (openings.Shape c.in-Some-Shape.sizes) = search rules in
-    result_written (IsEndOfRun _ _ _ _) c.args.script.now.lines.items c.deref.result.now c.args.script.now.opening c.in-Some-Shape.sizes _ _ c.write_reported.result c.report_in_memory-reported.result is c.deref.ensures.value (ended _ _ _ _ _ _ c.report_in_memory-reported.result c.report_in_memory-reported.ensures.ok c.report_in_memory-reported.ensures.err) c.write_reported.ensures.text c.write_reported.ensures.status
+pub returns-in-Ok-clause-whole : goal.returns-in-Ok-clause-whole
+returns-in-Ok-clause-whole g c other = rw (c.ended_at.ensures.status, ← c.path_of.ensures) c.in-Ok.ensures.whole
 
-pub returns-clause-part : goal.returns-clause-part
-returns-clause-part g c =
-    let is : c.args.script.now.opening ≡ Some (openings.Shape c.in-Some-Shape.sizes) = search rules in
-    on_err_weaker c.write_reported.result
-    (run_breaks (IsEndOfRun _ _ _ _) c.args.script.now.lines.items c.deref.result.now c.args.script.now.opening c.in-Some-Shape.sizes _ _ c.report_in_memory-reported.result is c.deref.ensures.value (ended _ _ _ _ _ _ c.report_in_memory-reported.result c.report_in_memory-reported.ensures.ok c.report_in_memory-reported.ensures.err))
-    c.write_reported.ensures.part
+pub returns-in-Ok-clause-part : goal.returns-in-Ok-clause-part
+returns-in-Ok-clause-part g c four =
+    rw (← c.path_of.ensures) (whole_breaks (IsEndIn (IsEndInMemory _ _) (WithSomeTrouble (IsEndInFile _ _ _ _ _)) _ _) c.args.script.now.opening _ _ c.in-Ok.status c.in-Ok.ensures.whole)
+
+pub returns-in-Err-clause-part : goal.returns-in-Err-clause-part
+returns-in-Err-clause-part g c four = rw (← c.path_of.ensures) c.in-Err.ensures.part
