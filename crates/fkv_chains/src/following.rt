@@ -10,7 +10,7 @@ ghost use Rattle.fkv_chains.specs.Refused.{IsRefused};
 use crate::readings::{record_at, record_home};
 use fkv_base::{Addr, Damage, Fault, Shape};
 use fkv_disk::Device;
-use fkv_record::ManifestSlot;
+use fkv_record::{ManifestSlot, from_or_none};
 
 /// Follows the chain of a home from an address below the scan's start down to its end. The fault of the first record that
 /// has one.
@@ -39,7 +39,7 @@ pub(crate) fn follow<D: Device>(
         if found.header.invalid || record_home(&found, shape.bucket_bits) != home {
             return Err(Fault::Damaged(Damage::Link, addr.0));
         }
-        addr = found.header.previous;
+        addr = from_or_none(slot.begin, found.header.previous);
     }
     Ok(())
 }

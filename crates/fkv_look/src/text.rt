@@ -113,6 +113,7 @@ pub(crate) fn format_number(format: Format) -> u64 {
         Format::First => 1,
         Format::Second => 2,
         Format::Third => 3,
+        Format::Fourth => 4,
     }
 }
 

@@ -12,7 +12,7 @@ use crate::readings::record_at;
 use fkv_base::{Addr, Fault, Shape};
 use fkv_disk::Device;
 use fkv_marks::{oldest, version_in};
-use fkv_record::ManifestSlot;
+use fkv_record::{ManifestSlot, from_or_none};
 use std::alloc::Global;
 
 /// What is found at an address of the scan.
@@ -68,7 +68,7 @@ fn found_at<D: Device>(
     Ok(Found::Valid(MetRecord {
         home: record_home(&found, shape.bucket_bits),
         addr,
-        previous: found.header.previous,
+        previous: from_or_none(slot.begin, found.header.previous),
         version,
     }))
 }
