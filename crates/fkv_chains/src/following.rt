@@ -33,13 +33,14 @@ pub(crate) fn follow<D: Device>(
         let Some(found) = record_at(d, shape, addr)? else {
             return Err(Fault::Damaged(Damage::Record, addr.0));
         };
-        if found.header.version.0 > slot.number || found.header.previous.0 >= addr.0 {
+        let previous = from_or_none(slot.begin, found.header.previous);
+        if found.header.version.0 > slot.number || previous.0 >= addr.0 {
             return Err(Fault::Damaged(Damage::Record, addr.0));
         }
         if found.header.invalid || record_home(&found, shape.bucket_bits) != home {
             return Err(Fault::Damaged(Damage::Link, addr.0));
         }
-        addr = from_or_none(slot.begin, found.header.previous);
+        addr = previous;
     }
     Ok(())
 }

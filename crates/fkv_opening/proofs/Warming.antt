@@ -31,7 +31,7 @@ nothing_warm image o cold = record {
 }
 
 -- images that agree on the records have the same words of them
-pub warm_on : (i j : List ℕ) (o : Opened) → ((a : ℕ) → 1 ≤ a → a < o.tail.0 → bytes_at i (record_place o.shape a) 24 ≡ bytes_at j (record_place o.shape a) 24) → IsWarm i o → IsWarm j o
+pub warm_on : (i j : List ℕ) (o : Opened) → ((a : ℕ) → o.begin.0 ≤ a → a < o.tail.0 → bytes_at i (record_place o.shape a) 24 ≡ bytes_at j (record_place o.shape a) 24) → IsWarm i o → IsWarm j o
 warm_on i j o same warm = record {
   header = λ a above below. warm.header a above below ∙ ap (λ (word : ℕ). word % 2 ^ 48 + mark o.number.0 * 2 ^ 48) (word a 0 above below);
   key = λ a above below. warm.key a above below ∙ word a 1 above below;
@@ -39,4 +39,4 @@ warm_on i j o same warm = record {
 }
   where
     word : (a k : ℕ) → o.warm.0 ≤ a → a < o.tail.0 → record_word i o.shape a k ≡ record_word j o.shape a k
-    word a k above below = let some = o.some_warm in ap (λ (bytes : List ℕ). number_at bytes (8 * k)) (same a (omega (arith, some, above)) below)
+    word a k above below = let some = o.warm_from_begin in ap (λ (bytes : List ℕ). number_at bytes (8 * k)) (same a (omega (arith, some, above)) below)

@@ -47,7 +47,8 @@ pub(crate) fn gather<D: Device>(
         if !values.contains_key(&key) {
             values.insert(key, found.value)?;
         }
-        addr = lower_or_none(from_or_none(begin, found.header.previous), addr);
+        let previous = from_or_none(begin, found.header.previous);
+        addr = lower_or_none(previous, addr);
     }
     Ok(())
 }

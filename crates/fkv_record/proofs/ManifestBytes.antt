@@ -9,10 +9,10 @@ use Rattle.fkv_record.specs.declared.slots.Slot.{Slot}
 use Rattle.fkv_record.specs.Layout.{first_layout, point_numbers, slot_bytes}
 use Rattle.fkv_record.specs.FirstFormat.{SaysSame}
 use Rattle.fkv_record.specs.Formats.{format_number, point_places}
-use Rattle.fkv_record.specs.Manifest.{is_held, layout, range_numbers, named_checkpoint, named_begin, manifest_numbers, manifest_bytes, SpelledOnce, front_numbers, first_numbers}
+use Rattle.fkv_record.specs.Manifest.{is_held, layout, range_numbers, named_checkpoint, named_begin, manifest_numbers, manifest_bytes, SpelledOnce, front_numbers, first_numbers, newest_bytes, newest_format, newest_numbers, said_in}
 use Rattle.fkv_record.specs.Numbers.{spelled, padded}
 use Rattle.fkv_record.specs.Points.{serial_numbers}
-use Rattle.fkv_record.proofs.ManifestSections.{sections, sectioned, length-layout, tail_numbers}
+use Rattle.fkv_record.proofs.ManifestSections.{sections, sectioned, length-layout, tail_numbers, newest_held, newest_whole, third_format}
 use Rattle.fkv_record.proofs.ManifestApart.{there, numbers_held, held_numbers, telling, read_some}
 use Rattle.fkv_record.proofs.PointApart.{serial_words, zero_words}
 use Rattle.fkv_record.proofs.RangePlaces.{range_words}
@@ -105,6 +105,14 @@ some_there false l (Some n) e some = let never : ⊥ = cc in absurd never
 some_bytes : (p : Format × ManifestSlot) → IsSome (manifest_bytes p) → is_held p.0 p.1 ≡ true
 unfolding manifest_bytes
 some_bytes p some = some_there (is_held p.0 p.1) (spelled (layout p.0 p.1)) (manifest_bytes p) refl some
+
+-- a slot is written in the format that it has, which is the third where its log begins at the first record
+pub newest_spelled : (x : ManifestSlot) → Some (newest_bytes (said_in x)) ≡ manifest_bytes (newest_format x, x)
+unfolding newest_bytes
+newest_spelled x = sym (held_bytes (newest_format x, x) (spelled (newest_numbers (said_in x))) (newest_held x) (ap spelled (sym (newest_whole x))))
+
+pub third_spelled : (x : ManifestSlot) → x.begin.0 ≡ 1 → Some (newest_bytes (said_in x)) ≡ manifest_bytes (Third, x)
+third_spelled x first = newest_spelled x ∙ ap (λ (f : Format). manifest_bytes (f, x)) (third_format x first)
 
 pub manifest_apart : SpelledOnce manifest_bytes
 manifest_apart x y some e =

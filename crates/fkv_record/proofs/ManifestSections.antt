@@ -1,5 +1,6 @@
 -- The numbers of a manifest slot, part by part, alike in every format.
-use Rattle.std.proofs.Common.{◌≡◌, ℕ, ◌+◌, ◌-◌, ◌≤◌, List, [], ◌∷◌, ◌++◌, length, replicate, true, refl, sym, ap, ◌∙◌, arith}
+use Rattle.std.proofs.Common.{◌≡◌, ℕ, ◌+◌, ◌-◌, ◌≤◌, List, [], ◌∷◌, ◌++◌, length, replicate, Bool, true, false, refl, sym, ap, ◌∙◌, arith}
+use Rattle.std.specs.Prelude.{◌==◌, if◌then◌else◌}
 use Rattle.std.proofs.lemmas.List.{append_assoc, length-append, length-replicate, length-map, nil_from_length, replicate-append-replicate}
 use Rattle.std.proofs.lemmas.Bool.Decides.{nat_tests}
 use Rattle.fkv_base.specs.declared.numbers.Serial.{Serial}
@@ -8,7 +9,7 @@ use Rattle.fkv_record.specs.declared.formats.Format.TheVariants.{First, Second, 
 use Rattle.fkv_record.specs.declared.lost_ranges.LostRange.{LostRange}
 use Rattle.fkv_record.specs.declared.manifest_slots.ManifestSlot.{ManifestSlot}
 use Rattle.fkv_record.specs.Formats.{format_number, point_places}
-use Rattle.fkv_record.specs.Manifest.{range_numbers, is_held, layout, first_numbers, second_numbers, third_numbers, fourth_numbers, named_checkpoint, named_begin, front_numbers}
+use Rattle.fkv_record.specs.Manifest.{range_numbers, is_held, layout, first_numbers, second_numbers, third_numbers, fourth_numbers, named_checkpoint, named_begin, front_numbers, lost_numbers, newest_format, newest_numbers, said_in}
 use Rattle.fkv_record.specs.Numbers.{padded}
 use Rattle.fkv_record.specs.Points.{serial_numbers}
 use Rattle.fkv_record.proofs.RangePlaces.{length-range_numbers}
@@ -186,6 +187,26 @@ whole f x held =
     ∙ latest (head_numbers x) (serial_numbers x.points.serials.items) (named_checkpoint f x ∷ length x.lost.ranges.items ∷ []) (range_numbers x.lost.ranges.items) (point_places f) (48 - point_places f) (named_begin f x) (format_number f)
     refl (points_fit f x held) refl (ranges_fit f x) (omega (arith, places_within f))
     ∙ sym (sectioned f x held)
+
+-- a slot is written in the format that it has
+pub newest_held : (x : ManifestSlot) → is_held (newest_format x) x ≡ true
+newest_held x = by_begin (x.begin.0 == 1) refl
+  where
+    by_begin : (first : Bool) → (x.begin.0 == 1) ≡ first → is_held (if first then Third else Fourth) x ≡ true
+    by_begin true is = is
+    by_begin false is = refl
+
+pub newest_whole : (x : ManifestSlot) → newest_numbers (said_in x) ≡ layout (newest_format x) x
+newest_whole x = by_begin (x.begin.0 == 1) refl
+  where
+    by_begin : (first : Bool) → (x.begin.0 == 1) ≡ first
+        → padded 63 (padded 57 (padded 39 (front_numbers x) ++ lost_numbers x) ++ (if first then 0 else x.begin.0) ∷ []) ++ (if first then 3 else 4) ∷ [] ≡ layout (if first then Third else Fourth) x
+    by_begin true is = ap (λ (l : List ℕ). padded 63 (padded 57 l ++ 0 ∷ []) ++ 3 ∷ []) (sym (built_parts Third x)) ∙ whole Third x is
+    by_begin false is = ap (λ (l : List ℕ). padded 63 (padded 57 l ++ x.begin.0 ∷ []) ++ 4 ∷ []) (sym (built_parts Fourth x)) ∙ whole Fourth x refl
+
+-- and in the third where its log begins at the first record
+pub third_format : (x : ManifestSlot) → x.begin.0 ≡ 1 → newest_format x ≡ Third
+third_format x first = ap (λ (b : Bool). if b then Third else Fourth) (let is : (x.begin.0 == 1) ≡ true = grind (arith, nat_tests, first) in is)
 
 pub length-layout : (f : Format) (x : ManifestSlot) → is_held f x ≡ true → length (layout f x) ≡ 64
 length-layout f x held =

@@ -55,31 +55,32 @@ unfoldable pub second_numbers : ManifestSlot → List ℕ
 second_numbers x = padded 63 (padded 15 (front_numbers x) ++ lost_numbers x) ++ 2 ∷ []
 
 -- the third: places for 32 points, at byte 312 (the 39th number) the checkpoint and the lost ranges, and at 504 the format
-abbrev pub third_said : SlotSaid → List ℕ
-third_said s = padded 63 (padded 39 (front_said s) ++ lost_said s) ++ 3 ∷ []
-
 unfoldable pub third_numbers : ManifestSlot → List ℕ
-third_numbers x = third_said (said_in x)
+third_numbers x = padded 63 (padded 39 (front_numbers x) ++ lost_numbers x) ++ 3 ∷ []
 
 -- the fourth: as the third, and at byte 456 (the 57th number), behind the places of the lost ranges, where the log begins
-abbrev pub fourth_said : SlotSaid → List ℕ
-fourth_said s = padded 63 (padded 57 (padded 39 (front_said s) ++ lost_said s) ++ s.begin.0 ∷ []) ++ 4 ∷ []
-
 unfoldable pub fourth_numbers : ManifestSlot → List ℕ
-fourth_numbers x = fourth_said (said_in x)
+fourth_numbers x = padded 63 (padded 57 (padded 39 (front_numbers x) ++ lost_numbers x) ++ x.begin.0 ∷ []) ++ 4 ∷ []
 
 -- Slots are written in the third format as long as the log begins at its first record, and then in the fourth. So a store whose begin was never moved
--- has the bytes that it always had.
+-- has the bytes that it always had. What stands in the place of the begin, and in that of the format:
+abbrev pub begin_said : SlotSaid → ℕ
+begin_said s = if s.begin.0 == 1 then 0 else s.begin.0
+
+abbrev pub format_said : SlotSaid → ℕ
+format_said s = if s.begin.0 == 1 then 3 else 4
+
+-- the numbers of a slot that says this, as it is written
 abbrev pub newest_numbers : SlotSaid → List ℕ
-newest_numbers s = if s.begin.0 == 1 then third_said s else fourth_said s
+newest_numbers s = padded 63 (padded 57 (padded 39 (front_said s) ++ lost_said s) ++ begin_said s ∷ []) ++ format_said s ∷ []
+
+-- and the bytes
+unfoldable pub newest_bytes : SlotSaid → List ℕ
+newest_bytes s = spelled (newest_numbers s)
 
 -- the format in which a slot is written
 abbrev pub newest_format : ManifestSlot → Format
 newest_format x = if x.begin.0 == 1 then Third else Fourth
-
--- the bytes of a slot that says this, as it is written
-unfoldable pub newest_bytes : SlotSaid → List ℕ
-newest_bytes s = spelled (newest_numbers s)
 
 -- Which slots a format can hold: the first two have places for eight points, and a slot of the first names no lost range and
 -- no checkpoint but its own commit's. In the first three the log begins at its first record.

@@ -44,7 +44,7 @@ pub record IsFit (log : Log) (a : ℕ) (x : Record) : Type 0 where
   pub stands : Stands log a x
   pub new_enough : log.oldest ≤ version_of log x
   pub old_enough : version_of log x ≤ log.version + 1
-  pub falls : x.header.previous.0 < a
+  pub falls : previous_of log x < a
 
 -- a record of the scan is as it should be
 pub record IsScanned (log : Log) (a : ℕ) : Type 0 where

@@ -59,7 +59,8 @@ fn found_at<D: Device>(
     if version.0 < oldest(shape.class, slot.checkpoint) || version.0 > slot.number + 1 {
         return Ok(Found::Unfit);
     }
-    if found.header.previous.0 >= addr.0 {
+    let previous = from_or_none(slot.begin, found.header.previous);
+    if previous.0 >= addr.0 {
         return Ok(Found::Unfit);
     }
     if found.header.invalid {
@@ -68,7 +69,7 @@ fn found_at<D: Device>(
     Ok(Found::Valid(MetRecord {
         home: record_home(&found, shape.bucket_bits),
         addr,
-        previous: from_or_none(slot.begin, found.header.previous),
+        previous,
         version,
     }))
 }
