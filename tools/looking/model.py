@@ -34,9 +34,10 @@ def slot_line(image, index):
     if not fits:
         return unspelled
     kind = "full" if slot.checkpoint == slot.number else "log"
+    begin = f" begin {slot.begin}" * (slot.begin != 1)
     return (
         f"slot {index} commit {slot.number} {kind} format {form} end {slot.tail} checkpoint {slot.checkpoint} from {slot.start} "
-        f"triples {slot.count} area {slot.area} points{words(slot.points)} lost{words(colons(slot.lost))}"
+        f"triples {slot.count} area {slot.area}{begin} points{words(slot.points)} lost{words(colons(slot.lost))}"
     )
 
 
