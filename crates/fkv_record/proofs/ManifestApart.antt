@@ -30,6 +30,13 @@ ranges_at f numbers = take (48 - point_places f) (drop (9 + point_places f) numb
 abbrev pub rest_at : List ℕ → List ℕ
 rest_at numbers = take 5 (drop 58 numbers)
 
+-- the begin and what stands behind it: as they are read, and as they are written
+abbrev pub ends_at : List ℕ → List ℕ
+ends_at numbers = get_or numbers 57 0 ∷ (rest_at numbers ++ get_or numbers 63 0 ∷ [])
+
+abbrev pub end_numbers : Format → ManifestSlot → List ℕ
+end_numbers f x = named_begin f x ∷ 0 ∷ 0 ∷ 0 ∷ 0 ∷ 0 ∷ format_number f ∷ []
+
 -- what the numbers say of a slot
 pub record Tells (f : Format) (x : ManifestSlot) (numbers : List ℕ) : Type 0 where
   pub held : is_held f x ≡ true
@@ -113,21 +120,19 @@ pub telling : (f : Format) (x : ManifestSlot) (numbers : List ℕ) → length nu
 telling f x numbers len held e =
     let p : ℕ = point_places f in
     let same : sections f x ≡ parts f numbers = sym (sectioned f x held) ∙ e ∙ parted f numbers len in
-    let end : List ℕ = get_or numbers 57 0 ∷ (rest_at numbers ++ get_or numbers 63 0 ∷ []) in
-    let mine : List ℕ = named_begin f x ∷ 0 ∷ 0 ∷ 0 ∷ 0 ∷ 0 ∷ format_number f ∷ [] in
-    let behind : padded p (serial_numbers x.points.serials.items) ++ tail_numbers f x ≡ places_at f numbers ++ get_or numbers (7 + p) 0 ∷ get_or numbers (8 + p) 0 ∷ (ranges_at f numbers ++ end) = cc in
-    let points = append_apart (padded p (serial_numbers x.points.serials.items)) (tail_numbers f x) (places_at f numbers) (get_or numbers (7 + p) 0 ∷ get_or numbers (8 + p) 0 ∷ (ranges_at f numbers ++ end))
+    let behind : padded p (serial_numbers x.points.serials.items) ++ tail_numbers f x ≡ places_at f numbers ++ get_or numbers (7 + p) 0 ∷ get_or numbers (8 + p) 0 ∷ (ranges_at f numbers ++ ends_at numbers) = cc in
+    let points = append_apart (padded p (serial_numbers x.points.serials.items)) (tail_numbers f x) (places_at f numbers) (get_or numbers (7 + p) 0 ∷ get_or numbers (8 + p) 0 ∷ (ranges_at f numbers ++ ends_at numbers))
     (length-padded p (serial_numbers x.points.serials.items) (points_fit f x held) ∙ sym (length-places_at f numbers len)) behind in
     let tail = points.1 in
     let used = points.0 in
-    let last : padded (48 - p) (range_numbers x.lost.ranges.items) ++ mine ≡ ranges_at f numbers ++ end = cc in
-    let ranges = append_apart (padded (48 - p) (range_numbers x.lost.ranges.items)) mine (ranges_at f numbers) end
+    let last : padded (48 - p) (range_numbers x.lost.ranges.items) ++ end_numbers f x ≡ ranges_at f numbers ++ ends_at numbers = cc in
+    let ranges = append_apart (padded (48 - p) (range_numbers x.lost.ranges.items)) (end_numbers f x) (ranges_at f numbers) (ends_at numbers)
     (length-padded (48 - p) (range_numbers x.lost.ranges.items) (ranges_fit f x) ∙ sym (length-ranges_at f numbers len)) last in
     let lost = ranges.0 in
-    let ends : mine ≡ end = ranges.1 in
+    let ends : end_numbers f x ≡ ends_at numbers = ranges.1 in
     let begin : named_begin f x ≡ get_or numbers 57 0 = cc in
-    let zeros : replicate 5 0 ++ format_number f ∷ [] ≡ rest_at numbers ++ get_or numbers 63 0 ∷ [] = cc in
-    let rest = append_apart (replicate 5 0) (format_number f ∷ []) (rest_at numbers) (get_or numbers 63 0 ∷ []) (sym (length-rest_at numbers len)) zeros in
+    let zeros : 0 ∷ 0 ∷ 0 ∷ 0 ∷ 0 ∷ format_number f ∷ [] ≡ rest_at numbers ++ get_or numbers 63 0 ∷ [] = cc in
+    let rest = append_apart (0 ∷ 0 ∷ 0 ∷ 0 ∷ 0 ∷ []) (format_number f ∷ []) (rest_at numbers) (get_or numbers 63 0 ∷ []) (sym (length-rest_at numbers len)) zeros in
     let format = rest.1 in
     record {
       held = held;

@@ -38,7 +38,7 @@ returns-in_err-lost c =
 pub returns-then-not-are_zero : goal.returns-then-not-are_zero
 returns-then-not-are_zero c =
     read_none c.args.numbers.now c.requires (λ f x t.
-    let zero = c.are_zero.ensures.1 (t.rest ∙ ap (λ (n : ℕ). replicate n 0) (sym (length-rest_at c.args.numbers.now c.requires))) in
+    let zero = c.if-not-are_zero.ensures.1 (t.rest ∙ ap (λ (n : ℕ). replicate n 0) (sym (length-rest_at c.args.numbers.now c.requires))) in
     let never : ⊥ = cc in
     never)
 
@@ -89,6 +89,6 @@ returns c =
       named = sym c.named_checkpoint.ensures ∙ c.if-named_checkpoint-numbers.false ∙ named;
       lost = lost;
       begin = sym c.named_begin.ensures ∙ c.if-named_begin-numbers.false;
-      rest = c.are_zero.ensures.0 c.if-not-are_zero.false ∙ ap (λ (n : ℕ). replicate n 0) (length-rest_at c.args.numbers.now c.requires);
+      rest = c.if-not-are_zero.ensures.0 refl ∙ ap (λ (n : ℕ). replicate n 0) (length-rest_at c.args.numbers.now c.requires);
       format = here;
     })
