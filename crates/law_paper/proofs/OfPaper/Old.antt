@@ -322,7 +322,7 @@ module _ (home : ℕ → ℕ) (was image : scan.Log) (g : Log) (spells : SpellsA
         let newer = paper.goes_on.newer in
         record {
           held = y;
-          fits = record { stands = still_y; new_enough = omega (arith, read, least, oldest); old_enough = omega (arith, read, most, newer); falls = (let falls = sc.fits.falls in omega (arith, falls, leads_still a from low)) };
+          fits = record { stands = still_y; new_enough = omega (arith, read, least, oldest); old_enough = omega (arith, read, most, newer); falls = (let falls = sc.fits.falls in omega (arith, falls, leads_still)) };
           linked = λ valid. linked_y valid;
         }
 
