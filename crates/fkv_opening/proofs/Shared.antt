@@ -10,7 +10,7 @@ use Rattle.fkv_record.specs.declared.records.Record.{Record}
 use Rattle.fkv_record.specs.declared.triples.Triple.{Triple}
 use Rattle.fkv_record.specs.Places.{record_place}
 use Rattle.fkv_scan.specs.Log.{Log, log_in, record_home, triple_home, HasTriple, AreBelow}
-use Rattle.fkv_scan.specs.Records.{Stands, previous_of, IsValid, IsKept, IsNewer}
+use Rattle.fkv_scan.specs.Records.{Stands, next_of, IsValid, IsKept, IsNewer}
 use Rattle.fkv_scan.specs.Scan.{Has, HasNone, IsGreatest, GoesOn, by_triple, by_none, by_record, IsLinked, IsFit, IsScanned, IsScannedTo, IsLed, HasScan, IsOff, IsScanFault}
 
 -- two images share the records of a log
@@ -69,7 +69,7 @@ module _ (s : Shape) (slot : ManifestSlot) (ts : List Triple) where
     goes_on i j same h to q high (by_record c x from below valid is low) =
         by_record c x from below (valid_on h i j same c x (omega (arith, some, from)) (omega (arith, below, high)) valid) is low
 
-    linked_on : (i j : List ℕ) → Share s slot i j → (a : ℕ) (x : Record) → a < slot.end.0 → previous_of (log i) x < a → IsLinked (log i) a x → IsLinked (log j) a x
+    linked_on : (i j : List ℕ) → Share s slot i j → (a : ℕ) (x : Record) → a < slot.end.0 → next_of (log i) x < a → IsLinked (log i) a x → IsLinked (log j) a x
     linked_on i j same a x high falls linked = record {
       nearest = λ kept b great.
           let up = great.from_on in
@@ -77,7 +77,7 @@ module _ (s : Shape) (slot : ManifestSlot) (ts : List Triple) where
           let is = linked.nearest kept b (greatest_on s slot (λ k. IsKept (log k) h) (kept_on h) j i back slot.first.0 a b some to great) in
           (is.0, λ y there. is.1 y (stands_on j i back b y (omega (arith, some, up)) (omega (arith, under, high)) there));
       first = λ kept none. linked.first kept (none_on s slot (λ k. IsKept (log k) h) (kept_on h) j i back slot.first.0 a some to none);
-      lost = λ lost up. has_on s slot (λ k. IsValid (log k) h) (valid_on h) i j same (previous_of (log i) x) (omega (arith, some, up)) (omega (arith, falls, high)) (linked.lost lost up);
+      lost = λ lost up. has_on s slot (λ k. IsValid (log k) h) (valid_on h) i j same (next_of (log i) x) (omega (arith, some, up)) (omega (arith, falls, high)) (linked.lost lost up);
       below = λ low q goes. linked.below low q (goes_on j i back h a q to goes);
     }
       where

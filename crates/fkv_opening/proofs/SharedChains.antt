@@ -13,7 +13,7 @@ use Rattle.fkv_record.specs.declared.triples.Triple.{Triple}
 use Rattle.fkv_record.specs.Layout.{record_bytes}
 use Rattle.fkv_record.proofs.Shown.{from_some}
 use Rattle.fkv_scan.specs.Log.{Log, log_in, AreBelow, HasTriple, record_home}
-use Rattle.fkv_scan.specs.Records.{Stands, previous_of, IsNewer}
+use Rattle.fkv_scan.specs.Records.{Stands, next_of, IsNewer}
 use Rattle.fkv_scan.specs.Scan.{HasScan}
 use Rattle.fkv_scan.specs.Scanned.{TellsNewer}
 use Rattle.fkv_chains.specs.Chains.{IsChained, HasChains, IsChainFault}
@@ -40,7 +40,7 @@ module _ (apart : SpellsApart record_bytes) (s : Shape) (slot : ManifestSlot) (t
   IsWithin i a = (slot.begin.0 ≤ a) × (a < slot.end.0) × Reached (log i) a
 
   module _ (i : List ℕ) (scan : HasScan (log i)) where
-    off_below : (a : ℕ) (x : Record) → Reached (log i) a → Stands (log i) a x → a ≤ previous_of (log i) x → a < slot.first.0 → HasChainFault (log i)
+    off_below : (a : ℕ) (x : Record) → Reached (log i) a → Stands (log i) a x → a ≤ next_of (log i) x → a < slot.first.0 → HasChainFault (log i)
     off_below a x reached there up below = (
       fault.Damaged damage.Record a,
       record {
@@ -48,22 +48,22 @@ module _ (apart : SpellsApart record_bytes) (s : Shape) (slot : ManifestSlot) (t
         below_start = below;
         here = λ y old.
             let same : y ≡ x = apart y x (old.stands ∙ sym there) in
-            let falls : previous_of (log i) x < a = subst (λ (z : Record). previous_of (log i) z < a) same old.falls in
+            let falls : next_of (log i) x < a = subst (λ (z : Record). next_of (log i) z < a) same old.falls in
             omega (arith, up, falls);
       },
     )
 
-    falls_above : (a : ℕ) (x : Record) → a < slot.end.0 → Stands (log i) a x → slot.first.0 ≤ a → previous_of (log i) x < a
+    falls_above : (a : ℕ) (x : Record) → a < slot.end.0 → Stands (log i) a x → slot.first.0 ≤ a → next_of (log i) x < a
     falls_above a x high there from =
         let scanned = scan.records a from high in
         let same : scanned.held ≡ x = apart scanned.held x (scanned.fits.stands ∙ sym there) in
-        subst (λ (y : Record). previous_of (log i) y < a) same scanned.fits.falls
+        subst (λ (y : Record). next_of (log i) y < a) same scanned.fits.falls
 
     -- a record that is reached leads below itself, or the chains have a fault
-    leads_down : (a : ℕ) (x : Record) → IsWithin i a → Stands (log i) a x → (previous_of (log i) x < a) ⊎ HasChainFault (log i)
+    leads_down : (a : ℕ) (x : Record) → IsWithin i a → Stands (log i) a x → (next_of (log i) x < a) ⊎ HasChainFault (log i)
     leads_down a x is there = ⊎_elim inl
         (λ up. ⊎_elim (λ below. inr (off_below a x is.2 there up below)) (λ from. inl (falls_above a x is.1 there from)) (cases_lt a slot.first.0))
-        (cases_lt (previous_of (log i) x) a)
+        (cases_lt (next_of (log i) x) a)
 
     led_within : (h q : ℕ) → HasTriple (log i) h q → IsWithin i q
     led_within h q has =
@@ -76,11 +76,11 @@ module _ (apart : SpellsApart record_bytes) (s : Shape) (slot : ManifestSlot) (t
       back : Share s slot j i
       back = flip s slot i j same
 
-      goes_within : (a b : ℕ) (x : Record) → IsWithin i a → Stands (log j) a x → previous_of (log i) x ≡ b → b ≢ 0 → IsWithin i b ⊎ HasChainFault (log i)
+      goes_within : (a b : ℕ) (x : Record) → IsWithin i a → Stands (log j) a x → next_of (log i) x ≡ b → b ≢ 0 → IsWithin i b ⊎ HasChainFault (log i)
       goes_within a b x is there leads off =
           let here : Stands (log i) a x = stands_on s slot ts j i back a x is.0 is.1 there in
           let high = is.1 in
-          let low : slot.begin.0 ≤ previous_of (log i) x = from_some slot.begin.0 x.header.previous.0 (λ none. off (sym leads ∙ none)) in
+          let low : slot.begin.0 ≤ next_of (log i) x = from_some slot.begin.0 x.header.previous.0 (λ none. off (sym leads ∙ none)) in
           ⊎_elim (λ falls. inl (omega (arith, leads, low), omega (arith, leads, falls, high), linked a b x is.2 here leads off)) inr (leads_down a x is here)
 
       -- what the other image reaches is of the log and reached here, or the chains have a fault

@@ -13,7 +13,7 @@ use Rattle.fkv_record.specs.Begin.{from_or_none}
 use Rattle.fkv_record.specs.Layout.{record_bytes}
 use Rattle.fkv_record.proofs.Shown.{from_first}
 use Rattle.fkv_scan.specs.Log.{Log, record_home}
-use Rattle.fkv_scan.specs.Records.{Stands, previous_of, IsKept, version_of, losses, losses_of}
+use Rattle.fkv_scan.specs.Records.{Stands, next_of, IsKept, version_of, losses, losses_of}
 use Rattle.fkv_scan.specs.Scan.{GoesOn, by_triple, by_none, by_record, HasNone, HasScan, IsGreatest, IsLinked}
 use Rattle.fkv_chains.specs.Chains.{HasChains}
 use Rattle.fkv_chains.specs.Entries.{Counts}
@@ -62,7 +62,7 @@ module _ (spelled : SpellsApart record_bytes) (log : Log) (pairs : List (Key × 
   home_at c is = home_is log.shape.bucket_bits is.held ∙ ap (λ (k : Key). key_home log.shape.bucket_bits k) is.is.key
 
   -- its log begins at address 1, so a record leads where its header does
-  leads_on : (x : Record) → previous_of log x ≡ x.header.previous.0
+  leads_on : (x : Record) → next_of log x ≡ x.header.previous.0
   leads_on x = ap (λ (b : ℕ). from_or_none b x.header.previous.0) renewed.begin ∙ from_first x.header.previous.0
 
   pub unlost : (a : ℕ) (x : Record) → losses_of log a x ≡ 0
@@ -157,7 +157,7 @@ module _ (spelled : SpellsApart record_bytes) (log : Log) (pairs : List (Key × 
       let within = in_log b reached in
       let is = at b within.0 within.1 in
       let record_is : x ≡ is.held = one b x is.held stands is.stands in
-      let address : is.held.header.previous.0 ≡ a = sym (leads_on is.held) ∙ ap (λ (y : Record). previous_of log y) (sym record_is) ∙ same in
+      let address : is.held.header.previous.0 ≡ a = sym (leads_on is.held) ∙ ap (λ (y : Record). next_of log y) (sym record_is) ∙ same in
       (omega (arith, some), omega (arith, address, is.is.leads.among, within.1))
 
   pub has_chains : HasChains log

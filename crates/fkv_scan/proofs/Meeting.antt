@@ -6,7 +6,7 @@ use Rattle.fkv_base.specs.declared.numbers.Addr.{Addr}
 use Rattle.fkv_record.specs.declared.records.Record.{Record}
 use Rattle.fkv_scan.specs.declared.home_scans.HomeScan.{HomeScan}
 use Rattle.fkv_scan.specs.Log.{Log, record_home}
-use Rattle.fkv_scan.specs.Records.{Stands, previous_of, version_of, losses_of, IsValid, IsKept}
+use Rattle.fkv_scan.specs.Records.{Stands, next_of, version_of, losses_of, IsValid, IsKept}
 use Rattle.fkv_scan.specs.Scan.{HasNone, Has, IsGreatest, GoesOn, IsLinked}
 use Rattle.fkv_scan.specs.Scanned.{IsGreatestOf}
 use Rattle.fkv_scan.specs.Known.{IsWay, Knows}
@@ -53,10 +53,10 @@ module _ (log : Log) (a : ℕ) (x : Record) where
   its_home = record_home log.shape.bucket_bits x
 
   abbrev pub previous : ℕ
-  previous = previous_of log x
+  previous = next_of log x
 
   abbrev pub previous_addr : Addr
-  previous_addr = record { 0 = previous_of log x }
+  previous_addr = record { 0 = next_of log x }
 
   -- the address below the start
   way_is : (o : Option Addr) → IsWay log its_home a o → is_way o previous ≡ true → (q : ℕ) → GoesOn log its_home a q → previous ≡ q

@@ -8,7 +8,7 @@ use Rattle.fkv_record.specs.declared.records.Record.{Record}
 use Rattle.fkv_scan.specs.declared.home_scans.HomeScan.{HomeScan}
 use Rattle.fkv_scan.specs.declared.met_records.MetRecord.{MetRecord}
 use Rattle.fkv_scan.specs.Log.{Log, record_home}
-use Rattle.fkv_scan.specs.Records.{previous_of, version_of, losses, losses_of, IsValid}
+use Rattle.fkv_scan.specs.Records.{next_of, version_of, losses, losses_of, IsValid}
 use Rattle.fkv_scan.specs.Scan.{Has, IsLinked}
 use Rattle.fkv_scan.specs.Known.{Knows, KnowsOf}
 use Rattle.fkv_scan.specs.Parts.{Tells, IsTakenIn}
@@ -35,7 +35,7 @@ module _ (log : Log) (m : MetRecord) (tells : Tells log m) (at : ℕ → Option 
   version_is = ap (λ n. record { 0 = n }) tells.version
 
   abbrev previous_addr : Addr
-  previous_addr = record { 0 = previous_of log x }
+  previous_addr = record { 0 = next_of log x }
 
   previous_is : m.previous ≡ previous_addr
   previous_is = ap (λ n. record { 0 = n }) tells.previous
@@ -43,7 +43,7 @@ module _ (log : Log) (m : MetRecord) (tells : Tells log m) (at : ℕ → Option 
   knowing : Knows log own m.addr.0 known
   knowing = subst (λ h. Knows log h m.addr.0 known) tells.home (knows_or log m.home m.addr.0 (at m.home) knows)
 
-  leading_too : is_lost ≡ true → log.start ≤ previous_of log x → (leads ≡ true) ↔ Has (IsValid log own) (previous_of log x)
+  leading_too : is_lost ≡ true → log.start ≤ next_of log x → (leads ≡ true) ↔ Has (IsValid log own) (next_of log x)
   leading_too = subst (λ n. is_lost ≡ true → log.start ≤ n → (leads ≡ true) ↔ Has (IsValid log own) n) tells.previous
       (subst (λ n. is_lost ≡ true → log.start ≤ m.previous.0 → (leads ≡ true) ↔ Has (IsValid log n) m.previous.0) tells.home leading)
 

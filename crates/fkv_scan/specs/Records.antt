@@ -14,8 +14,8 @@ abbrev pub Stands : Log → ℕ → Record → Type 0
 Stands log a x = record_bytes x ≡ bytes_at log.image (record_place log.shape a) 24
 
 -- where a record leads: to the address in its header, or nowhere where that lies below the log's begin
-abbrev pub previous_of : Log → Record → ℕ
-previous_of log x = from_or_none log.begin x.header.previous.0
+abbrev pub next_of : Log → Record → ℕ
+next_of log x = from_or_none log.begin x.header.previous.0
 
 -- the version of a record of the scan: what the mark in its header is read as
 abbrev pub version_of : Log → Record → ℕ

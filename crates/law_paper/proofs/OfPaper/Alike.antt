@@ -12,7 +12,7 @@ use Rattle.fkv_record.specs.declared.triples.Triple.{Triple}
 use Rattle.fkv_room.specs.Room.{HasRoom}
 use Rattle.fkv_scan.specs.Log as scan
 use Rattle.fkv_scan.specs.Log.{record_home, triple_home}
-use Rattle.fkv_scan.specs.Records.{previous_of, IsKept}
+use Rattle.fkv_scan.specs.Records.{next_of, IsKept}
 use Rattle.fkv_scan.specs.Scan.{HasNone, IsGreatest, IsLinked, HasScan}
 use Rattle.fkv_words.specs.Fields.{SpellsApart}
 use Rattle.law_paper.specs.Paper.Old.{GoesOnFrom, WasSound}
@@ -64,7 +64,7 @@ module _ (n : Newest) (xs : List Triple) where
           none_above = none_was h (b + 1) a (omega (arith, least)) most greatest.none_above;
         }
 
-    linked_now : (a : ℕ) (x : Record) → a < tail → previous_of (log bytes) x < a → IsLinked (log bytes) a x → IsLinked (log other) a x
+    linked_now : (a : ℕ) (x : Record) → a < tail → next_of (log bytes) x < a → IsLinked (log bytes) a x → IsLinked (log other) a x
     linked_now a x low falls links = record {
       nearest = λ kept b greatest.
           let most = greatest_was h a b to greatest in
@@ -74,7 +74,7 @@ module _ (n : Newest) (xs : List Triple) where
       first = λ kept none. links.first kept (none_was h n.slot.first.0 a (omega arith) to none);
       lost = λ gone from.
           let led = links.lost gone from in
-          (led.0, valid_now spells was on h (previous_of (log bytes) x) led.0 (start_some spells was (previous_of (log bytes) x) from) (omega (arith, falls, low)) led.1);
+          (led.0, valid_now spells was on h (next_of (log bytes) x) led.0 (start_some spells was (next_of (log bytes) x) from) (omega (arith, falls, low)) led.1);
       below = λ under q goes. links.below under q (goes_was spells was on h a q to goes);
     }
       where

@@ -16,7 +16,7 @@ use Rattle.fkv_record.specs.declared.records.Record.{Record}
 use Rattle.fkv_record.specs.declared.triples.Triple.{Triple}
 use Rattle.fkv_scan.specs.Log as scan
 use Rattle.fkv_scan.specs.Log.{HasTriple, HasNoTriple, record_home, triple_home}
-use Rattle.fkv_scan.specs.Records.{Stands, previous_of, version_of, losses, losses_of, IsValid, IsKept}
+use Rattle.fkv_scan.specs.Records.{Stands, next_of, version_of, losses, losses_of, IsValid, IsKept}
 use Rattle.fkv_scan.specs.Scan.{Has, HasNone, IsGreatest, GoesOn, by_triple, by_none, by_record, IsLinked as IsScanLinked, IsScanned, IsLed, HasScan}
 use Rattle.fkv_words.specs.Fields.{SpellsApart}
 use Rattle.fkv_ops.specs.Values.{value_of}
@@ -154,17 +154,17 @@ module _ (home : ℕ → ℕ) (was image : scan.Log) (g : Log) (spells : SpellsA
     in_h : IsIn a (g.chains h)
     in_h = subst (λ (n : ℕ). IsIn a (g.chains n)) (sym (old_home a p x stands_x)) (in_own it a p)
 
-    next : IsWithin (previous_of image x) (g.chains h) × (previous_of image x < a)
+    next : IsWithin (next_of image x) (g.chains h) × (next_of image x < a)
     next = next_in it h a p in_h
 
-    below_is : (b : ℕ) → IsIn b (g.chains h) → b < a → b ≤ previous_of image x
+    below_is : (b : ℕ) → IsIn b (g.chains h) → b < a → b ≤ next_of image x
     below_is = below_in it h a p in_h
 
     -- it leads to the nearest that is kept
-    to_nearest : (b : ℕ) → IsGreatest (IsKept image h) was.start a b → previous_of image x ≡ b
+    to_nearest : (b : ℕ) → IsGreatest (IsKept image h) was.start a b → next_of image x ≡ b
     to_nearest = leads_nearest it h a p in_h was.start (kept_in h) (in_kept h)
 
-    to_first : HasNone (IsKept image h) was.start a → previous_of image x < was.start
+    to_first : HasNone (IsKept image h) was.start a → next_of image x < was.start
     to_first = leads_first it h a p in_h was.start (kept_in h) (in_kept h) paper.opened.some_start
 
   -- ---- what the opening's scan tells, told of this image
@@ -203,7 +203,7 @@ module _ (home : ℕ → ℕ) (was image : scan.Log) (g : Log) (spells : SpellsA
     stands_y = let s = scanned_was in s.fits.stands
 
     -- where it leads it led
-    leads_still : previous_of image y ≡ previous_of was y
+    leads_still : next_of image y ≡ next_of was y
     leads_still = leads_same spells paper.opened paper.goes_on y
 
     still_y : Stands image a y
@@ -233,25 +233,25 @@ module _ (home : ℕ → ℕ) (was image : scan.Log) (g : Log) (spells : SpellsA
         not_lost_was : losses_of was a y ≡ 0
         not_lost_was = ap (λ (z : Record). losses_of was a z) (one_was spells paper.opened a y counts_y.0 stands_y counts_y.1.valid.stands) ∙ counts_y.1.not_lost from
 
-        leads_y : (b : ℕ) → IsGreatest (IsKept image (record_home image.shape.bucket_bits y)) image.start a b → previous_of image y ≡ b
+        leads_y : (b : ℕ) → IsGreatest (IsKept image (record_home image.shape.bucket_bits y)) image.start a b → next_of image y ≡ b
         leads_y b greatest =
             let g1 : IsGreatest (IsKept image (record_home was.shape.bucket_bits (let p = here_y in let s = p.shown in s.held))) was.start a b =
             subst (λ (n : ℕ). IsGreatest (IsKept image (record_home was.shape.bucket_bits (let p = here_y in let s = p.shown in s.held))) n a b) paper.goes_on.start
             (subst (λ (n : ℕ). IsGreatest (IsKept image n) image.start a b) (its_bits spells paper.opened paper.goes_on y ∙ ap (record_home was.shape.bucket_bits) y_is) greatest) in
-            ap (λ (z : Record). previous_of image z) y_is ∙ to_nearest a from here_y b g1
+            ap (λ (z : Record). next_of image z) y_is ∙ to_nearest a from here_y b g1
 
-        first_y : HasNone (IsKept image (record_home image.shape.bucket_bits y)) image.start a → previous_of image y < image.start
+        first_y : HasNone (IsKept image (record_home image.shape.bucket_bits y)) image.start a → next_of image y < image.start
         first_y none =
             let n1 : HasNone (IsKept image (record_home was.shape.bucket_bits (let p = here_y in let s = p.shown in s.held))) was.start a =
             subst (λ (n : ℕ). HasNone (IsKept image (record_home was.shape.bucket_bits (let p = here_y in let s = p.shown in s.held))) n a) paper.goes_on.start
             (subst (λ (n : ℕ). HasNone (IsKept image n) image.start a) (its_bits spells paper.opened paper.goes_on y ∙ ap (record_home was.shape.bucket_bits) y_is) none) in
             let low = to_first a from here_y n1 in
-            let is = ap (λ (z : Record). previous_of image z) y_is in
+            let is = ap (λ (z : Record). next_of image z) y_is in
             let s = paper.goes_on.start in
             omega (arith, low, is, s)
 
         -- the one that it leads to isn't newer, as the opening's scan has told
-        version_y : (b : ℕ) → previous_of image y ≡ b → was.start ≤ b → b < a → IsIn b (g.chains hy) → (z : Record) → Stands image b z → version_of image z ≤ version_of image y
+        version_y : (b : ℕ) → next_of image y ≡ b → was.start ≤ b → b < a → IsIn b (g.chains hy) → (z : Record) → Stands image b z → version_of image z ≤ version_of image y
         version_y b is on less has z stands =
             let counts = (paper.before.counted hy b (omega (arith, less, low))).0 has in
             let kept : IsKept was hy b counts.0 = record { here = counts.1.valid; not_lost = counts.1.not_lost on } in
@@ -267,7 +267,7 @@ module _ (home : ℕ → ℕ) (was image : scan.Log) (g : Log) (spells : SpellsA
               | inr none ↦ absurd (none b counts.0 on less kept)
             ]
 
-        nearest_y : (b : ℕ) → IsGreatest (IsKept image (record_home image.shape.bucket_bits y)) image.start a b → (previous_of image y ≡ b) × ((z : Record) → Stands image b z → version_of image z ≤ version_of image y)
+        nearest_y : (b : ℕ) → IsGreatest (IsKept image (record_home image.shape.bucket_bits y)) image.start a b → (next_of image y ≡ b) × ((z : Record) → Stands image b z → version_of image z ≤ version_of image y)
         nearest_y b greatest =
             let is = leads_y b greatest in
             let on = greatest.from_on in
@@ -278,7 +278,7 @@ module _ (home : ℕ → ℕ) (was image : scan.Log) (g : Log) (spells : SpellsA
             (is, version_y b is (omega (arith, on, s)) less (subst (λ (n : ℕ). IsIn b (g.chains n)) (its_bits spells paper.opened paper.goes_on y) has))
 
       -- a lost one leads to a valid one
-      lost_was : losses_of image a y ≢ 0 → image.start ≤ previous_of was y → Has (IsValid image (record_home image.shape.bucket_bits y)) (previous_of was y)
+      lost_was : losses_of image a y ≢ 0 → image.start ≤ next_of was y → Has (IsValid image (record_home image.shape.bucket_bits y)) (next_of was y)
       lost_was lost on =
           let s = paper.goes_on.start in
           let falls = (let sc = scanned_was in sc.fits.falls) in
@@ -293,13 +293,13 @@ module _ (home : ℕ → ℕ) (was image : scan.Log) (g : Log) (spells : SpellsA
             ]
             | inr gone ↦
                 let has = links.lost gone (omega (arith, on, s)) in
-                (has.0, subst (λ (n : ℕ). IsValid image n (previous_of was y) has.0) (sym (its_bits spells paper.opened paper.goes_on y)) (valid_now spells paper.opened paper.goes_on hy (previous_of was y) has.0 (start_some spells paper.opened (previous_of was y) (omega (arith, on, s))) (omega (arith, falls, low)) has.1))
+                (has.0, subst (λ (n : ℕ). IsValid image n (next_of was y) has.0) (sym (its_bits spells paper.opened paper.goes_on y)) (valid_now spells paper.opened paper.goes_on hy (next_of was y) has.0 (start_some spells paper.opened (next_of was y) (omega (arith, on, s))) (omega (arith, falls, low)) has.1))
           ]
 
-      lost_y : losses_of image a y ≢ 0 → image.start ≤ previous_of image y → Has (IsValid image (record_home image.shape.bucket_bits y)) (previous_of image y)
+      lost_y : losses_of image a y ≢ 0 → image.start ≤ next_of image y → Has (IsValid image (record_home image.shape.bucket_bits y)) (next_of image y)
       lost_y lost on = subst (λ (n : ℕ). Has (IsValid image (record_home image.shape.bucket_bits y)) n) (sym leads_still) (lost_was lost (subst (λ (n : ℕ). image.start ≤ n) leads_still on))
 
-      below_y : previous_of image y < image.start → (q : ℕ) → GoesOn image (record_home image.shape.bucket_bits y) a q → previous_of image y ≡ q
+      below_y : next_of image y < image.start → (q : ℕ) → GoesOn image (record_home image.shape.bucket_bits y) a q → next_of image y ≡ q
       below_y under q goes =
           let s = paper.goes_on.start in
           leads_still ∙ links.below (omega (arith, under, s, leads_still)) q (goes_was spells paper.opened paper.goes_on hy a q (omega (arith, low)) (subst (λ (n : ℕ). GoesOn image n a q) (its_bits spells paper.opened paper.goes_on y) goes))
@@ -327,12 +327,12 @@ module _ (home : ℕ → ℕ) (was image : scan.Log) (g : Log) (spells : SpellsA
         }
 
   -- ---- where a chain of the opening goes on
-  record_goes : (h c : ℕ) (x : Record) → was.start ≤ c → c < was.tail → IsValid was h c x → previous_of was x < was.start → (q : ℕ) → GoesOn was h c q → previous_of was x ≡ q
+  record_goes : (h c : ℕ) (x : Record) → was.start ≤ c → c < was.tail → IsValid was h c x → next_of was x < was.start → (q : ℕ) → GoesOn was h c q → next_of was x ≡ q
   record_goes h c x from low valid under q goes =
       let sc = paper.opened.scan.records c from low in
       let is : x ≡ sc.held = one_was spells paper.opened c x sc.held valid.stands sc.fits.stands in
       let links = sc.linked (sym (ap (λ (z : Record). z.header.invalid) is) ∙ valid.valid) in
-      let same = ap (λ (z : Record). previous_of was z) is in
+      let same = ap (λ (z : Record). next_of was z) is in
       let at : record_home was.shape.bucket_bits sc.held ≡ h = sym (ap (record_home was.shape.bucket_bits) is) ∙ valid.same in
       same ∙ links.below (omega (arith, same, under)) q (subst (λ (n : ℕ). GoesOn was n c q) (sym at) goes)
 
@@ -352,7 +352,7 @@ module _ (home : ℕ → ℕ) (was image : scan.Log) (g : Log) (spells : SpellsA
       (λ most.
       let same : d ≡ c = omega (arith, more, most) in
       let one_record = one_was spells paper.opened c x y valid.stands (subst (λ (n : ℕ). Stands was n y) same good.stands) in
-      sym leads ∙ ap (λ (z : Record). previous_of was z) one_record ∙ to)
+      sym leads ∙ ap (λ (z : Record). next_of was z) one_record ∙ to)
       (cases_lt d c))
       (cases_lt c d)
 
@@ -374,7 +374,7 @@ module _ (home : ℕ → ℕ) (was image : scan.Log) (g : Log) (spells : SpellsA
       let sc = paper.opened.scan.records a from low in
       let same : y ≡ sc.held = one_was spells paper.opened a y sc.held stands sc.fits.stands in
       let links = sc.linked (sym (ap (λ (z : Record). z.header.invalid) same) ∙ reached_valid a reached from y stands) in
-      let at : previous_of was sc.held ≡ b = sym (ap (λ (z : Record). previous_of was z) same) ∙ is in
+      let at : next_of was sc.held ≡ b = sym (ap (λ (z : Record). next_of was z) same) ∙ is in
       let has : Has (IsValid was (record_home was.shape.bucket_bits sc.held)) b = elim (zero_or (losses_of was a sc.held)) [
         | inl kept ↦ elim (find_was (record_home was.shape.bucket_bits sc.held) a from (omega (arith, low))) [
           | inl most ↦ (let near = links.nearest kept most.0 most.1 in let here_is = most.1.here in subst (λ (n : ℕ). Has (IsValid was (record_home was.shape.bucket_bits sc.held)) n) (sym near.0 ∙ at) (here_is.0, here_is.1.here))
@@ -476,7 +476,7 @@ module _ (home : ℕ → ℕ) (was image : scan.Log) (g : Log) (spells : SpellsA
         omega (arith, is, read, cell_is, fall, own))
         (cases_lt b was.tail)
 
-    nearest_n : (b : ℕ) → IsGreatest (IsKept image (record_home image.shape.bucket_bits xn)) image.start a b → (previous_of image xn ≡ b) × ((z : Record) → Stands image b z → version_of image z ≤ version_of image xn)
+    nearest_n : (b : ℕ) → IsGreatest (IsKept image (record_home image.shape.bucket_bits xn)) image.start a b → (next_of image xn ≡ b) × ((z : Record) → Stands image b z → version_of image z ≤ version_of image xn)
     nearest_n b greatest =
         let g1 : IsGreatest (IsKept image hn) was.start a b = subst (λ (n : ℕ). IsGreatest (IsKept image hn) n a b) paper.goes_on.start (subst (λ (n : ℕ). IsGreatest (IsKept image n) image.start a b) (its_bits spells paper.opened paper.goes_on xn) greatest) in
         let on = g1.from_on in
@@ -484,14 +484,14 @@ module _ (home : ℕ → ℕ) (was image : scan.Log) (g : Log) (spells : SpellsA
         let low = p.low in
         (to_nearest a from_start p b g1, version_n b on (kept_in hn b g1.here.0 on (omega (arith, less, low)) g1.here.1) less)
 
-    first_n : HasNone (IsKept image (record_home image.shape.bucket_bits xn)) image.start a → previous_of image xn < image.start
+    first_n : HasNone (IsKept image (record_home image.shape.bucket_bits xn)) image.start a → next_of image xn < image.start
     first_n none =
         let n1 : HasNone (IsKept image hn) was.start a = subst (λ (n : ℕ). HasNone (IsKept image hn) n a) paper.goes_on.start (subst (λ (n : ℕ). HasNone (IsKept image n) image.start a) (its_bits spells paper.opened paper.goes_on xn) none) in
         let low = to_first a from_start p n1 in
         let s = paper.goes_on.start in
         omega (arith, low, s)
 
-    goes_n : (q : ℕ) → previous_of image xn < was.start → GoesOn image hn a q → GoesOn was hn was.tail q
+    goes_n : (q : ℕ) → next_of image xn < was.start → GoesOn image hn a q → GoesOn was hn was.tail q
     goes_n q under (by_triple t low) = by_triple (same_triple spells paper.opened paper.goes_on hn q t) (let s = paper.goes_on.start in omega (arith, low, s))
     goes_n q under (by_none none is) = by_none (λ t it. none t (triple_there spells paper.opened paper.goes_on hn t it)) is
     goes_n q under (by_record c y least within valid leads low) =
@@ -506,18 +506,18 @@ module _ (home : ℕ → ℕ) (was image : scan.Log) (g : Log) (spells : SpellsA
         absurd (omega (arith, up, under, least, s)))
         (cases_lt c was.tail)
 
-    below_n : previous_of image xn < image.start → (q : ℕ) → GoesOn image (record_home image.shape.bucket_bits xn) a q → previous_of image xn ≡ q
+    below_n : next_of image xn < image.start → (q : ℕ) → GoesOn image (record_home image.shape.bucket_bits xn) a q → next_of image xn ≡ q
     below_n low q goes =
         let s = paper.goes_on.start in
         let up = paper.opened.upwards in
-        let under : previous_of image xn < was.start = omega (arith, low, s) in
+        let under : next_of image xn < was.start = omega (arith, low, s) in
         let there = goes_n q under (subst (λ (n : ℕ). GoesOn image n a q) (its_bits spells paper.opened paper.goes_on xn) goes) in
         elim (next a from_start p).0 [
           | inl none ↦ elim (zero_or q) [
             | inl nothing ↦ none ∙ sym nothing
             | inr some ↦ (let c = goes_chain hn q some there in let less = c.1 in let most = below_is a from_start p q c.0 (omega (arith, less, up, new)) in absurd (some (omega (arith, most, none))))
           ]
-          | inr has ↦ goes_same hn (previous_of image xn) q (chain_goes hn (previous_of image xn) has under (λ b its less. below_is a from_start p b its (omega (arith, less, up, new)))) there
+          | inr has ↦ goes_same hn (next_of image xn) q (chain_goes hn (next_of image xn) has under (λ b its less. below_is a from_start p b its (omega (arith, less, up, new)))) there
         ]
 
     pub linked_n : IsScanLinked image a xn

@@ -10,7 +10,7 @@ use Rattle.fkv_record.specs.declared.triples.Triple.{Triple}
 use Rattle.fkv_record.proofs.Shown.{from_some}
 use Rattle.fkv_scan.specs.Log as scan
 use Rattle.fkv_scan.specs.Log.{HasTriple, record_home}
-use Rattle.fkv_scan.specs.Records.{Stands, previous_of, IsValid}
+use Rattle.fkv_scan.specs.Records.{Stands, next_of, IsValid}
 use Rattle.fkv_scan.specs.Scan.{GoesOn, by_triple, by_none, by_record}
 use Rattle.fkv_words.specs.Fields.{SpellsApart}
 use Rattle.law_paper.specs.Paper.Old.{GoesOnFrom, WasSound}
@@ -24,7 +24,7 @@ module _ {was : scan.Log} (spells : SpellsApart record_bytes) (sound : WasSound 
   start_some a from = (let some = sound.begins in omega (arith, from, some))
 
   -- what is reached lies below the end, and leads below itself
-  pub falls_in : (a : ℕ) (x : Record) → a < was.tail → Reached was a → Stands was a x → previous_of was x < a
+  pub falls_in : (a : ℕ) (x : Record) → a < was.tail → Reached was a → Stands was a x → next_of was x < a
   falls_in = leads_down spells sound.scan sound.chains sound.below
 
   pub was_low : (a : ℕ) → Reached was a → a < was.tail
@@ -35,12 +35,12 @@ module _ {was : scan.Log} (spells : SpellsApart record_bytes) (sound : WasSound 
   was_some a (in_scan _ x from within stands valid) = start_some a from
   was_some a (led_to h _ t) = t.in_log
   was_some b (linked a _ x reached stands is some) =
-      let up : was.begin ≤ previous_of was x = from_some was.begin x.header.previous.0 (λ none. some (sym is ∙ none)) in
+      let up : was.begin ≤ next_of was x = from_some was.begin x.header.previous.0 (λ none. some (sym is ∙ none)) in
       omega (arith, up, is)
 
   module _ {image : scan.Log} (goes_on : GoesOnFrom was image) where
     -- where a record leads
-    pub leads_same : (x : Record) → previous_of image x ≡ previous_of was x
+    pub leads_same : (x : Record) → next_of image x ≡ next_of was x
     leads_same x = ap (λ (b : ℕ). from_or_none b x.header.previous.0) goes_on.begin
 
     -- the home of a record

@@ -8,7 +8,7 @@ use Rattle.fkv_disk.specs.Bytes.{bytes_at}
 use Rattle.fkv_record.specs.Begin.{from_or_none}
 use Rattle.fkv_record.specs.Layout.{record_bytes}
 use Rattle.fkv_record.specs.Places.{record_place}
-use Rattle.fkv_scan.specs.Records.{previous_of}
+use Rattle.fkv_scan.specs.Records.{next_of}
 use Rattle.fkv_scan.proofs.Shown.{stands_read, none_read}
 use Rattle.fkv_pairs.specs.Gathered.{lower_or_none}
 use Rattle.fkv_pairs.proofs.Along.{IsGathering, gather_first, gather_seen, gather_new, all_gathered, next_short, read_of, none_is}
@@ -51,15 +51,15 @@ loop-addr-preserved g c =
           let all = read_of (g.D.Device.seen c.args.d.now) c.args.shape c.args.begin.0 log reads a c.in_ok-found.field-0
           (subst (λ image. Reads record_bytes (bytes_at image (record_place c.args.shape a) 24) c.in_ok-found.field-0) (quiet.same_bytes claim) (c.in_ok-found.ensures.ok (quiet.premise.0 claim))) in
           let stands = stands_read log a c.in_ok-found.field-0 all x c.in-Some.is in
-          let leads : c.from_or_none-previous.result.0 ≡ previous_of log x = place ∙ ap (λ (b : ℕ). from_or_none b x.header.previous.0) (sym reads.begins) in
-          let next : c.lower_or_none-addr.result.0 ≡ lower_or_none (previous_of log x) a = is ∙ ap (λ (n : ℕ). lower_or_none n a) leads in
+          let leads : c.from_or_none-previous.result.0 ≡ next_of log x = place ∙ ap (λ (b : ℕ). from_or_none b x.header.previous.0) (sym reads.begins) in
+          let next : c.lower_or_none-addr.result.0 ≡ lower_or_none (next_of log x) a = is ∙ ap (λ (n : ℕ). lower_or_none n a) leads in
           subst (λ n. IsGathering log its_home before (get nat_cmp c.if-not-contains_key.values) n) (sym next) (elim c.if-not-contains_key.branch [
             | then-not-contains_key+in_ok-insert w ↦
                 let new : is_some (at x.key.0) ≡ false = sym c.contains_key.ensures ∙ w.if-not-contains_key.true in
-                subst (λ (m : BTreeMap ℕ ℕ). IsGathering log its_home before (get nat_cmp m) (lower_or_none (previous_of log x) a)) (sym w.values-is)
+                subst (λ (m : BTreeMap ℕ ℕ). IsGathering log its_home before (get nat_cmp m) (lower_or_none (next_of log x) a)) (sym w.values-is)
                 (gather_new spelled log reads.faultless its_home before at a c.loop-addr-test.true so_far x stands (get nat_cmp w.insert.new.self) x.key.0 x.value refl refl new w.in_ok-insert.ensures.updates.0)
             | else-not-contains_key w ↦
-                subst (λ (m : BTreeMap ℕ ℕ). IsGathering log its_home before (get nat_cmp m) (lower_or_none (previous_of log x) a)) (sym w.values-is)
+                subst (λ (m : BTreeMap ℕ ℕ). IsGathering log its_home before (get nat_cmp m) (lower_or_none (next_of log x) a)) (sym w.values-is)
                 (gather_seen spelled log reads.faultless its_home before at a c.loop-addr-test.true so_far x stands (sym c.contains_key.ensures ∙ w.if-not-contains_key.false))
           ]);
     }
