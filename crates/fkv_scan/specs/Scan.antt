@@ -36,7 +36,7 @@ pub record IsLinked (log : Log) (a : ℕ) (x : Record) : Type 0 where
   pub nearest : losses_of log a x ≡ 0 → (b : ℕ) → IsGreatest (IsKept log (record_home log.shape.bucket_bits x)) log.start a b
       → (next_of log x ≡ b) × ((y : Record) → Stands log b y → version_of log y ≤ version_of log x)
   pub first : losses_of log a x ≡ 0 → HasNone (IsKept log (record_home log.shape.bucket_bits x)) log.start a → next_of log x < log.start
-  pub lost : losses_of log a x ≢ 0 → log.start ≤ next_of log x → Has (IsValid log (record_home log.shape.bucket_bits x)) next_of log x
+  pub lost : losses_of log a x ≢ 0 → log.start ≤ next_of log x → Has (IsValid log (record_home log.shape.bucket_bits x)) (next_of log x)
   pub below : next_of log x < log.start → (q : ℕ) → GoesOn log (record_home log.shape.bucket_bits x) a q → next_of log x ≡ q
 
 -- the bytes at an address spell a record that leads below it, of a version from the oldest one up to the next commit's
