@@ -46,5 +46,5 @@ returns-clause-ok g c = λ claim store. record {
   entries = store.entries;
   lost = store.lost;
   warm = is_warm (g.D.Device.seen c.args.d.now) _
-      (c.in_ok-words.ensures.ok claim ∙ (let first = c.first_warm-first.result in ap (λ (v : ℕ). records_from (g.D.Device.seen c.args.d.now) c.args.opened.shape v first.0 (c.args.opened.tail.0 - first.0)) c.mark-version.ensures.mark));
+      (c.in_ok-words.ensures.ok claim ∙ (let first = c.first_warm-first.result in ap (λ (v : ℕ). records_from (g.D.Device.seen c.args.d.now) c.args.opened.shape c.args.opened.begin.0 v first.0 (c.args.opened.tail.0 - first.0)) c.mark-version.ensures.mark));
 }
