@@ -163,7 +163,7 @@ def slot_words(slot):
         return "closed"
     if slot["state"] == "unspelled":
         return f"commit {slot['commit']} and no slot's bytes"
-    named = "".join(f" {name} {slot[name]}" for name in ("format", "end", "checkpoint", "from", "triples", "area"))
+    named = "".join(f" {name} {slot[name]}" for name in ("format", "end", "checkpoint", "from", "triples", "area", "begin") if name in slot)
     return f"commit {slot['commit']} {slot['kind']}{named} points{words(slot['points'])} lost{words(colons(slot['lost']))}"
 
 
