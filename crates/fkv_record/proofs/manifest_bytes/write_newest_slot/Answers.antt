@@ -1,5 +1,5 @@
-use Rattle.std.proofs.Common.{◌≡◌, refl, sym, ap, ◌∙◌, arith, length}
-use Rattle.fkv_record.specs.Manifest.{manifest_bytes, newest_bytes, newest_numbers, said_in}
+use Rattle.std.proofs.Common.{◌≡◌, sym, ap, arith, length}
+use Rattle.fkv_record.specs.Manifest.{newest_bytes, said_in}
 use Rattle.fkv_record.specs.Numbers.{spelled}
 use Rattle.fkv_record.proofs.ManifestSections.{length-layout, newest_held, newest_whole}
 use Rattle.fkv_record.proofs.ManifestBytes.{newest_spelled}
