@@ -30,12 +30,15 @@ pub record HasCheckpoint (shape : Shape) (index : ℕ) (format : Format) (slot :
   pub no_newer : slot.checkpoint ≤ slot.number
   pub in_window : InWindow shape.class slot.checkpoint slot.number
 
--- The log begins at its first record or above it, and not above the address at which the scan starts. In a specified store it always begins at its first record,
--- and the fourth format is none of its slots'.
+-- in a specified store the log begins at its first record, and no slot is of the fourth format
+abbrev pub IsWhole : Shape → Format → ManifestSlot → Type 0
+IsWhole shape format slot = shape.class ≡ Specified → (slot.begin.0 ≡ 1) × (format ≢ Fourth)
+
+-- The log begins at its first record or above it, and not above the address at which the scan starts.
 pub record HasBegin (shape : Shape) (format : Format) (slot : ManifestSlot) : Type 0 where
   pub some : 1 ≤ slot.begin.0
   pub before_scan : slot.begin.0 ≤ slot.first.0
-  pub whole : shape.class ≡ Specified → (slot.begin.0 ≡ 1) × (format ≢ Fourth)
+  pub whole : IsWhole shape format slot
 
 -- a lost range ends within the scan, and its version is above the checkpoint's number and at most the commit's
 pub record IsLostIn (slot : ManifestSlot) (range : LostRange) : Type 0 where
