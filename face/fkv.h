@@ -456,6 +456,20 @@ int32_t fkv_commit(fkv_keeper *keeper, uint32_t log_only, uint64_t *number);
 int32_t fkv_turn(fkv_keeper *keeper, fkv_turned *turned, uint64_t *points, size_t room);
 
 /*
+ * A commit of a living store rests before each sync of its writes: there the turn is over, and fkv_rests answers 1 up to the turn that goes on.
+ * fkv_serve makes a turn that serves reads of the file, and leaves the writes at rest. It answers as fkv_turn does, and where nothing rests it is
+ * fkv_turn. fkv_turn serves too, and then goes on with the writes: it posts the sync.
+ *
+ * So a caller may sync the file by itself, in another thread, and serve meanwhile. If that sync has succeeded, and nothing was written since it
+ * began, it answers the one that is posted. If it has failed, it isn't made again: the posted one has failed. Who calls fkv_turn alone makes a
+ * few turns more for a commit.
+ */
+int32_t fkv_serve(fkv_keeper *keeper, fkv_turned *turned, uint64_t *points, size_t room);
+
+/* 1 where writes of a commit rest behind the last turn, else 0. */
+int32_t fkv_rests(fkv_keeper *keeper);
+
+/*
  * Takes how the posted call has gone, and goes on with the turn, as fkv_turn does. `failed` isn't 0 where it has failed. After a
  * read `bytes` are what was read, `size` of them, and else `size` is 0. `bytes` isn't NULL, and `points` neither.
  *

@@ -36,6 +36,7 @@ struct turn {
     uint64_t copied;  /* entries of the index that were written, as a full commit writes all */
     int why;          /* errno of the call of the file that has failed */
     bool has_called;  /* it has called the file, so the next turn may have something to do */
+    bool rests;       /* the writes of the commit in hand rest behind it */
 };
 
 /* How long a session waits already, with nothing of it finished. */
@@ -79,7 +80,10 @@ struct fkv_file {
     bool is_living;  /* its calls leave room to its polls, so that none of these ever finds it full */
     bool has_own;    /* the session behind those of users is the library's */
     fkv_store store;
-    fkv_keeper keeper; /* of whoever has the turn, and so are the next three */
+    fkv_keeper keeper; /* of whoever has the turn, and so are the next six */
+    uint64_t writes;   /* how many writes of the file turns have begun */
+    uint64_t synced;   /* all of the first so many are durable */
+    int sync_why;      /* errno of a sync of them that has failed, which isn't told yet, or 0 */
     bool is_mapped;    /* records are read back by a mapping, as long as the system gives one */
     struct bytes map;  /* of the file, and of bytes behind it that it hasn't yet */
     unsigned near;     /* so many reads more count as near to one that has waited for a disk */
@@ -96,7 +100,7 @@ struct fkv_file {
     atomic_bool is_behind;   /* the library's session hurries to keep what is about to leave memory. (without the lock) */
     atomic_ullong begun;     /* how many commits have begun since the opening */
     atomic_int why;          /* errno of a fault that is -FKV_DEVICE. It is written before `ends` */
-    /* These are written by who has the turn, and by sessions that read many. */
+    /* These are written by who has the turn, and by sessions that read. */
     atomic_uint slow;        /* so many reads more are asked for ahead: some of the last have waited for a disk */
     atomic_ullong fetched;   /* records that the system was asked for ahead of their reads */
     char apart_too[64];      /* what the keeper's thread writes often, away from what each tick reads */
@@ -130,6 +134,8 @@ struct fkv_file {
     bool has_told_unwarmed; /* the hook `unwarmed` was called */
     bool nudged;       /* a turn is wanted at once */
     bool is_stirred;   /* something was asked or done since the keeper's last turn */
+    bool rests;        /* the writes of the commit in hand rest before a sync */
+    bool is_syncing;   /* which the keeper's thread makes, without the turn: others serve meanwhile */
     uint64_t asked;    /* the last ticket that was given */
     uint64_t covers;   /* tickets up to this one are served by the commit in hand */
     uint64_t finished; /* and up to this one they are served */
@@ -251,12 +257,27 @@ void fkv_note_read(fkv_file *file, struct timespec begun);
  */
 size_t fkv_fetch_ahead(fkv_file *file, fkv_session *session, const uint64_t *keys, size_t count, size_t at, size_t fetched);
 
+/*
+ * The same of one key that was just read and waits, if another thread has the turn: it reads for others before, and the disk would be idle for
+ * this one meanwhile. Without one the reader's own turn reads it at once.
+ */
+void fkv_fetch_alone(fkv_file *file, fkv_session *session, uint64_t key);
+
 /* ---- Of turns. The lock is held, but for the next two. -------------------------------------------------------------------------- */
 
 typedef void tell_turn_fn(void *user, const struct turn *turn);
 
 /* Makes a turn, which the caller has, with its calls of the file. `tell`, if it isn't NULL, hears of each. FKV_OVER or a refusal. */
 int32_t fkv_make_turn(fkv_file *file, struct turn *turn, tell_turn_fn *tell, void *user);
+
+/* The same of a turn that only serves, while the writes of a commit rest. */
+int32_t fkv_serve_turn(fkv_file *file, struct turn *turn);
+
+/*
+ * Makes the sync before which the writes of a commit rest, without the turn. Who waits meanwhile serves by himself. The lock is held, but
+ * while it is made.
+ */
+void fkv_sync_ahead(fkv_file *file);
 
 /*
  * A turn in the thread of a session that waits. 1 where it was made; 0 where another thread has the turn, or has to make it; why nobody

@@ -254,6 +254,7 @@ static void go_on(struct run *run) {
     if (is_finished) file->in_hand = false;
     fkv_end_turn(file, &turn, result);
     if (is_finished) finish_commit(run, &turn);
+    fkv_sync_ahead(file);
 }
 
 /* Linux ends a short sleep of a thread up to 50 microseconds late, unless the thread says otherwise. */

@@ -49,6 +49,10 @@ static void swap(fkv_file *file, fkv_file *fresh) {
     file->fault = file->full = file->stuck = 0;
     file->index_full = file->in_hand = false;
     file->commit_us = file->commit_bytes = 0;
+    /* What the old file was, a sync that failed among it, is no more. The new one is synced. */
+    file->writes = file->synced = 0;
+    file->sync_why = 0;
+    file->rests = false;
     fresh->fd = old.fd, fresh->store = old.store, fresh->keeper = old.keeper;
     memcpy(fresh->sessions, old.sessions, sizeof old.sessions);
     fkv_find_end(file);

@@ -3,6 +3,7 @@
 #include "fkv_file.h"
 
 #include <errno.h>
+#include <unistd.h>
 
 enum {
     /* What has waited so long and for so many turns waits for ever: where the log is known to be full, and where it isn't. */
@@ -107,8 +108,26 @@ static void note_call(const fkv_file *file, struct turn *turn, int32_t call) {
     if (end > turn->end) turn->end = end;
 }
 
+/*
+ * Makes a sync that a turn has posted, unless all that was written is durable already, or a sync of it has failed: it isn't made again then,
+ * since a system may forget what it couldn't write.
+ */
+static int make_sync(fkv_file *file) {
+    if (file->sync_why) {
+        errno = file->sync_why;
+        file->sync_why = 0;
+        return -1;
+    }
+    if (file->synced == file->writes) return 0;
+    int failed = fdatasync(file->fd);
+    if (!failed) file->synced = file->writes;
+    return failed;
+}
+
 /* Makes a call that a turn has posted. 0, or -1 where it has failed, with errno. */
 static int make_call(fkv_file *file, int32_t call, const fkv_turned *turned, uint8_t into[FKV_READ_SIZE]) {
+    if (call == FKV_SYNC) return make_sync(file);
+    if (call == FKV_WRITE) file->writes++;
     if (call != FKV_READ) return fkv_call_file(file->fd, call, turned, into);
     struct timespec begun = fkv_now();
     int failed = fkv_read_mapped(file, turned->place, into) ? 0 : fkv_call_file(file->fd, call, turned, into);
@@ -116,9 +135,9 @@ static int make_call(fkv_file *file, int32_t call, const fkv_turned *turned, uin
     return failed;
 }
 
-int32_t fkv_make_turn(fkv_file *file, struct turn *turn, tell_turn_fn *tell, void *user) {
+/* Makes the calls of a turn that has begun, up to its end. `call` is what it has posted. */
+static int32_t end_calls(fkv_file *file, struct turn *turn, int32_t call, tell_turn_fn *tell, void *user) {
     uint8_t into[FKV_READ_SIZE] = {0};
-    int32_t call = fkv_turn(&file->keeper, &turn->turned, turn->points, FKV_MOST_SESSIONS);
     bool has_called = call > FKV_OVER;
     while (call > FKV_OVER) {
         /* (that may take long) */
@@ -132,8 +151,36 @@ int32_t fkv_make_turn(fkv_file *file, struct turn *turn, tell_turn_fn *tell, voi
     }
     /* Where memory was refused, the next turn would at once be refused it again. */
     turn->has_called = has_called && call == FKV_OVER;
+    turn->rests = call == FKV_OVER && fkv_rests(&file->keeper);
     fkv_hide_own(file, turn->points);
     return call;
+}
+
+int32_t fkv_make_turn(fkv_file *file, struct turn *turn, tell_turn_fn *tell, void *user) {
+    int32_t call = fkv_turn(&file->keeper, &turn->turned, turn->points, FKV_MOST_SESSIONS);
+    return end_calls(file, turn, call, tell, user);
+}
+
+int32_t fkv_serve_turn(fkv_file *file, struct turn *turn) {
+    int32_t call = fkv_serve(&file->keeper, &turn->turned, turn->points, FKV_MOST_SESSIONS);
+    return end_calls(file, turn, call, NULL, NULL);
+}
+
+void fkv_sync_ahead(fkv_file *file) {
+    /* Nobody writes meanwhile: whoever takes the turn only serves. */
+    uint64_t writes = file->writes;
+    if (!file->rests || file->stops || !fkv_has_turns(file) || file->synced == writes) return;
+    file->is_syncing = true;
+    if (file->waiting) pthread_cond_broadcast(&file->served);
+    pthread_mutex_unlock(&file->lock);
+    int why = fdatasync(file->fd) ? errno : 0;
+    pthread_mutex_lock(&file->lock);
+    file->is_syncing = false;
+    /* The fields of the sync are of who has the turn. */
+    fkv_take_turn(file);
+    if (why) file->sync_why = why;
+    else file->synced = writes;
+    fkv_give_turn(file);
 }
 
 void fkv_take_turn(fkv_file *file) {
@@ -155,6 +202,7 @@ void fkv_end_turn(fkv_file *file, const struct turn *turn, int32_t result) {
     file->turns += result == FKV_OVER;
     file->called += turn->has_called;
     file->cold_reads += turn->reads;
+    file->rests = turn->rests;
     if (turn->end > file->log_end) file->log_end = turn->end;
     if (turn->has_called) file->is_stirred = true;
     /* Memory that was refused may come; the other refusals stay. */
@@ -169,8 +217,12 @@ int32_t fkv_help(fkv_file *file) {
     pthread_mutex_lock(&file->lock);
     int32_t why = fkv_unserved(file);
     bool is_free = why == 0 && !atomic_load(&file->turning) && !file->is_wanted;
-    /* A commit's turns sync: these are the keeper's thread's. It makes them one after the other as long as somebody waits. */
-    bool is_own = is_free && !atomic_load(&file->in_hand) && !fkv_awaits_warmer(file);
+    /*
+     * A commit's turns sync: these are the keeper's thread's. It makes them one after the other as long as somebody waits. But while it is in
+     * a sync, turns only serve. No record leaves memory by these, so they needn't be left to it.
+     */
+    bool commits = atomic_load(&file->in_hand);
+    bool is_own = is_free && (commits ? file->is_syncing : !fkv_awaits_warmer(file));
     if (is_own) atomic_store(&file->turning, true);
     else if (is_free && !file->nudged) {
         file->nudged = true;
@@ -180,7 +232,7 @@ int32_t fkv_help(fkv_file *file) {
     if (!is_own) return fkv_with_errno(file, why);
     turn.written = turn.end = turn.reads = turn.copied = 0;
     turn.why = 0;
-    int32_t result = fkv_make_turn(file, &turn, NULL, NULL);
+    int32_t result = commits ? fkv_serve_turn(file, &turn) : fkv_make_turn(file, &turn, NULL, NULL);
     pthread_mutex_lock(&file->lock);
     file->helped++;
     fkv_end_turn(file, &turn, result);

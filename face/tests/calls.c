@@ -1,4 +1,4 @@
-/* The calls of fkv.h over a device in memory: each once, many keys, hints, what they refuse, a crash at each call of a commit, and renewals. */
+/* The calls of fkv.h over a device in memory: each once, many keys, hints, what they refuse, crashes and rests of commits, and renewals. */
 #include "device.h"
 
 enum { SESSIONS = 2, KEYS = 100, MOST_TURNS = 1000 };
@@ -631,6 +631,50 @@ static void crashes(void) {
     }
 }
 
+/* A key is read from the file by a turn that only serves. It makes one call, and the writes rest still. */
+static void served_at_rest(struct opened *it, uint64_t key) {
+    fkv_finished finished[FKV_MOST_PENDING];
+    fkv_turned turned = {0};
+    uint64_t value = 0, count = 0, calls = device.calls, points[FKV_MOST_SESSIONS];
+    WANTS("a read at rest", fkv_get(&it->sessions[0], key, &value), FKV_PENDING);
+    int32_t call = fkv_serve(&it->keeper, &turned, points, FKV_MOST_SESSIONS);
+    WANTS("what it needs", call, FKV_READ);
+    WANTS("such a turn", end_turn(&device, &it->keeper, call, &turned, points, FKV_MOST_SESSIONS), FKV_OVER);
+    WANTS("its calls", device.calls, calls + 1);
+    WANTS("whether the writes rest still", fkv_rests(&it->keeper), 1);
+    fkv_poll(&it->sessions[0], finished, FKV_MOST_PENDING, &count);
+    WANTS("how many are finished", count, 1);
+    WANTS("the ticket of a read", finished[0].name, value);
+    WANTS("of what kind", finished[0].kind, FKV_READ_FOUND);
+}
+
+/* A commit rests before each sync of what it writes. Reads are served there, no other commit begins, and the next turn posts that sync. */
+static void resting(void) {
+    fkv_turned turned = {0};
+    uint64_t number, other, points[FKV_MOST_SESSIONS], rests = 0;
+    struct opened it = second_commit_ahead();
+    close_all(&it);
+    it = open_bytes(device.synced, device.synced_size, FKV_SPREAD);
+    WANTS("whether a store that is opened rests", fkv_rests(&it.keeper), 0);
+    add(&it, 0, KEYS, 1);
+    WANTS("asking for a commit", fkv_commit(&it.keeper, 0, &number), 0);
+    for (int i = 0; !turned.finished; i++) {
+        WANTS("whether the commit is finished", i < MOST_TURNS, true);
+        WANTS("a turn", go_round(&it, &turned, points), FKV_OVER);
+        if (!fkv_rests(&it.keeper)) continue;
+        served_at_rest(&it, rests++);
+        WANTS("a turn that only serves", fkv_serve(&it.keeper, &turned, points, FKV_MOST_SESSIONS), FKV_OVER);
+        WANTS("whether the writes rest behind it", fkv_rests(&it.keeper), 1);
+        WANTS("a commit at rest", fkv_commit(&it.keeper, 0, &other), -FKV_COMMIT_RUNNING);
+        WANTS("what the next turn posts", fkv_turn(&it.keeper, &turned, points, FKV_MOST_SESSIONS), FKV_SYNC);
+    }
+    WANTS("the finished commit", turned.number, number);
+    /* of the triples, of the gate that is closed, of the slot, and of the gate that is opened */
+    WANTS("how often it has rested", rests, 4);
+    WANTS("whether anything rests then", fkv_rests(&it.keeper), 0);
+    close_all(&it);
+}
+
 static void spreading(void) {
     uint64_t key = 1;
     for (int i = 0; i < 1000; i++) {
@@ -654,6 +698,7 @@ int main(void) {
     renewing();
     renewing_refused();
     crashes();
+    resting();
     spreading();
     return 0;
 }

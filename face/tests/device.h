@@ -47,15 +47,19 @@ static inline bool call_device(struct device *device, int32_t call, const fkv_tu
     return false;
 }
 
-/* Makes a whole turn. */
-static inline int32_t turn_device(struct device *device, fkv_keeper *keeper, fkv_turned *turned, uint64_t *points, size_t room) {
+/* Makes the calls of a turn that has posted this one, up to its end. */
+static inline int32_t end_turn(struct device *device, fkv_keeper *keeper, int32_t call, fkv_turned *turned, uint64_t *points, size_t room) {
     uint8_t into[FKV_READ_SIZE] = {0};
-    int32_t call = fkv_turn(keeper, turned, points, room);
     while (call > FKV_OVER) {
         bool failed = call_device(device, call, turned, into);
         call = fkv_told(keeper, failed, into, call == FKV_READ ? FKV_READ_SIZE : 0, turned, points, room);
     }
     return call;
+}
+
+/* Makes a whole turn. */
+static inline int32_t turn_device(struct device *device, fkv_keeper *keeper, fkv_turned *turned, uint64_t *points, size_t room) {
+    return end_turn(device, keeper, fkv_turn(keeper, turned, points, room), turned, points, room);
 }
 
 #endif

@@ -151,7 +151,7 @@ def most_buckets(sessions):
     asked.refuse(0, 9 * 128 * sessions, FULL)
     pairs = [f"pair {key} {value}" for key, value in sorted(asked.pairs.items())]
     asked.say("crash", f"crash commit 1 points {asked.points()} pairs {len(pairs)}", *pairs, "check recovered equals replay")
-    return Row(f"{64 * sessions - 1} requests that need an overflow bucket each", whole(asked.script), whole(asked.answers), words=("--check",))
+    return Row(f"{64 * sessions - 1} requests that need an overflow bucket each", whole(asked.script), whole(asked.answers), words=("--check",), seconds=5 * SECONDS)
 
 
 # ---- Records ----------------------------------------------------------------------------------------------------------------------------
@@ -225,11 +225,11 @@ def other_of_race(program, race, seed):
     """What is otherwise in a run over a file: its answers, in some order, what the file holds, and how many records polls have taken."""
     asked = race.asked
     with tempfile.TemporaryDirectory() as folder:
-        words = {"input": whole(asked.script).encode(), "cwd": folder, "capture_output": True, "timeout": 4 * SECONDS}
+        words = {"input": whole(asked.script).encode(), "cwd": folder, "capture_output": True, "timeout": 15 * SECONDS}
         try:
             ran = subprocess.run([program, "--file", STORE, "--seed", str(seed)], **words)
         except subprocess.TimeoutExpired:
-            return f"it has not ended after {4 * SECONDS} seconds"
+            return f"it has not ended after {15 * SECONDS} seconds"
         if ran.returncode:
             return f"status {ran.returncode}"
         found = find(contents(os.path.join(folder, STORE)))[0]

@@ -48,12 +48,12 @@ where
     S::Disk: Breaks,
     ensures whole { result ≢ 4 → said.Writes (said.IsOutputOf (said.devices_of
         (said.memory_of ⟦<Fuse<MemDisk> as Device>⟧ ⟦<Fuse<MemDisk> as Breaks>⟧.broken
-        ⟦<Fuse<MemDisk> as Crashes>⟧.image ⟦<Fuse<MemDisk> as Crashes>⟧.armed)
+        ⟦<Fuse<MemDisk> as Crashes>⟧.armed)
         (said.files_of S.Disk.Device S.Disk.broken (S.is_opened places.now) (S.is_made places.now)))
         (said.texts words.now) (R.remaining input) result) (W.contents output.old) (W.contents output.new) }
     ensures part { result ≡ 4 → said.BreaksOff (said.IsOutputOf (said.devices_of
         (said.memory_of ⟦<Fuse<MemDisk> as Device>⟧ ⟦<Fuse<MemDisk> as Breaks>⟧.broken
-        ⟦<Fuse<MemDisk> as Crashes>⟧.image ⟦<Fuse<MemDisk> as Crashes>⟧.armed)
+        ⟦<Fuse<MemDisk> as Crashes>⟧.armed)
         (said.files_of S.Disk.Device S.Disk.broken (S.is_opened places.now) (S.is_made places.now)))
         (said.texts words.now) (R.remaining input) 4) (W.contents output.old) (W.contents output.new) }
     ensures replies { result ≡ 0 → said.Writes (said.PrintsMapOfScript (said.texts words.now) (R.remaining input))
@@ -66,18 +66,18 @@ where
     ensures lives { said.LivesGoOn ⟦<Fuse<MemDisk> as Device>⟧.seen ⟦<Fuse<MemDisk> as Device>⟧.may_leave (said.holds_of ⟦<Fuse<MemDisk> as Device>⟧) }
     ensures kept { said.CrashesTakeWhatIsKept ⟦<Fuse<MemDisk> as Device>⟧.seen
         (said.memory_of ⟦<Fuse<MemDisk> as Device>⟧ ⟦<Fuse<MemDisk> as Breaks>⟧.broken
-        ⟦<Fuse<MemDisk> as Crashes>⟧.image ⟦<Fuse<MemDisk> as Crashes>⟧.armed) }
+        ⟦<Fuse<MemDisk> as Crashes>⟧.armed) }
     ensures armed { said.ArmingGoesOn ⟦<MemDisk as Device>⟧.seen ⟦<MemDisk as Device>⟧.may_leave }
     ensures runs { (settings : said.Settings) → said.RunsGoOn ⟦<Fuse<MemDisk> as Device>⟧.seen ⟦<Fuse<MemDisk> as Device>⟧.may_leave
         (said.memory_of ⟦<Fuse<MemDisk> as Device>⟧ ⟦<Fuse<MemDisk> as Breaks>⟧.broken
-        ⟦<Fuse<MemDisk> as Crashes>⟧.image ⟦<Fuse<MemDisk> as Crashes>⟧.armed) settings }
+        ⟦<Fuse<MemDisk> as Crashes>⟧.armed) settings }
     ensures in_lives { result ≢ 4 → said.Writes (said.PrintsInLives ⟦<Fuse<MemDisk> as Device>⟧.seen ⟦<Fuse<MemDisk> as Device>⟧.may_leave
         (said.memory_of ⟦<Fuse<MemDisk> as Device>⟧ ⟦<Fuse<MemDisk> as Breaks>⟧.broken
-        ⟦<Fuse<MemDisk> as Crashes>⟧.image ⟦<Fuse<MemDisk> as Crashes>⟧.armed)
+        ⟦<Fuse<MemDisk> as Crashes>⟧.armed)
         (said.texts words.now) (R.remaining input) result) (W.contents output.old) (W.contents output.new) }
     ensures all_lives { result ≢ 4 → said.Writes (said.ReportsOfAllLives ⟦<Fuse<MemDisk> as Device>⟧.seen ⟦<Fuse<MemDisk> as Device>⟧.may_leave
         (said.memory_of ⟦<Fuse<MemDisk> as Device>⟧ ⟦<Fuse<MemDisk> as Breaks>⟧.broken
-        ⟦<Fuse<MemDisk> as Crashes>⟧.image ⟦<Fuse<MemDisk> as Crashes>⟧.armed)
+        ⟦<Fuse<MemDisk> as Crashes>⟧.armed)
         (said.texts words.now) (R.remaining input) result) (W.contents output.old) (W.contents output.new) }
     ensures file_lines { said.ReplyLineByLine (said.step_of S.Disk.Device S.Disk.broken) }
     ensures each_file_line { ((device : S.Disk) → S.Disk.honest device) → said.EachLineGoesOn S.Disk.seen S.Disk.may_leave

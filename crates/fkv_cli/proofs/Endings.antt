@@ -77,29 +77,29 @@ refusal_breaks places path pieces fault a b result why h =
 
 -- the lives of a new store in memory
 pub lives_in_memory : {E M : Type 0} (medium : Medium M) (options : Options) (shape : Shape) (opened : Opened) (image : List ℕ) (device : M) (pieces : List Piece) (a b : Option (List ℕ)) (result : Result ℕ E)
-    → IsNewStore shape opened → IsCreated shape image → IsStoreOf image opened → medium.holds image device
+    → IsNewStore shape opened → IsCreated shape image → IsStoreOf image opened → medium.holds image device → medium.crashes image device
     → IfOk result (λ status. (player : PlayerState M) × Begins opened device [] options.check player
     × Writes (IsRun medium (settings_of options) pieces (record { player = player; agrees = true }) status) a b)
     → IfOk result (λ status. Writes (λ text. IsRunInMemory medium options shape pieces status text ⊎ Refuses Device 3 status text) a b)
-lives_in_memory medium options shape opened image device pieces a b (Err error) new created store reads h = tt
-lives_in_memory medium options shape opened image device pieces a b (Ok status) new created store reads h =
+lives_in_memory medium options shape opened image device pieces a b (Err error) new created store reads crashes h = tt
+lives_in_memory medium options shape opened image device pieces a b (Ok status) new created store reads crashes h =
     writes_weaker (IsRun medium (settings_of options) pieces (record { player = h.0; agrees = true }) status) (λ text. IsRunInMemory medium options shape pieces status text ⊎ Refuses Device 3 status text) a b
-    (λ text run. inl (record { opened = opened; is_new = new; image = image; created = created; store = store; device = device; reads = reads; player = h.0; begins = h.1; lives = inl run }))
+    (λ text run. inl (record { opened = opened; is_new = new; image = image; created = created; store = store; device = device; reads = reads; crashes = crashes; player = h.0; begins = h.1; lives = inl run }))
     h.2
 
 -- they break off
 pub lives_break : {E M : Type 0} (medium : Medium M) (options : Options) (shape : Shape) (opened : Opened) (image : List ℕ) (device : M) (pieces : List Piece) (a b : Option (List ℕ)) (result : Result ℕ E)
-    → IsNewStore shape opened → IsCreated shape image → IsStoreOf image opened → medium.holds image device
+    → IsNewStore shape opened → IsCreated shape image → IsStoreOf image opened → medium.holds image device → medium.crashes image device
     → OnErr result (BreaksOff (λ text. (player : PlayerState M) × Begins opened device [] options.check player
     × IsPartOfRun medium (settings_of options) pieces (record { player = player; agrees = true }) text) a b)
     → OnErr result (BreaksOff (λ text. IsRunInMemory medium options shape pieces 4 text ⊎ Refuses Device 3 4 text) a b)
-lives_break {E} {M} medium options shape opened image device pieces a b result new created store reads h =
+lives_break {E} {M} medium options shape opened image device pieces a b result new created store reads crashes h =
     let Its : List ℕ → Type 0 = λ text. (player : PlayerState M) × Begins opened device [] options.check player
     × IsPartOfRun medium (settings_of options) pieces (record { player = player; agrees = true }) text in
     let Other : List ℕ → Type 0 = λ text. IsRunInMemory medium options shape pieces 4 text ⊎ Refuses Device 3 4 text in
     on_err_weaker result
     (breaks_weaker Its Other a b
-    (λ text part. inl (record { opened = opened; is_new = new; image = image; created = created; store = store; device = device; reads = reads; player = part.0; begins = part.1; lives = inr (refl, part.2) })))
+    (λ text part. inl (record { opened = opened; is_new = new; image = image; created = created; store = store; device = device; reads = reads; crashes = crashes; player = part.0; begins = part.1; lives = inr (refl, part.2) })))
     h
 
 -- the life of a store in a file

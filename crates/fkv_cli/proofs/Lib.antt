@@ -1,4 +1,5 @@
 mod Appending
+mod Creating
 mod Endings
 mod Finding
 mod Outputs

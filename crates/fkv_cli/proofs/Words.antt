@@ -99,6 +99,7 @@ memory_at_4 devices options shape pieces status text run =
       store = run.store;
       device = run.device;
       reads = run.reads;
+      crashes = run.crashes;
       player = run.player;
       begins = run.begins;
       lives = lives_at_4 devices.memory (settings_of options) pieces (record { player = run.player; agrees = true }) status text run.lives;

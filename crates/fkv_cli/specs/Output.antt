@@ -9,6 +9,7 @@ use Rattle.fkv_base.specs.declared.faults.Fault.TheVariants.{BadShape, Damaged, 
 use Rattle.fkv_base.specs.declared.shapes.Shape.{Shape}
 use Rattle.fkv_creating.specs.Created.{IsCreated, IsNewStore}
 use Rattle.fkv_disk.specs.Device.{LeavesOnly}
+use Rattle.fkv_disk.specs.Kinds.{Foretold, Kind}
 use Rattle.fkv_opening.specs.Faults.{IsFaultOf}
 use Rattle.fkv_runs.specs.Below.fkv_core.Worlds.{WorldModel}
 use Rattle.fkv_runs.specs.Below.fkv_core.Event.{Event}
@@ -89,9 +90,9 @@ pub record Places (F : Type 0) : Type 1 where
   pub is_opened : List ℕ → F → Type 0
   pub is_made : List ℕ → F → Type 0
 
-abbrev pub places_of : {F : Type 0} → (F → Type 0) → (F → List ℕ) → (F → List ℕ → Type 0) → (F → ℕ) → (F → ℕ → Bool) → (F → Bool) → (List ℕ → F → Type 0) → (List ℕ → F → Type 0) → Places F
-places_of honest seen may_leave failed refuses broken is_opened is_made =
-    record { engine = EngineStep honest seen may_leave failed refuses broken; honest = honest; seen = seen; may_leave = may_leave; is_opened = is_opened; is_made = is_made }
+abbrev pub places_of : {F : Type 0} → (F → Type 0) → (F → List ℕ) → (F → List ℕ → Type 0) → (F → ℕ) → (F → ℕ → Bool) → (F → List Kind → Foretold) → (F → Bool) → (List ℕ → F → Type 0) → (List ℕ → F → Type 0) → Places F
+places_of honest seen may_leave failed refuses expects broken is_opened is_made =
+    record { engine = EngineStep honest seen may_leave failed refuses expects broken; honest = honest; seen = seen; may_leave = may_leave; is_opened = is_opened; is_made = is_made }
 
 -- What a run goes by: of a device in memory, and of files.
 pub record Devices (M F : Type 0) : Type 1 where
@@ -107,7 +108,7 @@ path_in (Some path) = string_bytes path
 abbrev pub AreLives : {M : Type 0} → Medium M → Settings → List Piece → RunState M → ℕ → List ℕ → Type 0
 AreLives medium settings pieces before status text = IsRun medium settings pieces before status text ⊎ ((status ≡ 4) × IsPartOfRun medium settings pieces before text)
 
--- A new store in memory, over a device that holds it and refuses no call, and its lives.
+-- A new store in memory, over a device that holds it and refuses no call, and its lives. Crashes of the first one go from the store's image on.
 pub record IsRunInMemory {M : Type 0} (medium : Medium M) (options : Options) (shape : Shape) (pieces : List Piece) (status : ℕ) (text : List ℕ) : Type 0 where
   pub opened : Opened
   pub is_new : IsNewStore shape opened
@@ -116,6 +117,7 @@ pub record IsRunInMemory {M : Type 0} (medium : Medium M) (options : Options) (s
   pub store : IsStoreOf image opened
   pub device : M
   pub reads : medium.holds image device
+  pub crashes : medium.crashes image device
   pub player : PlayerState M
   pub begins : Begins opened device [] options.check player
   pub lives : AreLives medium (settings_of options) pieces (record { player = player; agrees = true }) status text

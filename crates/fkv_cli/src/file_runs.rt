@@ -31,8 +31,8 @@ pub(crate) fn play_new_file<S: StorePlaces, W: Write, E: Write>(
 ) -> io::Result<u8>
 where
     S::Disk: Breaks,
-    ensures whole { IfOk result (λ status. Writes (λ text. IsRunInNewFile (places_of S.Disk.honest S.Disk.seen S.Disk.may_leave S.Disk.failed S.Disk.refuses S.Disk.broken (S.is_opened places.now) (S.is_made places.now)) path.now shape pieces.now status text ⊎ Refuses Device 3 status text) (W.contents output.old) (W.contents output.new)) }
-    ensures part { OnErr result (BreaksOff (λ text. IsRunInNewFile (places_of S.Disk.honest S.Disk.seen S.Disk.may_leave S.Disk.failed S.Disk.refuses S.Disk.broken (S.is_opened places.now) (S.is_made places.now)) path.now shape pieces.now 4 text ⊎ Refuses Device 3 4 text) (W.contents output.old) (W.contents output.new)) }
+    ensures whole { IfOk result (λ status. Writes (λ text. IsRunInNewFile (places_of S.Disk.honest S.Disk.seen S.Disk.may_leave S.Disk.failed S.Disk.refuses S.Disk.expects S.Disk.broken (S.is_opened places.now) (S.is_made places.now)) path.now shape pieces.now status text ⊎ Refuses Device 3 status text) (W.contents output.old) (W.contents output.new)) }
+    ensures part { OnErr result (BreaksOff (λ text. IsRunInNewFile (places_of S.Disk.honest S.Disk.seen S.Disk.may_leave S.Disk.failed S.Disk.refuses S.Disk.expects S.Disk.broken (S.is_opened places.now) (S.is_made places.now)) path.now shape pieces.now 4 text ⊎ Refuses Device 3 4 text) (W.contents output.old) (W.contents output.new)) }
 {
     let mut device = match places.make_alone(path) {
         Ok((device, _)) => device,
@@ -65,8 +65,8 @@ pub(crate) fn play_old_file<S: StorePlaces, W: Write, E: Write>(
 ) -> io::Result<u8>
 where
     S::Disk: Breaks,
-    ensures whole { IfOk result (λ status. Writes (λ text. IsRunInFile (places_of S.Disk.honest S.Disk.seen S.Disk.may_leave S.Disk.failed S.Disk.refuses S.Disk.broken (S.is_opened places.now) (S.is_made places.now)) path.now pieces.now status text ⊎ RefusesOld (places_of S.Disk.honest S.Disk.seen S.Disk.may_leave S.Disk.failed S.Disk.refuses S.Disk.broken (S.is_opened places.now) (S.is_made places.now)) path.now status text) (W.contents output.old) (W.contents output.new)) }
-    ensures part { OnErr result (BreaksOff (λ text. IsRunInFile (places_of S.Disk.honest S.Disk.seen S.Disk.may_leave S.Disk.failed S.Disk.refuses S.Disk.broken (S.is_opened places.now) (S.is_made places.now)) path.now pieces.now 4 text ⊎ RefusesOld (places_of S.Disk.honest S.Disk.seen S.Disk.may_leave S.Disk.failed S.Disk.refuses S.Disk.broken (S.is_opened places.now) (S.is_made places.now)) path.now 4 text) (W.contents output.old) (W.contents output.new)) }
+    ensures whole { IfOk result (λ status. Writes (λ text. IsRunInFile (places_of S.Disk.honest S.Disk.seen S.Disk.may_leave S.Disk.failed S.Disk.refuses S.Disk.expects S.Disk.broken (S.is_opened places.now) (S.is_made places.now)) path.now pieces.now status text ⊎ RefusesOld (places_of S.Disk.honest S.Disk.seen S.Disk.may_leave S.Disk.failed S.Disk.refuses S.Disk.expects S.Disk.broken (S.is_opened places.now) (S.is_made places.now)) path.now status text) (W.contents output.old) (W.contents output.new)) }
+    ensures part { OnErr result (BreaksOff (λ text. IsRunInFile (places_of S.Disk.honest S.Disk.seen S.Disk.may_leave S.Disk.failed S.Disk.refuses S.Disk.expects S.Disk.broken (S.is_opened places.now) (S.is_made places.now)) path.now pieces.now 4 text ⊎ RefusesOld (places_of S.Disk.honest S.Disk.seen S.Disk.may_leave S.Disk.failed S.Disk.refuses S.Disk.expects S.Disk.broken (S.is_opened places.now) (S.is_made places.now)) path.now 4 text) (W.contents output.old) (W.contents output.new)) }
 {
     let (device, length) = match places.open_alone(path) {
         Ok(found) => found,

@@ -3,7 +3,7 @@ ghost use Rattle.std.specs.Prelude.{◌⊎◌, IfOk, OnErr};
 ghost use Rattle.fkv_base.specs.declared.faults.Fault.TheVariants.{Device};
 ghost use Rattle.fkv_runs.specs.Below.fkv_playing.InTurn.{Writes};
 ghost use Rattle.fkv_runs.specs.Beginnings.{BreaksOff};
-ghost use Rattle.fkv_runs.specs.Openings.{RefusesNoCall, medium_of};
+ghost use Rattle.fkv_runs.specs.Openings.{CrashesFrom, RefusesNoCall, medium_of};
 ghost use Rattle.fkv_cli.specs.Output.{IsRunInMemory, Refuses};
 
 use crate::complaints::{Complaint, complain};
@@ -15,7 +15,8 @@ use fkv_runs::{Crashes, Picks, Piece, Settings, play_lives};
 use std::alloc::Global;
 use std::io::{self, Write};
 
-/// A new store over this honest device in memory, which refuses no call, and the pieces of its script over its lives.
+/// A new store over this honest device in memory, which refuses no call, and the pieces of its script over its lives. Crashes of the device go from what it reads
+/// as on, and so those of the first life from the store's image.
 pub(crate) fn play_memory<M: Crashes, W: Write, E: Write>(
     alloc: Global,
     options: &Options,
@@ -28,8 +29,9 @@ pub(crate) fn play_memory<M: Crashes, W: Write, E: Write>(
 ) -> io::Result<u8>
     requires honest { M.honest memory }
     requires sound { RefusesNoCall M.refuses memory }
-    ensures whole { IfOk result (λ status. Writes (λ text. IsRunInMemory (medium_of M.honest M.seen M.may_leave M.failed M.refuses M.broken M.image M.armed) options.now shape pieces.now status text ⊎ Refuses Device 3 status text) (W.contents output.old) (W.contents output.new)) }
-    ensures part { OnErr result (BreaksOff (λ text. IsRunInMemory (medium_of M.honest M.seen M.may_leave M.failed M.refuses M.broken M.image M.armed) options.now shape pieces.now 4 text ⊎ Refuses Device 3 4 text) (W.contents output.old) (W.contents output.new)) }
+    requires crashes { CrashesFrom M.expects (M.seen memory) memory }
+    ensures whole { IfOk result (λ status. Writes (λ text. IsRunInMemory (medium_of M.honest M.seen M.may_leave M.failed M.refuses M.expects M.broken M.armed) options.now shape pieces.now status text ⊎ Refuses Device 3 status text) (W.contents output.old) (W.contents output.new)) }
+    ensures part { OnErr result (BreaksOff (λ text. IsRunInMemory (medium_of M.honest M.seen M.may_leave M.failed M.refuses M.expects M.broken M.armed) options.now shape pieces.now 4 text ⊎ Refuses Device 3 4 text) (W.contents output.old) (W.contents output.new)) }
 {
     let settings = Settings {
         torn: options.torn,

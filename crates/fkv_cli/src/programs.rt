@@ -6,7 +6,7 @@ ghost use Rattle.clap.specs.Walk.{texts};
 ghost use Rattle.fkv_options.specs.RunFault.{ended_status};
 ghost use Rattle.fkv_runs.specs.Below.fkv_playing.InTurn.{Writes};
 ghost use Rattle.fkv_runs.specs.Beginnings.{BreaksOff};
-ghost use Rattle.fkv_runs.specs.Openings.{RefusesNoCall, medium_of};
+ghost use Rattle.fkv_runs.specs.Openings.{CrashesFrom, RefusesNoCall, medium_of};
 ghost use Rattle.fkv_cli.specs.Output.{AreUnreadWords, IsOutputOf, IsRunOfInput, IsRunOfText, mode_of, places_of, script_limit};
 
 use crate::complaints::{Complaint, LineFault, WordFault, complain, tell_usage};
@@ -38,8 +38,8 @@ pub fn run<S: StorePlaces, R: Read + Drop, W: Write, E: Write>(
 ) -> u8
 where
     S::Disk: Breaks,
-    ensures whole { result ≢ 4 → Writes (IsOutputOf (record { memory = medium_of ⟦<Fuse<MemDisk> as Device>⟧.honest ⟦<Fuse<MemDisk> as Device>⟧.seen ⟦<Fuse<MemDisk> as Device>⟧.may_leave ⟦<Fuse<MemDisk> as Device>⟧.failed ⟦<Fuse<MemDisk> as Device>⟧.refuses ⟦<Fuse<MemDisk> as Breaks>⟧.broken ⟦<Fuse<MemDisk> as Crashes>⟧.image ⟦<Fuse<MemDisk> as Crashes>⟧.armed; file = places_of S.Disk.honest S.Disk.seen S.Disk.may_leave S.Disk.failed S.Disk.refuses S.Disk.broken (S.is_opened places.now) (S.is_made places.now) }) (texts words.now) (R.remaining input) result) (W.contents output.old) (W.contents output.new) }
-    ensures part { result ≡ 4 → BreaksOff (IsOutputOf (record { memory = medium_of ⟦<Fuse<MemDisk> as Device>⟧.honest ⟦<Fuse<MemDisk> as Device>⟧.seen ⟦<Fuse<MemDisk> as Device>⟧.may_leave ⟦<Fuse<MemDisk> as Device>⟧.failed ⟦<Fuse<MemDisk> as Device>⟧.refuses ⟦<Fuse<MemDisk> as Breaks>⟧.broken ⟦<Fuse<MemDisk> as Crashes>⟧.image ⟦<Fuse<MemDisk> as Crashes>⟧.armed; file = places_of S.Disk.honest S.Disk.seen S.Disk.may_leave S.Disk.failed S.Disk.refuses S.Disk.broken (S.is_opened places.now) (S.is_made places.now) }) (texts words.now) (R.remaining input) 4) (W.contents output.old) (W.contents output.new) }
+    ensures whole { result ≢ 4 → Writes (IsOutputOf (record { memory = medium_of ⟦<Fuse<MemDisk> as Device>⟧.honest ⟦<Fuse<MemDisk> as Device>⟧.seen ⟦<Fuse<MemDisk> as Device>⟧.may_leave ⟦<Fuse<MemDisk> as Device>⟧.failed ⟦<Fuse<MemDisk> as Device>⟧.refuses ⟦<Fuse<MemDisk> as Device>⟧.expects ⟦<Fuse<MemDisk> as Breaks>⟧.broken ⟦<Fuse<MemDisk> as Crashes>⟧.armed; file = places_of S.Disk.honest S.Disk.seen S.Disk.may_leave S.Disk.failed S.Disk.refuses S.Disk.expects S.Disk.broken (S.is_opened places.now) (S.is_made places.now) }) (texts words.now) (R.remaining input) result) (W.contents output.old) (W.contents output.new) }
+    ensures part { result ≡ 4 → BreaksOff (IsOutputOf (record { memory = medium_of ⟦<Fuse<MemDisk> as Device>⟧.honest ⟦<Fuse<MemDisk> as Device>⟧.seen ⟦<Fuse<MemDisk> as Device>⟧.may_leave ⟦<Fuse<MemDisk> as Device>⟧.failed ⟦<Fuse<MemDisk> as Device>⟧.refuses ⟦<Fuse<MemDisk> as Device>⟧.expects ⟦<Fuse<MemDisk> as Breaks>⟧.broken ⟦<Fuse<MemDisk> as Crashes>⟧.armed; file = places_of S.Disk.honest S.Disk.seen S.Disk.may_leave S.Disk.failed S.Disk.refuses S.Disk.expects S.Disk.broken (S.is_opened places.now) (S.is_made places.now) }) (texts words.now) (R.remaining input) 4) (W.contents output.old) (W.contents output.new) }
 {
     match options_of(alloc, words) {
         Ok(options) => {
@@ -61,8 +61,8 @@ pub fn run_with<S: StorePlaces, R: Read + Drop, W: Write, E: Write>(
 ) -> Result<Verdict, RunFault>
 where
     S::Disk: Breaks,
-    ensures whole { ended_status result ≢ 4 → Writes (IsRunOfInput (record { memory = medium_of ⟦<Fuse<MemDisk> as Device>⟧.honest ⟦<Fuse<MemDisk> as Device>⟧.seen ⟦<Fuse<MemDisk> as Device>⟧.may_leave ⟦<Fuse<MemDisk> as Device>⟧.failed ⟦<Fuse<MemDisk> as Device>⟧.refuses ⟦<Fuse<MemDisk> as Breaks>⟧.broken ⟦<Fuse<MemDisk> as Crashes>⟧.image ⟦<Fuse<MemDisk> as Crashes>⟧.armed; file = places_of S.Disk.honest S.Disk.seen S.Disk.may_leave S.Disk.failed S.Disk.refuses S.Disk.broken (S.is_opened places.now) (S.is_made places.now) }) options.now (R.remaining input) (ended_status result)) (W.contents output.old) (W.contents output.new) }
-    ensures part { ended_status result ≡ 4 → BreaksOff (IsRunOfInput (record { memory = medium_of ⟦<Fuse<MemDisk> as Device>⟧.honest ⟦<Fuse<MemDisk> as Device>⟧.seen ⟦<Fuse<MemDisk> as Device>⟧.may_leave ⟦<Fuse<MemDisk> as Device>⟧.failed ⟦<Fuse<MemDisk> as Device>⟧.refuses ⟦<Fuse<MemDisk> as Breaks>⟧.broken ⟦<Fuse<MemDisk> as Crashes>⟧.image ⟦<Fuse<MemDisk> as Crashes>⟧.armed; file = places_of S.Disk.honest S.Disk.seen S.Disk.may_leave S.Disk.failed S.Disk.refuses S.Disk.broken (S.is_opened places.now) (S.is_made places.now) }) options.now (R.remaining input) 4) (W.contents output.old) (W.contents output.new) }
+    ensures whole { ended_status result ≢ 4 → Writes (IsRunOfInput (record { memory = medium_of ⟦<Fuse<MemDisk> as Device>⟧.honest ⟦<Fuse<MemDisk> as Device>⟧.seen ⟦<Fuse<MemDisk> as Device>⟧.may_leave ⟦<Fuse<MemDisk> as Device>⟧.failed ⟦<Fuse<MemDisk> as Device>⟧.refuses ⟦<Fuse<MemDisk> as Device>⟧.expects ⟦<Fuse<MemDisk> as Breaks>⟧.broken ⟦<Fuse<MemDisk> as Crashes>⟧.armed; file = places_of S.Disk.honest S.Disk.seen S.Disk.may_leave S.Disk.failed S.Disk.refuses S.Disk.expects S.Disk.broken (S.is_opened places.now) (S.is_made places.now) }) options.now (R.remaining input) (ended_status result)) (W.contents output.old) (W.contents output.new) }
+    ensures part { ended_status result ≡ 4 → BreaksOff (IsRunOfInput (record { memory = medium_of ⟦<Fuse<MemDisk> as Device>⟧.honest ⟦<Fuse<MemDisk> as Device>⟧.seen ⟦<Fuse<MemDisk> as Device>⟧.may_leave ⟦<Fuse<MemDisk> as Device>⟧.failed ⟦<Fuse<MemDisk> as Device>⟧.refuses ⟦<Fuse<MemDisk> as Device>⟧.expects ⟦<Fuse<MemDisk> as Breaks>⟧.broken ⟦<Fuse<MemDisk> as Crashes>⟧.armed; file = places_of S.Disk.honest S.Disk.seen S.Disk.may_leave S.Disk.failed S.Disk.refuses S.Disk.expects S.Disk.broken (S.is_opened places.now) (S.is_made places.now) }) options.now (R.remaining input) 4) (W.contents output.old) (W.contents output.new) }
     ensures printed { IfErr result (λ fault. string_bytes fault.text ≡ []) }
 {
     let memory = Fuse::new(MemDisk::new(alloc));
@@ -153,8 +153,9 @@ where
     S::Disk: Breaks,
     requires honest { M.honest memory }
     requires sound { RefusesNoCall M.refuses memory }
-    ensures whole { IfOk result (λ status. Writes (IsRunOfInput (record { memory = medium_of M.honest M.seen M.may_leave M.failed M.refuses M.broken M.image M.armed; file = places_of S.Disk.honest S.Disk.seen S.Disk.may_leave S.Disk.failed S.Disk.refuses S.Disk.broken (S.is_opened places.now) (S.is_made places.now) }) options.now (R.remaining input) status) (W.contents output.old) (W.contents output.new)) }
-    ensures part { OnErr result (BreaksOff (IsRunOfInput (record { memory = medium_of M.honest M.seen M.may_leave M.failed M.refuses M.broken M.image M.armed; file = places_of S.Disk.honest S.Disk.seen S.Disk.may_leave S.Disk.failed S.Disk.refuses S.Disk.broken (S.is_opened places.now) (S.is_made places.now) }) options.now (R.remaining input) 4) (W.contents output.old) (W.contents output.new)) }
+    requires crashes { CrashesFrom M.expects (M.seen memory) memory }
+    ensures whole { IfOk result (λ status. Writes (IsRunOfInput (record { memory = medium_of M.honest M.seen M.may_leave M.failed M.refuses M.expects M.broken M.armed; file = places_of S.Disk.honest S.Disk.seen S.Disk.may_leave S.Disk.failed S.Disk.refuses S.Disk.expects S.Disk.broken (S.is_opened places.now) (S.is_made places.now) }) options.now (R.remaining input) status) (W.contents output.old) (W.contents output.new)) }
+    ensures part { OnErr result (BreaksOff (IsRunOfInput (record { memory = medium_of M.honest M.seen M.may_leave M.failed M.refuses M.expects M.broken M.armed; file = places_of S.Disk.honest S.Disk.seen S.Disk.may_leave S.Disk.failed S.Disk.refuses S.Disk.expects S.Disk.broken (S.is_opened places.now) (S.is_made places.now) }) options.now (R.remaining input) 4) (W.contents output.old) (W.contents output.new)) }
 {
     let bytes = script_bytes(alloc, input)?;
     let status = run_text(places, alloc, options, memory, &bytes, output, complaints)?;
@@ -237,8 +238,9 @@ where
     S::Disk: Breaks,
     requires honest { M.honest memory }
     requires sound { RefusesNoCall M.refuses memory }
-    ensures whole { IfOk result (λ status. Writes (IsRunOfText (record { memory = medium_of M.honest M.seen M.may_leave M.failed M.refuses M.broken M.image M.armed; file = places_of S.Disk.honest S.Disk.seen S.Disk.may_leave S.Disk.failed S.Disk.refuses S.Disk.broken (S.is_opened places.now) (S.is_made places.now) }) options.now (script_of (mode_of (is_some options.now.file)) bytes.now) status) (W.contents output.old) (W.contents output.new)) }
-    ensures part { OnErr result (BreaksOff (IsRunOfText (record { memory = medium_of M.honest M.seen M.may_leave M.failed M.refuses M.broken M.image M.armed; file = places_of S.Disk.honest S.Disk.seen S.Disk.may_leave S.Disk.failed S.Disk.refuses S.Disk.broken (S.is_opened places.now) (S.is_made places.now) }) options.now (script_of (mode_of (is_some options.now.file)) bytes.now) 4) (W.contents output.old) (W.contents output.new)) }
+    requires crashes { CrashesFrom M.expects (M.seen memory) memory }
+    ensures whole { IfOk result (λ status. Writes (IsRunOfText (record { memory = medium_of M.honest M.seen M.may_leave M.failed M.refuses M.expects M.broken M.armed; file = places_of S.Disk.honest S.Disk.seen S.Disk.may_leave S.Disk.failed S.Disk.refuses S.Disk.expects S.Disk.broken (S.is_opened places.now) (S.is_made places.now) }) options.now (script_of (mode_of (is_some options.now.file)) bytes.now) status) (W.contents output.old) (W.contents output.new)) }
+    ensures part { OnErr result (BreaksOff (IsRunOfText (record { memory = medium_of M.honest M.seen M.may_leave M.failed M.refuses M.expects M.broken M.armed; file = places_of S.Disk.honest S.Disk.seen S.Disk.may_leave S.Disk.failed S.Disk.refuses S.Disk.expects S.Disk.broken (S.is_opened places.now) (S.is_made places.now) }) options.now (script_of (mode_of (is_some options.now.file)) bytes.now) 4) (W.contents output.old) (W.contents output.new)) }
 {
     match fkv_lines::script_of(alloc, bytes, mode_for(options)) {
         Ok(script) => run_script(places, alloc, options, memory, &script, output, complaints),

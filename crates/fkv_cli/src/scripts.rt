@@ -3,7 +3,7 @@ ghost use Rattle.std.specs.Prelude.{◌≡◌, IfErr, IfOk, OnErr, Some, is_some
 ghost use Rattle.fkv_base.specs.declared.faults.Fault.TheVariants.{BadShape, Memory};
 ghost use Rattle.fkv_runs.specs.Below.fkv_playing.InTurn.{Writes};
 ghost use Rattle.fkv_runs.specs.Beginnings.{BreaksOff};
-ghost use Rattle.fkv_runs.specs.Openings.{RefusesNoCall, medium_of};
+ghost use Rattle.fkv_runs.specs.Openings.{CrashesFrom, RefusesNoCall, medium_of};
 ghost use Rattle.fkv_cli.specs.Output.{AreSizes, HasSizes, IsRunOfOldStore, IsRunOfScript, IsRunOfStore, Refuses, path_in, places_of};
 
 use crate::complaints::{Complaint, SizeFault, complain};
@@ -32,8 +32,9 @@ where
     S::Disk: Breaks,
     requires honest { M.honest memory }
     requires sound { RefusesNoCall M.refuses memory }
-    ensures whole { IfOk result (λ status. Writes (IsRunOfScript (record { memory = medium_of M.honest M.seen M.may_leave M.failed M.refuses M.broken M.image M.armed; file = places_of S.Disk.honest S.Disk.seen S.Disk.may_leave S.Disk.failed S.Disk.refuses S.Disk.broken (S.is_opened places.now) (S.is_made places.now) }) options.now script.now.opening script.now.lines.items status) (W.contents output.old) (W.contents output.new)) }
-    ensures part { OnErr result (BreaksOff (IsRunOfScript (record { memory = medium_of M.honest M.seen M.may_leave M.failed M.refuses M.broken M.image M.armed; file = places_of S.Disk.honest S.Disk.seen S.Disk.may_leave S.Disk.failed S.Disk.refuses S.Disk.broken (S.is_opened places.now) (S.is_made places.now) }) options.now script.now.opening script.now.lines.items 4) (W.contents output.old) (W.contents output.new)) }
+    requires crashes { CrashesFrom M.expects (M.seen memory) memory }
+    ensures whole { IfOk result (λ status. Writes (IsRunOfScript (record { memory = medium_of M.honest M.seen M.may_leave M.failed M.refuses M.expects M.broken M.armed; file = places_of S.Disk.honest S.Disk.seen S.Disk.may_leave S.Disk.failed S.Disk.refuses S.Disk.expects S.Disk.broken (S.is_opened places.now) (S.is_made places.now) }) options.now script.now.opening script.now.lines.items status) (W.contents output.old) (W.contents output.new)) }
+    ensures part { OnErr result (BreaksOff (IsRunOfScript (record { memory = medium_of M.honest M.seen M.may_leave M.failed M.refuses M.expects M.broken M.armed; file = places_of S.Disk.honest S.Disk.seen S.Disk.may_leave S.Disk.failed S.Disk.refuses S.Disk.expects S.Disk.broken (S.is_opened places.now) (S.is_made places.now) }) options.now script.now.opening script.now.lines.items 4) (W.contents output.old) (W.contents output.new)) }
 {
     let Some(opening) = script.opening else {
         return Ok(0);
@@ -68,8 +69,9 @@ where
     S::Disk: Breaks,
     requires honest { M.honest memory }
     requires sound { RefusesNoCall M.refuses memory }
-    ensures whole { IfOk result (λ status. Writes (λ text. IsRunOfStore (record { memory = medium_of M.honest M.seen M.may_leave M.failed M.refuses M.broken M.image M.armed; file = places_of S.Disk.honest S.Disk.seen S.Disk.may_leave S.Disk.failed S.Disk.refuses S.Disk.broken (S.is_opened places.now) (S.is_made places.now) }) options.now (Some shape) pieces.now status text (is_some options.now.file)) (W.contents output.old) (W.contents output.new)) }
-    ensures part { OnErr result (BreaksOff (λ text. IsRunOfStore (record { memory = medium_of M.honest M.seen M.may_leave M.failed M.refuses M.broken M.image M.armed; file = places_of S.Disk.honest S.Disk.seen S.Disk.may_leave S.Disk.failed S.Disk.refuses S.Disk.broken (S.is_opened places.now) (S.is_made places.now) }) options.now (Some shape) pieces.now 4 text (is_some options.now.file)) (W.contents output.old) (W.contents output.new)) }
+    requires crashes { CrashesFrom M.expects (M.seen memory) memory }
+    ensures whole { IfOk result (λ status. Writes (λ text. IsRunOfStore (record { memory = medium_of M.honest M.seen M.may_leave M.failed M.refuses M.expects M.broken M.armed; file = places_of S.Disk.honest S.Disk.seen S.Disk.may_leave S.Disk.failed S.Disk.refuses S.Disk.expects S.Disk.broken (S.is_opened places.now) (S.is_made places.now) }) options.now (Some shape) pieces.now status text (is_some options.now.file)) (W.contents output.old) (W.contents output.new)) }
+    ensures part { OnErr result (BreaksOff (λ text. IsRunOfStore (record { memory = medium_of M.honest M.seen M.may_leave M.failed M.refuses M.expects M.broken M.armed; file = places_of S.Disk.honest S.Disk.seen S.Disk.may_leave S.Disk.failed S.Disk.refuses S.Disk.expects S.Disk.broken (S.is_opened places.now) (S.is_made places.now) }) options.now (Some shape) pieces.now 4 text (is_some options.now.file)) (W.contents output.old) (W.contents output.new)) }
 {
     let mut picks = Picks::new(options.seed);
     match &options.file {
@@ -100,8 +102,8 @@ fn run_old<S: StorePlaces, W: Write, E: Write>(
 ) -> io::Result<u8>
 where
     S::Disk: Breaks,
-    ensures whole { IfOk result (λ status. Writes (λ text. IsRunOfOldStore (places_of S.Disk.honest S.Disk.seen S.Disk.may_leave S.Disk.failed S.Disk.refuses S.Disk.broken (S.is_opened places.now) (S.is_made places.now)) (path_in options.now.file) pieces.now status text (is_some options.now.file)) (W.contents output.old) (W.contents output.new)) }
-    ensures part { OnErr result (BreaksOff (λ text. IsRunOfOldStore (places_of S.Disk.honest S.Disk.seen S.Disk.may_leave S.Disk.failed S.Disk.refuses S.Disk.broken (S.is_opened places.now) (S.is_made places.now)) (path_in options.now.file) pieces.now 4 text (is_some options.now.file)) (W.contents output.old) (W.contents output.new)) }
+    ensures whole { IfOk result (λ status. Writes (λ text. IsRunOfOldStore (places_of S.Disk.honest S.Disk.seen S.Disk.may_leave S.Disk.failed S.Disk.refuses S.Disk.expects S.Disk.broken (S.is_opened places.now) (S.is_made places.now)) (path_in options.now.file) pieces.now status text (is_some options.now.file)) (W.contents output.old) (W.contents output.new)) }
+    ensures part { OnErr result (BreaksOff (λ text. IsRunOfOldStore (places_of S.Disk.honest S.Disk.seen S.Disk.may_leave S.Disk.failed S.Disk.refuses S.Disk.expects S.Disk.broken (S.is_opened places.now) (S.is_made places.now)) (path_in options.now.file) pieces.now 4 text (is_some options.now.file)) (W.contents output.old) (W.contents output.new)) }
 {
     let mut picks = Picks::new(options.seed);
     match &options.file {

@@ -29,7 +29,7 @@ shelf_image shelf = shelf.image.now
 -- Each device of a shelf is honest. The one of the path that is the store's name reads as its bytes, as it is opened. That of a new store is empty.
 abbrev pub shelf_files : {F : Type 0} → Ghosts F → (F → Bool) → Shelf → Places F
 shelf_files device broken shelf = record {
-  engine = EngineStep device.honest device.seen device.may_leave device.failed device.refuses broken;
+  engine = EngineStep device.honest device.seen device.may_leave device.failed device.refuses device.expects broken;
   honest = λ disk. ⊤;
   seen = device.seen;
   may_leave = device.may_leave;
@@ -38,8 +38,8 @@ shelf_files device broken shelf = record {
 }
 
 -- a device in memory, which crashes leave an image of, and which is made to fail
-abbrev pub memory_of : {M : Type 0} → Ghosts M → (M → Bool) → (M → ℕ → List ℕ) → (ℕ → Waits → PlayerState M → PlayerState M → Type 0) → Medium M
-memory_of device broken image armed = medium_of device.honest device.seen device.may_leave device.failed device.refuses broken image armed
+abbrev pub memory_of : {M : Type 0} → Ghosts M → (M → Bool) → (ℕ → Waits → PlayerState M → PlayerState M → Type 0) → Medium M
+memory_of device broken armed = medium_of device.honest device.seen device.may_leave device.failed device.refuses device.expects broken armed
 
 abbrev pub devices_of : {M F : Type 0} → Medium M → Places F → Devices M F
 devices_of memory file = record { memory = memory; file = file }

@@ -21,12 +21,12 @@ pub fn run_on_shelf<R: Read + Drop, W: Write, E: Write>(
 ) -> u8
     ensures whole { result ≢ 4 → said.Writes (said.IsOutputOf (said.devices_of
         (said.memory_of ⟦<Fuse<MemDisk> as Device>⟧ ⟦<Fuse<MemDisk> as Breaks>⟧.broken
-        ⟦<Fuse<MemDisk> as Crashes>⟧.image ⟦<Fuse<MemDisk> as Crashes>⟧.armed)
+        ⟦<Fuse<MemDisk> as Crashes>⟧.armed)
         (said.shelf_files ⟦<Fuse<MemDisk> as Device>⟧ ⟦<Fuse<MemDisk> as Breaks>⟧.broken shelf.now))
         (said.texts words.now) (R.remaining input) result) (W.contents output.old) (W.contents output.new) }
     ensures part { result ≡ 4 → said.BreaksOff (said.IsOutputOf (said.devices_of
         (said.memory_of ⟦<Fuse<MemDisk> as Device>⟧ ⟦<Fuse<MemDisk> as Breaks>⟧.broken
-        ⟦<Fuse<MemDisk> as Crashes>⟧.image ⟦<Fuse<MemDisk> as Crashes>⟧.armed)
+        ⟦<Fuse<MemDisk> as Crashes>⟧.armed)
         (said.shelf_files ⟦<Fuse<MemDisk> as Device>⟧ ⟦<Fuse<MemDisk> as Breaks>⟧.broken shelf.now))
         (said.texts words.now) (R.remaining input) 4) (W.contents output.old) (W.contents output.new) }
 {

@@ -1,13 +1,15 @@
 -- The keeper's step, with and without a call of the device.
 use Rattle.std.proofs.Common.{◌≡◌, ◌∙◌, sym, ap, subst, ℕ, Bool, false, true, List, [], ◌++◌, refl, arith, rules, inl}
-use Rattle.std.specs.Prelude.{is_ok, Result, Ok, Err, OnErr, IsErr}
+use Rattle.std.specs.Prelude.{is_ok, Option, Result, Ok, Err, OnErr, IsErr}
+use Rattle.fkv_disk.specs.Asks.{AskedCall, kinds_by}
 use Rattle.fkv_disk.specs.Calls.{Call}
 use Rattle.fkv_base.specs.declared.faults.Fault.{Fault}
 use Rattle.fkv_disk.specs.Device.{Elapses, HasCause, MakesCalls, Rose}
+use Rattle.fkv_disk.specs.Kinds.{Kind, Foretold}
 use Rattle.fkv_flush.specs.Devices.{Adds}
 use Rattle.fkv_keeper.specs.declared.answers.KeeperTold.{KeeperTold}
 use Rattle.fkv_keeper.specs.declared.answers.KeeperTold.TheVariants.{Device}
-use Rattle.fkv_keeper.specs.KeeperAsks.{IsDeviceStep, keeper_calls, keeper_made, keeper_read}
+use Rattle.fkv_keeper.specs.KeeperAsks.{IsDeviceStep, keeper_calls, keeper_due, keeper_made, keeper_read}
 use Rattle.fkv_keeper.specs.Keeping.{KeeperModel, KeeperState, keeper_ask, keeper_called}
 use Rattle.fkv_plane.specs.declared.asks.Ask.{Ask}
 use Rattle.fkv_plane.specs.declared.asks.Ask.TheVariants.{Done}
@@ -15,7 +17,7 @@ use Rattle.fkv_plane.specs.Passing.{is_done}
 use Rattle.fkv_plane.specs.Plane.{Plane}
 use Rattle.fkv_world.specs.Moves.{Near, keeper_asks, keeper_moved}
 use Rattle.fkv_world.specs.Past.{calls_after}
-use Rattle.fkv_core.specs.Worlds.{beside, IsKeeperMove, MakesItsCalls, UsesDevice}
+use Rattle.fkv_core.specs.Worlds.{beside, kinds_asked, IsKeeperMove, MakesItsCalls, UsesDevice}
 
 -- a word's ask makes no call of the device
 no_calls : (ask : Ask KeeperTold) (made : List Call) → is_done ask ≡ false → calls_after ask made [] ≡ []
@@ -30,15 +32,21 @@ spares_device : (ask : Ask KeeperTold) (count : ℕ) (done : Bool) (failed : ℕ
 spares_device (Done told) count done failed refuses word = cc
 spares_device ask count done failed refuses word = (refl, refl)
 
-pub word_move : (plane plane' : Plane) (k k' : KeeperModel) (failed : ℕ) (refuses : ℕ → Bool) (honest : Type 0) (seen : List ℕ) (may_leave : List ℕ → Type 0) → is_done (keeper_ask k.shape k.places k.state) ≡ false
+-- and the device says of calls to come what it said
+tells_none : (ask : Ask KeeperTold) (due : Option AskedCall) (done : Bool) (says : List Kind → Foretold) → is_done ask ≡ false → says ≡ kinds_asked ask due done says
+tells_none (Done told) due done says word = cc
+tells_none ask due done says word = refl
+
+pub word_move : (plane plane' : Plane) (k k' : KeeperModel) (failed : ℕ) (refuses : ℕ → Bool) (expects : List Kind → Foretold) (honest : Type 0) (seen : List ℕ) (may_leave : List ℕ → Type 0) → is_done (keeper_ask k.shape k.places k.state) ≡ false
     → k' ≡ record k { state = k'.state } → (granted : Bool) × ((done : Bool) (read : List ℕ) → beside plane' k'.state ≡ keeper_moved k.shape k.places granted done read (beside plane k.state))
-    → IsKeeperMove plane k plane' k' failed failed refuses refuses honest seen seen may_leave may_leave
-word_move plane plane' k k' failed refuses honest seen may_leave word store moved = record {
+    → IsKeeperMove plane k plane' k' failed failed refuses refuses expects expects honest seen seen may_leave may_leave
+word_move plane plane' k k' failed refuses expects honest seen may_leave word store moved = record {
   granted = moved.0;
   done = true;
   read = [];
   store = store;
   uses = spares_device (keeper_ask k.shape k.places k.state) (keeper_made k.places k.state) true failed refuses word;
+  kinds = tells_none (keeper_ask k.shape k.places k.state) (keeper_due k) true expects word;
   moved = moved.1 true [];
   as_read = λ claim. moved.1 true (keeper_read k seen);
   wrote = λ claim. adds_none (calls_after (keeper_ask k.shape k.places k.state) (keeper_calls k.shape k.state true) []) seen may_leave (no_calls (keeper_ask k.shape k.places k.state) (keeper_calls k.shape k.state true) word);
@@ -81,9 +89,12 @@ uses_device : (ask : Ask KeeperTold) (count : ℕ) (done : Bool) (failed failed'
     → UsesDevice ask count done failed failed' refuses refuses'
 uses_device ask count done failed failed' refuses refuses' asks made = rw asks made
 
-pub device_move : (plane : Plane) (k k' : KeeperModel) (honest : Type 0) (failed failed' : ℕ) (refuses refuses' : ℕ → Bool) (seen seen' : List ℕ) (may_leave may_leave' : List ℕ → Type 0)
-    → keeper_ask k.shape k.places k.state ≡ Done Device → IsDeviceStep k honest failed failed' refuses refuses' seen seen' may_leave may_leave' k' → IsKeeperMove plane k plane k' failed failed' refuses refuses' honest seen seen' may_leave may_leave'
-device_move plane k k' honest failed failed' refuses refuses' seen seen' may_leave may_leave' asks step =
+tells_due : (ask : Ask KeeperTold) (due : Option AskedCall) (done : Bool) (says says' : List Kind → Foretold) → ask ≡ Done Device → says' ≡ kinds_by due done says → says' ≡ kinds_asked ask due done says
+tells_due ask due done says says' asks kind = rw asks kind
+
+pub device_move : (plane : Plane) (k k' : KeeperModel) (honest : Type 0) (failed failed' : ℕ) (refuses refuses' : ℕ → Bool) (expects expects' : List Kind → Foretold) (seen seen' : List ℕ) (may_leave may_leave' : List ℕ → Type 0)
+    → keeper_ask k.shape k.places k.state ≡ Done Device → IsDeviceStep k honest failed failed' refuses refuses' expects expects' seen seen' may_leave may_leave' k' → IsKeeperMove plane k plane k' failed failed' refuses refuses' expects expects' honest seen seen' may_leave may_leave'
+device_move plane k k' honest failed failed' refuses refuses' expects expects' seen seen' may_leave may_leave' asks step =
     let n : Near KeeperState = beside plane k.state in
     let made : List Call = keeper_calls k.shape k.state (is_ok step.called) in
     record {
@@ -91,6 +102,7 @@ device_move plane k k' honest failed failed' refuses refuses' seen seen' may_lea
       done = is_ok step.called;
       read = step.bytes;
       uses = uses_device (keeper_ask k.shape k.places k.state) (keeper_made k.places k.state) (is_ok step.called) failed failed' refuses refuses' asks (used_so (keeper_made k.places k.state) step.called failed failed' refuses refuses' step.cause step.counted);
+      kinds = tells_due (keeper_ask k.shape k.places k.state) (keeper_due k) (is_ok step.called) expects expects' asks step.kind;
       store = step.went_on ∙ ap (λ (it : KeeperModel). record k { state = it.state }) (sym step.went_on);
       moved = ap (λ (it : KeeperModel). beside plane it.state) step.went_on ∙ called_moved k n (is_ok step.called) step.bytes true asks;
       as_read = λ claim. ap (λ (it : KeeperModel). beside plane it.state) (step.read claim) ∙ called_moved k n (is_ok step.called) (keeper_read k seen) true asks;

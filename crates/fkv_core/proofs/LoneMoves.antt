@@ -2,6 +2,7 @@
 use Rattle.std.proofs.Common.{◌≡◌, inl, inr, ◌∙◌, ap, subst, refl, ℕ, ◌+◌, Bool, false, List, [], ◌∷◌, ◌++◌, length, arith}
 use Rattle.std.specs.Prelude.{Option, None}
 use Rattle.std.proofs.lemmas.Option.{none-some}
+use Rattle.fkv_disk.specs.Kinds.{Kind, Foretold}
 use Rattle.fkv_keeper.specs.Answers.{IsKeeperTold}
 use Rattle.fkv_keeper.specs.Keeping.{Finality, end_told}
 use Rattle.fkv_keeper.specs.declared.answers.KeeperAsk.{KeeperAsk}
@@ -49,11 +50,11 @@ none_yet actor n failed refuses honest seen may_leave =
     record { moves = []; many = refl; life = λ claim. λ opening before opened shows was. record { led = record { shows = shows; device = was; says = inl (refl, refl) }; uses = (refl, refl) } }
 
 -- one more move, and what it tells
-one_more : (actor : Actor) (count : ℕ) (n mid after : Now) (told : Option Told) (failed failed' failed'' : ℕ) (refuses refuses' refuses'' : ℕ → Bool) (honest honest' : Type 0) (seen seen' seen'' : List ℕ) (may_leave may_leave' may_leave'' : List ℕ → Type 0)
+one_more : (actor : Actor) (count : ℕ) (n mid after : Now) (told : Option Told) (failed failed' failed'' : ℕ) (refuses refuses' refuses'' : ℕ → Bool) (expects' expects'' : List Kind → Foretold) (honest honest' : Type 0) (seen seen' seen'' : List ℕ) (may_leave may_leave' may_leave'' : List ℕ → Type 0)
     → (so_far : AreMovesSoFar actor count n mid failed failed' refuses refuses' honest seen seen' may_leave may_leave') → (honest → honest')
-    → (step : IsStep (moving actor) mid after told failed' failed'' refuses' refuses'' honest' seen' seen'' may_leave' may_leave'')
+    → (step : IsStep (moving actor) mid after told failed' failed'' refuses' refuses'' expects' expects'' honest' seen' seen'' may_leave' may_leave'')
     → honest → LeadsOnBy actor (record { granted = step.granted; done = step.done } ∷ so_far.moves) n after told failed failed'' refuses refuses'' seen seen'' may_leave may_leave''
-one_more actor count n mid after told failed failed' failed'' refuses refuses' refuses'' honest honest' seen seen' seen'' may_leave may_leave' may_leave'' so_far passes step claim = λ opening before opened shows was.
+one_more actor count n mid after told failed failed' failed'' refuses refuses' refuses'' expects' expects'' honest honest' seen seen' seen'' may_leave may_leave' may_leave'' so_far passes step claim = λ opening before opened shows was.
     let so = so_far.life claim opening before opened shows was in
     let now : World = run opening (moves_of actor so_far.moves ++ before) in
     let next = step.life (passes claim) opening (moves_of actor so_far.moves ++ before) opened so.led.shows so.led.device in
@@ -68,27 +69,27 @@ one_more actor count n mid after told failed failed' failed'' refuses refuses' r
     }
 
 -- it ends the call, or none is told yet
-pub told_last : (actor : Actor) (its : event.Event) (count : ℕ) (n mid after : Now) (told : Option Told) (failed failed' failed'' : ℕ) (refuses refuses' refuses'' : ℕ → Bool) (honest honest' : Type 0) (seen seen' seen'' : List ℕ) (may_leave may_leave' may_leave'' : List ℕ → Type 0)
+pub told_last : (actor : Actor) (its : event.Event) (count : ℕ) (n mid after : Now) (told : Option Told) (failed failed' failed'' : ℕ) (refuses refuses' refuses'' : ℕ → Bool) (expects' expects'' : List Kind → Foretold) (honest honest' : Type 0) (seen seen' seen'' : List ℕ) (may_leave may_leave' may_leave'' : List ℕ → Type 0)
     → AreMovesSoFar actor count n mid failed failed' refuses refuses' honest seen seen' may_leave may_leave' → (honest → honest') → its ≡ moving actor
-    → IsStep its mid after told failed' failed'' refuses' refuses'' honest' seen' seen'' may_leave' may_leave'' → in_hand after actor ≡ false
+    → IsStep its mid after told failed' failed'' refuses' refuses'' expects' expects'' honest' seen' seen'' may_leave' may_leave'' → in_hand after actor ≡ false
     → IsMovedAlone actor n after told failed failed'' refuses refuses'' honest seen seen'' may_leave may_leave''
-told_last actor its count n mid after told failed failed' failed'' refuses refuses' refuses'' honest honest' seen seen' seen'' may_leave may_leave' may_leave'' so_far passes is step rest =
-    let moved : IsStep (moving actor) mid after told failed' failed'' refuses' refuses'' honest' seen' seen'' may_leave' may_leave'' = subst (λ it. IsStep it mid after told failed' failed'' refuses' refuses'' honest' seen' seen'' may_leave' may_leave'') is step in
+told_last actor its count n mid after told failed failed' failed'' refuses refuses' refuses'' expects' expects'' honest honest' seen seen' seen'' may_leave may_leave' may_leave'' so_far passes is step rest =
+    let moved : IsStep (moving actor) mid after told failed' failed'' refuses' refuses'' expects' expects'' honest' seen' seen'' may_leave' may_leave'' = subst (λ it. IsStep it mid after told failed' failed'' refuses' refuses'' expects' expects'' honest' seen' seen'' may_leave' may_leave'') is step in
     record {
       moves = record { granted = moved.granted; done = moved.done } ∷ so_far.moves;
-      life = one_more actor count n mid after told failed failed' failed'' refuses refuses' refuses'' honest honest' seen seen' seen'' may_leave may_leave' may_leave'' so_far passes moved;
+      life = one_more actor count n mid after told failed failed' failed'' refuses refuses' refuses'' expects' expects'' honest honest' seen seen' seen'' may_leave may_leave' may_leave'' so_far passes moved;
       rests = λ none. inl rest;
     }
 
-pub told_nothing : (actor : Actor) (its : event.Event) (count : ℕ) (n mid after : Now) (failed failed' failed'' : ℕ) (refuses refuses' refuses'' : ℕ → Bool) (honest honest' : Type 0) (seen seen' seen'' : List ℕ) (may_leave may_leave' may_leave'' : List ℕ → Type 0)
+pub told_nothing : (actor : Actor) (its : event.Event) (count : ℕ) (n mid after : Now) (failed failed' failed'' : ℕ) (refuses refuses' refuses'' : ℕ → Bool) (expects' expects'' : List Kind → Foretold) (honest honest' : Type 0) (seen seen' seen'' : List ℕ) (may_leave may_leave' may_leave'' : List ℕ → Type 0)
     → AreMovesSoFar actor count n mid failed failed' refuses refuses' honest seen seen' may_leave may_leave' → (honest → honest') → its ≡ moving actor
-    → IsStep its mid after None failed' failed'' refuses' refuses'' honest' seen' seen'' may_leave' may_leave''
+    → IsStep its mid after None failed' failed'' refuses' refuses'' expects' expects'' honest' seen' seen'' may_leave' may_leave''
     → AreMovesSoFar actor (count + 1) n after failed failed'' refuses refuses'' honest seen seen'' may_leave may_leave''
-told_nothing actor its count n mid after failed failed' failed'' refuses refuses' refuses'' honest honest' seen seen' seen'' may_leave may_leave' may_leave'' so_far passes is step =
-    let moved : IsStep (moving actor) mid after None failed' failed'' refuses' refuses'' honest' seen' seen'' may_leave' may_leave'' = subst (λ it. IsStep it mid after None failed' failed'' refuses' refuses'' honest' seen' seen'' may_leave' may_leave'') is step in
+told_nothing actor its count n mid after failed failed' failed'' refuses refuses' refuses'' expects' expects'' honest honest' seen seen' seen'' may_leave may_leave' may_leave'' so_far passes is step =
+    let moved : IsStep (moving actor) mid after None failed' failed'' refuses' refuses'' expects' expects'' honest' seen' seen'' may_leave' may_leave'' = subst (λ it. IsStep it mid after None failed' failed'' refuses' refuses'' expects' expects'' honest' seen' seen'' may_leave' may_leave'') is step in
     let many = so_far.many in
     record {
       moves = record { granted = moved.granted; done = moved.done } ∷ so_far.moves;
       many = omega (arith, many);
-      life = one_more actor count n mid after None failed failed' failed'' refuses refuses' refuses'' honest honest' seen seen' seen'' may_leave may_leave' may_leave'' so_far passes moved;
+      life = one_more actor count n mid after None failed failed' failed'' refuses refuses' refuses'' expects' expects'' honest honest' seen seen' seen'' may_leave may_leave' may_leave'' so_far passes moved;
     }

@@ -6,7 +6,7 @@ use Rattle.fkv_disk.specs.Bytes.{bytes_at}
 use Rattle.fkv_disk.specs.Calls.{Call as DeviceCall}
 use Rattle.fkv_disk.specs.Device.{Rose}
 use Rattle.fkv_disk.specs.Device as device
-use Rattle.fkv_disk.specs.Kinds.{Kind}
+use Rattle.fkv_disk.specs.Kinds.{Kind, Foretold}
 use Rattle.fkv_flush.specs.Serving.{mail_place}
 use Rattle.fkv_flush.specs.Devices.{Adds}
 use Rattle.fkv_keeper.specs.declared.answers.KeeperTold.{KeeperTold}
@@ -56,28 +56,29 @@ abbrev pub EventUses : Bool → Now → event.Event → Bool → ℕ → ℕ →
 EventUses true n its done failed failed' refuses refuses' = SparesDevice failed failed' refuses refuses'
 EventUses false n its done failed failed' refuses refuses' = LiveEventUses n its done failed failed' refuses refuses'
 
--- What a device says of the kinds of its calls to come, behind an event. Where the keeper asks for the device the call that is due was made, and no other one.
--- A device may say anything of kinds, so the calls are these of each device, whether it is honest or not.
-abbrev pub kinds_asked : Ask KeeperTold → Option AskedCall → (List Kind → Bool) → List Kind → Bool
-kinds_asked (Done Device) due says = kinds_by due says
-kinds_asked ask due says = says
+-- What a device says of itself and its calls to come, behind an event. Where the keeper asks for the device the call that is due was made, and no other one: with its
+-- place, its bytes and whether it came through. A device may say anything of calls, so these are the calls of each device, whether it is honest or not.
+abbrev pub kinds_asked : Ask KeeperTold → Option AskedCall → Bool → (List Kind → Foretold) → List Kind → Foretold
+kinds_asked (Done Device) due done says = kinds_by due done says
+kinds_asked ask due done says = says
 
-abbrev pub live_kinds : Now → event.Event → (List Kind → Bool) → List Kind → Bool
-live_kinds n events.KeeperMove says = kinds_asked (keeper_ask n.shape n.places n.keeper) (keeper_due (record { shape = n.shape; places = n.places; state = n.keeper })) says
-live_kinds n its says = says
+abbrev pub live_kinds : Now → event.Event → Bool → (List Kind → Foretold) → List Kind → Foretold
+live_kinds n events.KeeperMove done says = kinds_asked (keeper_ask n.shape n.places n.keeper) (keeper_due (record { shape = n.shape; places = n.places; state = n.keeper })) done says
+live_kinds n its done says = says
 
-abbrev pub kinds_behind : Bool → Now → event.Event → (List Kind → Bool) → List Kind → Bool
-kinds_behind true n its says = says
-kinds_behind false n its says = live_kinds n its says
+abbrev pub kinds_behind : Bool → Now → event.Event → Bool → (List Kind → Foretold) → List Kind → Foretold
+kinds_behind true n its done says = says
+kinds_behind false n its done says = live_kinds n its done says
 
 -- The keeper's step beside the words and a device: whether memory was granted, whether the call of the device succeeded, and what it read. An honest device
 -- took what the keeper writes, and gave what it reads as.
-pub record IsKeeperMove (plane : Plane) (k : KeeperModel) (plane' : Plane) (k' : KeeperModel) (failed failed' : ℕ) (refuses refuses' : ℕ → Bool) (honest : Type 0) (seen seen' : List ℕ) (may_leave may_leave' : List ℕ → Type 0) : Type 0 where
+pub record IsKeeperMove (plane : Plane) (k : KeeperModel) (plane' : Plane) (k' : KeeperModel) (failed failed' : ℕ) (refuses refuses' : ℕ → Bool) (expects expects' : List Kind → Foretold) (honest : Type 0) (seen seen' : List ℕ) (may_leave may_leave' : List ℕ → Type 0) : Type 0 where
   pub granted : Bool
   pub done : Bool
   pub read : List ℕ
   pub store : k' ≡ record k { state = k'.state }
   pub uses : UsesDevice (keeper_ask k.shape k.places k.state) (keeper_made k.places k.state) done failed failed' refuses refuses'
+  pub kinds : expects' ≡ kinds_asked (keeper_ask k.shape k.places k.state) (keeper_due k) done expects
   pub moved : beside plane' k'.state ≡ keeper_moved k.shape k.places granted done read (beside plane k.state)
   pub as_read : honest → beside plane' k'.state ≡ keeper_moved k.shape k.places granted done (keeper_read k seen) (beside plane k.state)
   pub wrote : honest → Adds (calls_after (keeper_ask k.shape k.places k.state) (keeper_calls k.shape k.state done) []) seen seen' may_leave may_leave'
@@ -152,13 +153,14 @@ calls_made n event = if n.crashed then [] else event_calls n event
 
 -- One step of the world, and what it told: with the event that took place it leaves what the rules of the world give, whatever the device read.
 -- Over an honest device, which took what the event writes and gave what it reads as, it goes on with each life of an opened store that shows this world.
-pub record IsStep (its : event.Event) (n after : Now) (told : Option Told) (failed failed' : ℕ) (refuses refuses' : ℕ → Bool) (honest : Type 0) (seen seen' : List ℕ) (may_leave may_leave' : List ℕ → Type 0) : Type 0 where
+pub record IsStep (its : event.Event) (n after : Now) (told : Option Told) (failed failed' : ℕ) (refuses refuses' : ℕ → Bool) (expects expects' : List Kind → Foretold) (honest : Type 0) (seen seen' : List ℕ) (may_leave may_leave' : List ℕ → Type 0) : Type 0 where
   pub granted : Bool
   pub done : Bool
   pub read : List ℕ
   pub now : after ≡ happens_now n read (took_place its granted done)
   pub tells : IsTold n.crashed n after (took_place its granted done) told
   pub uses : EventUses n.crashed n its done failed failed' refuses refuses'
+  pub kinds : expects' ≡ kinds_behind n.crashed n its done expects
   pub as_read : honest → after ≡ happens_now n (device_gives n seen) (took_place its granted done)
   pub wrote : honest → Adds (calls_made n (took_place its granted done)) seen seen' may_leave may_leave'
   pub life : honest → LeadsOn n after (took_place its granted done) told seen seen' may_leave may_leave'

@@ -1,14 +1,13 @@
 //! The keeper's steps beside the words and the actions.
 ghost use Rattle.std.specs.Prelude.{◌≡◌, ◌↔◌, ◌&&◌, not, Bool, true, false, List, ℕ};
 ghost use Rattle.fkv_disk.specs.Device.{Elapses};
-ghost use Rattle.fkv_keeper.specs.KeeperAsks.{keeper_due};
 ghost use Rattle.fkv_keeper.specs.KeeperRun.{is_in_hand};
 ghost use Rattle.fkv_keeper.specs.Keeping.{keeper_ask, commit_asked, turn_asked};
 ghost use Rattle.fkv_plane.specs.Passing.{is_done};
 ghost use Rattle.fkv_world.specs.Moves.{keeper_moved, keeper_settled};
 ghost use Rattle.fkv_world.specs.World.{keeper_asked};
 ghost use Rattle.fkv_core.specs.Told.{IsKeeperEndTold};
-ghost use Rattle.fkv_core.specs.Worlds.{beside, kinds_asked, IsKeeperMove};
+ghost use Rattle.fkv_core.specs.Worlds.{beside, IsKeeperMove};
 
 use crate::events::Told;
 use fkv_base::CommitKind;
@@ -48,9 +47,8 @@ pub(crate) fn keeper_move<D: Device>(
     keeper: &mut Keeper,
     device: &mut D,
 ) -> bool
-    ensures moved { IsKeeperMove words.old keeper.old words.new keeper.new (D.failed device.old) (D.failed device.new) (D.refuses device.old) (D.refuses device.new) (D.honest device.old) (D.seen device.old) (D.seen device.new) (D.may_leave device.old) (D.may_leave device.new) }
+    ensures moved { IsKeeperMove words.old keeper.old words.new keeper.new (D.failed device.old) (D.failed device.new) (D.refuses device.old) (D.refuses device.new) (D.expects device.old) (D.expects device.new) (D.honest device.old) (D.seen device.old) (D.seen device.new) (D.may_leave device.old) (D.may_leave device.new) }
     ensures ended { result ≡ is_in_hand keeper.old.state.step && not (is_in_hand keeper.new.state.step) }
-    ensures kinds { D.expects device.new ≡ kinds_asked (keeper_ask keeper.old.shape keeper.old.places keeper.old.state) (keeper_due keeper.old) (D.expects device.old) }
     ensures honest { D.honest device.old ↔ D.honest device.new }
     ensures time { D.honest device.old → Elapses (D.moment device.old) (D.moment device.new) (D.left_since device.old) (D.left_since device.new) (D.may_leave device.new) }
 {

@@ -6,7 +6,7 @@ ghost use Rattle.fkv_disk.specs.Fuses.{fuse_device, fuse_state, fuse_refused};
 ghost use Rattle.fkv_plane.specs.Asked.{word_at};
 ghost use Rattle.fkv_core.specs.declared.events.Told.{Told};
 ghost use Rattle.fkv_core.specs.Told.{IsAnswerBehind, IsLastAnswer, ends_call, numbered};
-ghost use Rattle.fkv_core.specs.Worlds.{AreSeated, AreSessionCalls, AreSessionMoves, IsStep, kinds_behind, states_of};
+ghost use Rattle.fkv_core.specs.Worlds.{AreSeated, AreSessionCalls, AreSessionMoves, IsStep, states_of};
 
 use crate::events::{Event, Told};
 use crate::keeper_moves::{keeper_answer, keeper_commit, keeper_move, keeper_turn};
@@ -42,8 +42,7 @@ impl<D: Device> World<D> {
     /// What happens next. It tells the answer to the call that has ended in it; where an event finds nothing to do, nothing changes and
     /// nothing is told.
     pub fn step(&mut self, event: Event) -> Option<Told>
-        ensures step { IsStep event self.old.now self.new.now result (D.failed self.old.device) (D.failed self.new.device) (D.refuses self.old.device) (D.refuses self.new.device) (D.honest self.old.device) (D.seen self.old.device) (D.seen self.new.device) (D.may_leave self.old.device) (D.may_leave self.new.device) }
-        ensures kinds { D.expects self.new.device ≡ kinds_behind self.old.now.crashed self.old.now event (D.expects self.old.device) }
+        ensures step { IsStep event self.old.now self.new.now result (D.failed self.old.device) (D.failed self.new.device) (D.refuses self.old.device) (D.refuses self.new.device) (D.expects self.old.device) (D.expects self.new.device) (D.honest self.old.device) (D.seen self.old.device) (D.seen self.new.device) (D.may_leave self.old.device) (D.may_leave self.new.device) }
         ensures honest { D.honest self.old.device ↔ D.honest self.new.device }
         ensures time { D.honest self.old.device → Elapses (D.moment self.old.device) (D.moment self.new.device) (D.left_since self.old.device) (D.left_since self.new.device) (D.may_leave self.new.device) }
     {
@@ -58,8 +57,7 @@ impl<D: Device> World<D> {
     /// next step. A caller that makes many steps saves the answer's 2 KiB in each.
     pub fn advance(&mut self, event: Event) -> bool
         ensures ended { result ≡ ends_call event self.old.now self.new.now }
-        ensures step { (told : Option Told) → IsAnswerBehind result event self.new.now told → IsStep event self.old.now self.new.now told (D.failed self.old.device) (D.failed self.new.device) (D.refuses self.old.device) (D.refuses self.new.device) (D.honest self.old.device) (D.seen self.old.device) (D.seen self.new.device) (D.may_leave self.old.device) (D.may_leave self.new.device) }
-        ensures kinds { D.expects self.new.device ≡ kinds_behind self.old.now.crashed self.old.now event (D.expects self.old.device) }
+        ensures step { (told : Option Told) → IsAnswerBehind result event self.new.now told → IsStep event self.old.now self.new.now told (D.failed self.old.device) (D.failed self.new.device) (D.refuses self.old.device) (D.refuses self.new.device) (D.expects self.old.device) (D.expects self.new.device) (D.honest self.old.device) (D.seen self.old.device) (D.seen self.new.device) (D.may_leave self.old.device) (D.may_leave self.new.device) }
         ensures honest { D.honest self.old.device ↔ D.honest self.new.device }
         ensures time { D.honest self.old.device → Elapses (D.moment self.old.device) (D.moment self.new.device) (D.left_since self.old.device) (D.left_since self.new.device) (D.may_leave self.new.device) }
     {

@@ -57,10 +57,11 @@ fn has_finished(told: Option<Told>) -> bool {
     matches!(told, Some(Told::Turn(Ok(turn))) if turn.finished.is_some())
 }
 
-/// Up to the turn that finishes the commit each one serves a read that was begun before it. Four of them copy a part of the index.
+/// Up to the turn that finishes the commit each one serves a read that was begun before it. Four of them copy a part of the index, and the last
+/// ones go on with writes that rest.
 fn goes(rt: &impl Abort, store: &mut Store) {
     let mut parts: u32 = 0;
-    for _ in 0..12 {
+    for _ in 0..16 {
         let _ = whole(store, Get(0, 0));
         let (steps, told) = turn(store);
         hold!(rt; steps <= PART + BESIDE);

@@ -18,6 +18,8 @@ mod lines;
 #[cfg(test)]
 mod million;
 #[cfg(test)]
+mod resting;
+#[cfg(test)]
 mod stopped_calls;
 #[cfg(test)]
 mod stores;

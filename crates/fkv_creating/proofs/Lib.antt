@@ -4,6 +4,7 @@ mod Filling
 mod Laying
 mod Moving
 mod Newly
+mod Noting
 pub mod NewStores
 pub mod OnlyNew
 mod Outcome

@@ -3,6 +3,7 @@ use Rattle.std.specs.Prelude.{◌≡◌, ℕ, ◌≤◌, Bool, true, false, List
 use Rattle.fkv_base.specs.declared.shapes.Shape.{Shape}
 use Rattle.fkv_disk.specs.Bytes.{byte_at, written}
 use Rattle.fkv_disk.specs.Device.{LeavesOnly, after}
+use Rattle.fkv_disk.specs.Kinds.{Kind, Writing, Syncing}
 use Rattle.fkv_newest.specs.declared.newest_slots.Newest.{Newest}
 use Rattle.fkv_newest.specs.Newest.{IsNewestOf}
 use Rattle.fkv_opening.specs.declared.opened_store.Opened.{Opened}
@@ -69,6 +70,11 @@ pub record HoldsNew {D : Type 0} (seen : D → List ℕ) (may_leave : D → List
 unfoldable pub laid : List ℕ → List ℕ → List ℕ → List ℕ
 laid old block slot = written (written (written (written old 0 (replicate 1536 0)) 0 block) 520 (drop 8 slot)) 512 (165 ∷ [])
 
+-- the eight calls, each of which succeeds
+unfoldable pub laid_kinds : List ℕ → List ℕ → List Kind
+laid_kinds block slot =
+    Writing 0 (replicate 1536 0) true ∷ Syncing true ∷ Writing 0 block true ∷ Syncing true ∷ Writing 520 (drop 8 slot) true ∷ Syncing true ∷ Writing 512 (165 ∷ []) true ∷ Syncing true ∷ []
+
 -- An image is as `create` leaves one: its newest slot is that of a new store of this shape, and it is long.
 pub record IsCreated (shape : Shape) (image : List ℕ) : Type 0 where
   pub newest : Newest
@@ -83,3 +89,7 @@ new_said sessions = record { number = 0; first = record { 0 = 1 }; end = record 
 -- the bytes of a new store of a shape, over a device that holds these
 abbrev pub created_bytes : List ℕ → Shape → List ℕ
 created_bytes old shape = laid old (shape_bytes shape) (newest_bytes (new_said shape.sessions))
+
+-- and the calls that make them
+abbrev pub created_kinds : Shape → List Kind
+created_kinds shape = laid_kinds (shape_bytes shape) (newest_bytes (new_said shape.sessions))

@@ -1,10 +1,11 @@
 //! Creating a store.
-ghost use Rattle.std.specs.Prelude.{◌≡◌, ◌+◌, ◌≤◌, ◌^◌, ◌<◌, ◌↔◌, List, length, drop, replicate, IfOk, OnOk, OnErr};
+ghost use Rattle.std.specs.Prelude.{◌≡◌, ◌+◌, ◌≤◌, ◌^◌, ◌<◌, ◌↔◌, ◌∷◌, ◌++◌, List, length, drop, replicate, true, IfOk, OnOk, OnErr};
 ghost use Rattle.fkv_disk.specs.Bytes.{written};
 ghost use Rattle.fkv_disk.specs.Device.{LeavesOnly, AtEachMoment, HasCause, MakesCalls};
+ghost use Rattle.fkv_disk.specs.Kinds.{Kind, Writing, Syncing};
 ghost use Rattle.fkv_newest.specs.Newest.{IsNewestOf};
-ghost use Rattle.fkv_creating.specs.Created.{IsNew, SparesRest, created_bytes};
-ghost use Rattle.fkv_creating.specs.Filled.{cleared, IsCleared, IsShutOrFilled, filled};
+ghost use Rattle.fkv_creating.specs.Created.{IsNew, SparesRest, created_bytes, created_kinds};
+ghost use Rattle.fkv_creating.specs.Filled.{cleared, IsCleared, IsShutOrFilled, filled, filled_kinds};
 ghost use Rattle.fkv_creating.specs.Long.{IsLong};
 ghost use Rattle.fkv_creating.specs.Moments.{IsTornOver, IsTornInFront, IsStoppedAt, IsLaidInOrder};
 
@@ -23,6 +24,7 @@ fn write_synced<D: Device>(d: &mut D, at: u64, bytes: &[u8]) -> Result<(), Fault
     ensures honest { D.honest d.old ↔ D.honest d.new }
     ensures cause { HasCause (D.failed d.old) (D.failed d.new) result }
     ensures counted { OnOk result (MakesCalls 2 (D.refuses d.old) (D.refuses d.new) result) }
+    ensures kinds { OnOk result ((later : List Kind) → D.expects d.new later ≡ D.expects d.old (Writing at bytes.now true ∷ Syncing true ∷ later)) }
     ensures stopped { D.honest d.old → OnErr result (IsStoppedAt D.seen D.refuses at bytes.now d.old d.new) }
 {
     d.write(at, bytes)?;
@@ -39,6 +41,7 @@ fn clear<D: Device>(d: &mut D) -> Result<(), Fault>
     ensures honest { D.honest d.old ↔ D.honest d.new }
     ensures cause { HasCause (D.failed d.old) (D.failed d.new) result }
     ensures counted { OnOk result (MakesCalls 2 (D.refuses d.old) (D.refuses d.new) result) }
+    ensures kinds { OnOk result ((later : List Kind) → D.expects d.new later ≡ D.expects d.old (Writing 0 (replicate 1536 0) true ∷ Syncing true ∷ later)) }
     ensures stopped { D.honest d.old → OnErr result (IsStoppedAt D.seen D.refuses 0 (replicate 1536 0) d.old d.new) }
 {
     write_synced(d, SHAPE_PLACE, &[0; 1536])
@@ -52,6 +55,7 @@ fn fill<D: Device>(d: &mut D, block: &[u8; 64], slot: &[u8; 512]) -> Result<(), 
     ensures honest { D.honest d.old ↔ D.honest d.new }
     ensures cause { HasCause (D.failed d.old) (D.failed d.new) result }
     ensures counted { OnOk result (MakesCalls 6 (D.refuses d.old) (D.refuses d.new) result) }
+    ensures kinds { OnOk result ((later : List Kind) → D.expects d.new later ≡ D.expects d.old (filled_kinds block.now slot.now ++ later)) }
 {
     write_synced(d, SHAPE_PLACE, block)?;
     put_slot(d, SLOT_PLACES[0], 8, *slot, false)
@@ -64,7 +68,7 @@ fn fill<D: Device>(d: &mut D, block: &[u8; 64], slot: &[u8; 512]) -> Result<(), 
 /// After `Ok` the device reads as the image of commit 0 of a store with an empty log, and a crash leaves just that. What
 /// lies behind the first 1,536 bytes stays, and means nothing. Once the zeros are synced a crash, or a refusal, leaves an image that
 /// is no store's, or the new one, which is long; where they are not, one of the first two calls was refused, and was the last. It
-/// is refused with `Device` alone, and only where the device failed in this call.
+/// is refused with `Device` alone, and only where the device failed in this call. After `Ok` any device has met just these eight calls, and each came through.
 pub fn create<D: Device>(d: &mut D, shape: Shape) -> Result<Newest, Fault>
     ensures ok { D.honest d.old → IfOk result (IsNewestOf (D.seen d.new)) }
     ensures new { IfOk result (IsNew shape) }
@@ -75,6 +79,7 @@ pub fn create<D: Device>(d: &mut D, shape: Shape) -> Result<Newest, Fault>
     ensures honest { D.honest d.old ↔ D.honest d.new }
     ensures cause { HasCause (D.failed d.old) (D.failed d.new) result }
     ensures counted { OnOk result (MakesCalls 8 (D.refuses d.old) (D.refuses d.new) result) }
+    ensures kinds { OnOk result ((later : List Kind) → D.expects d.new later ≡ D.expects d.old (created_kinds shape ++ later)) }
     ensures moments { D.honest d.old → IsLaidInOrder D.seen D.may_leave D.moment D.left_since D.refuses shape d.old d.new result }
 {
     let newest = new_store(shape);

@@ -1,12 +1,13 @@
 //! A new store that is opened.
-ghost use Rattle.std.specs.Prelude.{◌≡◌, ◌≤◌, ◌^◌, ◌↔◌, List, ℕ, All, Err, IfOk, IfErr, OnErr, OnOk, length};
+ghost use Rattle.std.specs.Prelude.{◌≡◌, ◌≤◌, ◌^◌, ◌↔◌, ◌++◌, List, ℕ, All, Err, IfOk, IfErr, OnErr, OnOk, length};
 ghost use Rattle.fkv_base.specs.Limits.{last_serial};
 ghost use Rattle.fkv_base.specs.declared.faults.Fault.TheVariants.{Memory};
 ghost use Rattle.fkv_disk.specs.Device.{LeavesOnly, MakesCalls};
+ghost use Rattle.fkv_disk.specs.Kinds.{Kind};
 ghost use Rattle.fkv_newest.specs.Newest.{IsNewestOf};
 ghost use Rattle.fkv_disk.specs.Quiet.{IsHindrance};
 ghost use Rattle.fkv_opening.specs.Opened.{IsStoreOf};
-ghost use Rattle.fkv_creating.specs.Created.{IsNew, IsNewStore, HoldsNew, SparesRest, created_bytes};
+ghost use Rattle.fkv_creating.specs.Created.{IsNew, IsNewStore, HoldsNew, SparesRest, created_bytes, created_kinds};
 ghost use Rattle.fkv_creating.specs.Moments.{IsLaidInOrder};
 
 use crate::creating::create;
@@ -73,6 +74,7 @@ pub fn create_opened<D: Device>(alloc: Global, d: &mut D, shape: Shape) -> Resul
     ensures err { IfErr result (IsHindrance (D.failed d.old) (D.failed d.new)) }
     ensures memory { D.honest d.old → IfErr result (λ e. e ≡ Memory → HoldsNew D.seen D.may_leave D.refuses shape d.old d.new) }
     ensures counted { OnOk result (MakesCalls 8 (D.refuses d.old) (D.refuses d.new) result) }
+    ensures kinds { OnOk result ((later : List Kind) → D.expects d.new later ≡ D.expects d.old (created_kinds shape ++ later)) }
     ensures moments { D.honest d.old → IsLaidInOrder D.seen D.may_leave D.moment D.left_since D.refuses shape d.old d.new result }
 {
     let newest = create(d, shape)?;

@@ -1,7 +1,7 @@
 -- A call of a device that is still to be made, and what making it is.
 use Rattle.std.specs.Prelude.{ℕ, List, [], ◌∷◌, Bool, Option, Some, None}
 use Rattle.fkv_disk.specs.Calls.{Call, Write, Sync}
-use Rattle.fkv_disk.specs.Kinds.{Kind, Reading, Writing, Syncing, after_kind}
+use Rattle.fkv_disk.specs.Kinds.{Kind, Reading, Writing, Syncing, Foretold, after_kind}
 use Rattle.fkv_disk.specs.declared.asks.DeviceAsk.{DeviceAsk}
 use Rattle.fkv_disk.specs.declared.asks.DeviceAsk.TheVariants as ask
 
@@ -36,9 +36,9 @@ abbrev pub count_by : Option AskedCall → ℕ
 count_by None = 0
 count_by (Some call) = 1
 
--- what a device says of the kinds of calls to come once it is made
-abbrev pub kinds_by : Option AskedCall → (List Kind → Bool) → List Kind → Bool
-kinds_by None says = says
-kinds_by (Some (Reads at count)) says = after_kind Reading says
-kinds_by (Some (Writes at bytes)) says = after_kind Writing says
-kinds_by (Some Syncs) says = after_kind Syncing says
+-- what a device says of itself and the calls to come once it is made, and whether it came through
+abbrev pub kinds_by : Option AskedCall → Bool → (List Kind → Foretold) → List Kind → Foretold
+kinds_by None done says = says
+kinds_by (Some (Reads at count)) done says = after_kind Reading says
+kinds_by (Some (Writes at bytes)) done says = after_kind (Writing at bytes done) says
+kinds_by (Some Syncs) done says = after_kind (Syncing done) says

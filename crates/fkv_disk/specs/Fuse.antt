@@ -1,9 +1,10 @@
 -- What a fuse shows, and what it makes of the images that its device may leave.
-use Rattle.std.specs.Prelude.{◌⊎◌, ℕ, zero, suc, List, ◌∷◌, Bool, true, false, nat_lt, nat_le, ◌||◌, refl}
+use Rattle.std.specs.Prelude.{◌⊎◌, ℕ, zero, suc, List, [], ◌∷◌, length, Bool, true, false, nat_lt, nat_le, ◌||◌, refl}
 use Rattle.std.proofs.Common.{inl, inr, arith}
 use Rattle.fkv_disk.specs.Bytes.{AreBytes, listed}
 use Rattle.fkv_disk.specs.Calls.{Call, Write}
 use Rattle.fkv_disk.specs.Device.{Torn}
+use Rattle.fkv_disk.specs.Kinds.{Kind, Reading, Writing, Syncing, Foretold, after_kind}
 use Rattle.fkv_disk.specs.declared.fuses.FuseState.{FuseState}
 use Rattle.fkv_disk.specs.declared.fuses.FuseState.TheVariants.{Sound, Armed, Blown, BlownAt}
 
@@ -101,3 +102,19 @@ with_refused Sound calls = calls
 with_refused (Armed left) calls = calls
 with_refused Blown calls = calls
 with_refused (BlownAt at n) calls = Write at (listed n (λ k. 0)) false ∷ calls
+
+-- after this call
+abbrev pub burned_by : Kind → FuseState → FuseState
+burned_by Reading state = burned state
+burned_by (Writing at bytes done) state = burned_at at (length bytes) state
+burned_by (Syncing done) state = burned state
+
+-- what a device says of the calls to come once a call came, if the fuse let it pass
+abbrev pub passed_on : Bool → Kind → (List Kind → Foretold) → List Kind → Foretold
+passed_on true kind says = after_kind kind says
+passed_on false kind says = says
+
+-- What a fuse says of itself once these calls have come: what its device says once those that pass have come, and the write at which it blew.
+abbrev pub fuse_foretells : FuseState → (List Kind → Foretold) → List Kind → Foretold
+fuse_foretells state says [] = record { holds = (says []).holds; opening = (says []).opening; calls = with_refused state (says []).calls }
+fuse_foretells state says (kind ∷ later) = fuse_foretells (burned_by kind state) (passed_on (passes state) kind says) later

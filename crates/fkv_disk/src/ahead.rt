@@ -3,7 +3,7 @@ ghost use Rattle.std.specs.Prelude.{◌≡◌, ◌<◌, ◌≤◌, ◌+◌, ◌-
 ghost use Rattle.std.specs.List.{All};
 ghost use Rattle.fkv_disk.specs.Bytes.{bytes_at};
 ghost use Rattle.fkv_disk.specs.Device.{Writes, LeavesNoMore, LeavesTorn, LeavesOnly, Elapses, HasCause, MakesCalls};
-ghost use Rattle.fkv_disk.specs.Kinds.{OnlyReads, Reading, Writing, Syncing, after_kind};
+ghost use Rattle.fkv_disk.specs.Kinds.{OnlyReads, Reading, Writing, Syncing, after_kind, nothing};
 ghost use Rattle.fkv_disk.specs.Pages.{IsBlank, ArePagesOf};
 ghost use Rattle.std.proofs.Props.{props};
 
@@ -126,7 +126,7 @@ impl<D: Device> Device for ReadAhead<D> {
 
     ghost refuses = { λ _ _. false };
 
-    ghost expects = { λ _ _. false };
+    ghost expects = { λ _ _. nothing };
 
     ghost counts_now = { λ ahead. D.Device.counts_now ahead.device };
 
@@ -159,10 +159,10 @@ impl<D: Device> Device for ReadAhead<D> {
         ensures time { ⟦<ReadAhead<D> as Device>⟧.honest self.old → Elapses (⟦<ReadAhead<D> as Device>⟧.moment self.old) (⟦<ReadAhead<D> as Device>⟧.moment self.new) (⟦<ReadAhead<D> as Device>⟧.left_since self.old) (⟦<ReadAhead<D> as Device>⟧.left_since self.new) (⟦<ReadAhead<D> as Device>⟧.may_leave self.new) }
         ensures cause { HasCause (⟦<ReadAhead<D> as Device>⟧.failed self.old) (⟦<ReadAhead<D> as Device>⟧.failed self.new) result }
         ensures counted { MakesCalls 1 (⟦<ReadAhead<D> as Device>⟧.refuses self.old) (⟦<ReadAhead<D> as Device>⟧.refuses self.new) result }
-        ensures kind { ⟦<ReadAhead<D> as Device>⟧.expects self.new ≡ after_kind Writing (⟦<ReadAhead<D> as Device>⟧.expects self.old) }
+        ensures kind { ⟦<ReadAhead<D> as Device>⟧.expects self.new ≡ after_kind (Writing at bytes.now (is_ok result)) (⟦<ReadAhead<D> as Device>⟧.expects self.old) }
 
         ensures passed_on { MakesCalls 1 (D.refuses (ahead_device self.old)) (D.refuses (ahead_device self.new)) result }
-        ensures passed_kind { D.expects (ahead_device self.new) ≡ after_kind Writing (D.expects (ahead_device self.old)) }
+        ensures passed_kind { D.expects (ahead_device self.new) ≡ after_kind (Writing at bytes.now (is_ok result)) (D.expects (ahead_device self.old)) }
     {
         forget_range(&mut self.pages, at, bytes.len());
         self.device.write(at, bytes)
@@ -176,10 +176,10 @@ impl<D: Device> Device for ReadAhead<D> {
         ensures time { ⟦<ReadAhead<D> as Device>⟧.honest self.old → Elapses (⟦<ReadAhead<D> as Device>⟧.moment self.old) (⟦<ReadAhead<D> as Device>⟧.moment self.new) (⟦<ReadAhead<D> as Device>⟧.left_since self.old) (⟦<ReadAhead<D> as Device>⟧.left_since self.new) (⟦<ReadAhead<D> as Device>⟧.may_leave self.new) }
         ensures cause { HasCause (⟦<ReadAhead<D> as Device>⟧.failed self.old) (⟦<ReadAhead<D> as Device>⟧.failed self.new) result }
         ensures counted { MakesCalls 1 (⟦<ReadAhead<D> as Device>⟧.refuses self.old) (⟦<ReadAhead<D> as Device>⟧.refuses self.new) result }
-        ensures kind { ⟦<ReadAhead<D> as Device>⟧.expects self.new ≡ after_kind Syncing (⟦<ReadAhead<D> as Device>⟧.expects self.old) }
+        ensures kind { ⟦<ReadAhead<D> as Device>⟧.expects self.new ≡ after_kind (Syncing (is_ok result)) (⟦<ReadAhead<D> as Device>⟧.expects self.old) }
 
         ensures passed_on { MakesCalls 1 (D.refuses (ahead_device self.old)) (D.refuses (ahead_device self.new)) result }
-        ensures passed_kind { D.expects (ahead_device self.new) ≡ after_kind Syncing (D.expects (ahead_device self.old)) }
+        ensures passed_kind { D.expects (ahead_device self.new) ≡ after_kind (Syncing (is_ok result)) (D.expects (ahead_device self.old)) }
     {
         self.device.sync()
     }

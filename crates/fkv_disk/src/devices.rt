@@ -2,7 +2,7 @@
 ghost use Rattle.std.specs.Prelude.{◌≡◌, ◌≤◌, ◌↔◌, List, ℕ, Bool, length, is_ok, OnOk};
 ghost use Rattle.fkv_disk.specs.Bytes.{bytes_at, AreBytes};
 ghost use Rattle.fkv_disk.specs.Device.{Writes, LeavesNoMore, LeavesTorn, LeavesOnly, Elapses, HasCause, MakesCalls};
-ghost use Rattle.fkv_disk.specs.Kinds.{Kind, Reading, Writing, Syncing, after_kind};
+ghost use Rattle.fkv_disk.specs.Kinds.{Kind, Reading, Writing, Syncing, Foretold, after_kind};
 
 use fkv_base::Fault;
 
@@ -15,8 +15,9 @@ use fkv_base::Fault;
 ///
 /// Every call may be refused with `Fault::Device`, and with nothing else. Then `failures` rose in that call.
 ///
-/// Every device counts calls: what it says of the calls to come moves on by one with each, and what it says of their
-/// kinds by the kind of each. So whoever tells how far that moved has told which calls were made.
+/// Every device counts calls: what it says of the calls to come moves on by one with each. It also notes each: what it
+/// says of itself moves on by the call as it was made, with place, bytes and outcome. So whoever tells how far that
+/// moved has told which calls were made. Of a device whose crash can be taken, this is what the crash takes.
 pub trait Device {
     /// The premise: what is read is what was last written, and a crash leaves no more than is said here.
     ghost honest: { Self → Type 0 };
@@ -40,8 +41,8 @@ pub trait Device {
     /// name it says nothing.
     ghost refuses: { Self → ℕ → Bool };
 
-    /// What it says of the kinds of the calls to come, the next one first: anything, and for most devices nothing.
-    ghost expects: { Self → List Kind → Bool };
+    /// What it says of itself once these calls have come, the next one first: anything, and for most devices nothing.
+    ghost expects: { Self → List Kind → Foretold };
 
     /// Fills `into` with the bytes from offset `at` on. Those past the end are 0. After a refusal `into` holds
     /// anything.
@@ -64,7 +65,7 @@ pub trait Device {
         ensures time { honest self.old → Elapses (moment self.old) (moment self.new) (left_since self.old) (left_since self.new) (may_leave self.new) }
         ensures cause { HasCause (failed self.old) (failed self.new) result }
         ensures counted { MakesCalls 1 (refuses self.old) (refuses self.new) result }
-        ensures kind { expects self.new ≡ after_kind Writing (expects self.old) };
+        ensures kind { expects self.new ≡ after_kind (Writing at bytes.now (is_ok result)) (expects self.old) };
 
     /// At `Ok` a crash leaves just what is read. A refused sync changes nothing here; of a real disk nobody knows
     /// what it has left, so a store makes no call after one.
@@ -76,7 +77,7 @@ pub trait Device {
         ensures time { honest self.old → Elapses (moment self.old) (moment self.new) (left_since self.old) (left_since self.new) (may_leave self.new) }
         ensures cause { HasCause (failed self.old) (failed self.new) result }
         ensures counted { MakesCalls 1 (refuses self.old) (refuses self.new) result }
-        ensures kind { expects self.new ≡ after_kind Syncing (expects self.old) };
+        ensures kind { expects self.new ≡ after_kind (Syncing (is_ok result)) (expects self.old) };
 
     /// How many calls have failed so far. At 2^64 - 1 it stays.
     fn failures(&self) -> u64

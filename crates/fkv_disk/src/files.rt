@@ -1,6 +1,7 @@
 //! A real file as a device.
 ghost use Rattle.std.specs.Prelude.{◌≡◌, [], false, IfOk, IfErr};
 ghost use Rattle.fkv_disk.specs.File.{file_failures};
+ghost use Rattle.fkv_disk.specs.Kinds.{nothing};
 
 use crate::Device;
 use crate::refusals::refuse;
@@ -100,7 +101,7 @@ impl<F: Read + Write + Seek + OpenFile> Device for FileDisk<F> {
 
     ghost refuses = { λ _ _. false };
 
-    ghost expects = { λ _ _. false };
+    ghost expects = { λ _ _. nothing };
 
     ghost counts_now = { λ disk t image claim le left. absurd claim };
 

@@ -3,7 +3,7 @@ ghost use Rattle.std.specs.Prelude.{◌≡◌, ◌+◌, ◌-◌, ◌≤◌, ◌^
 ghost use Rattle.fkv_disk.specs.Bytes.{bytes_at};
 ghost use Rattle.fkv_disk.specs.Device.{Rose, Writes, LeavesNoMore, LeavesTorn, LeavesOnly, Elapses, HasCause, MakesCalls};
 ghost use Rattle.fkv_disk.specs.Kinds.{Reading, Writing, Syncing, after_kind};
-ghost use Rattle.fkv_disk.specs.Fuse.{passes, burned, burned_at, armed, is_blown, FuseLeaves, FuseLeftSince, fuse_counts_now, fuse_only_now, fuse_leaves_whole, fuse_leaves_bytes, fuse_refuses};
+ghost use Rattle.fkv_disk.specs.Fuse.{passes, burned, burned_at, armed, is_blown, FuseLeaves, FuseLeftSince, fuse_counts_now, fuse_only_now, fuse_leaves_whole, fuse_leaves_bytes, fuse_refuses, fuse_foretells};
 
 use crate::Device;
 use crate::refusals::refuse;
@@ -134,7 +134,7 @@ impl<D: Device> Device for Fuse<D> {
 
     ghost refuses = { λ fuse. fuse_refuses fuse.state (D.Device.refuses fuse.device) };
 
-    ghost expects = { λ _ _. false };
+    ghost expects = { λ fuse. fuse_foretells fuse.state (D.Device.expects fuse.device) };
 
     ghost counts_now = { λ fuse t image claim le left. fuse_counts_now fuse.state (D.Device.left_since fuse.device) (D.Device.may_leave fuse.device) t image (D.Device.counts_now fuse.device t image claim le) left };
 
@@ -174,7 +174,7 @@ impl<D: Device> Device for Fuse<D> {
         ensures time { ⟦<Fuse<D> as Device>⟧.honest self.old → Elapses (⟦<Fuse<D> as Device>⟧.moment self.old) (⟦<Fuse<D> as Device>⟧.moment self.new) (⟦<Fuse<D> as Device>⟧.left_since self.old) (⟦<Fuse<D> as Device>⟧.left_since self.new) (⟦<Fuse<D> as Device>⟧.may_leave self.new) }
         ensures cause { HasCause (⟦<Fuse<D> as Device>⟧.failed self.old) (⟦<Fuse<D> as Device>⟧.failed self.new) result }
         ensures counted { MakesCalls 1 (⟦<Fuse<D> as Device>⟧.refuses self.old) (⟦<Fuse<D> as Device>⟧.refuses self.new) result }
-        ensures kind { ⟦<Fuse<D> as Device>⟧.expects self.new ≡ after_kind Writing (⟦<Fuse<D> as Device>⟧.expects self.old) }
+        ensures kind { ⟦<Fuse<D> as Device>⟧.expects self.new ≡ after_kind (Writing at bytes.now (is_ok result)) (⟦<Fuse<D> as Device>⟧.expects self.old) }
 
         ensures state { fuse_state self.new ≡ burned_at at (length bytes.now) (fuse_state self.old) }
         ensures refuses { passes (fuse_state self.old) ≡ false → IsErr result }
@@ -197,7 +197,7 @@ impl<D: Device> Device for Fuse<D> {
         ensures time { ⟦<Fuse<D> as Device>⟧.honest self.old → Elapses (⟦<Fuse<D> as Device>⟧.moment self.old) (⟦<Fuse<D> as Device>⟧.moment self.new) (⟦<Fuse<D> as Device>⟧.left_since self.old) (⟦<Fuse<D> as Device>⟧.left_since self.new) (⟦<Fuse<D> as Device>⟧.may_leave self.new) }
         ensures cause { HasCause (⟦<Fuse<D> as Device>⟧.failed self.old) (⟦<Fuse<D> as Device>⟧.failed self.new) result }
         ensures counted { MakesCalls 1 (⟦<Fuse<D> as Device>⟧.refuses self.old) (⟦<Fuse<D> as Device>⟧.refuses self.new) result }
-        ensures kind { ⟦<Fuse<D> as Device>⟧.expects self.new ≡ after_kind Syncing (⟦<Fuse<D> as Device>⟧.expects self.old) }
+        ensures kind { ⟦<Fuse<D> as Device>⟧.expects self.new ≡ after_kind (Syncing (is_ok result)) (⟦<Fuse<D> as Device>⟧.expects self.old) }
 
         ensures state { fuse_state self.new ≡ burned (fuse_state self.old) }
         ensures refuses { passes (fuse_state self.old) ≡ false → IsErr result }

@@ -3,7 +3,7 @@ ghost use Rattle.std.specs.Prelude.{◌≡◌, ◌↔◌, ◌+◌, ◌-◌, ◌<
 ghost use Rattle.fkv_disk.specs.Bytes.{bytes_at, written, AreBytes};
 ghost use Rattle.fkv_disk.specs.Calls.{Write, Sync, reads_as};
 ghost use Rattle.fkv_disk.specs.Device.{Writes, LeavesNoMore, LeavesTorn, LeavesOnly, Elapses, HasCause, MakesCalls};
-ghost use Rattle.fkv_disk.specs.Kinds.{Reading, Writing, Syncing, after_kind};
+ghost use Rattle.fkv_disk.specs.Kinds.{Reading, Writing, Syncing, after_kind, noted};
 ghost use Rattle.fkv_disk.specs.Done.{calls_of, MayLeaveBytes, LeftSince, counts_now, only_now};
 ghost use Rattle.fkv_disk.specs.Stays.{seen_left};
 
@@ -186,7 +186,7 @@ impl Device for MemDisk {
 
     ghost refuses = { λ _ _. false };
 
-    ghost expects = { λ _ _. false };
+    ghost expects = { λ disk later. record { holds = false; opening = disk.opening.items; calls = noted later (calls_of disk.done.items) } };
 
     ghost counts_now = { λ disk t image claim le left. counts_now disk.forgotten disk.opening.items (calls_of disk.done.items) t image le left };
 
@@ -222,7 +222,7 @@ impl Device for MemDisk {
         ensures time { ⟦<MemDisk as Device>⟧.honest self.old → Elapses (⟦<MemDisk as Device>⟧.moment self.old) (⟦<MemDisk as Device>⟧.moment self.new) (⟦<MemDisk as Device>⟧.left_since self.old) (⟦<MemDisk as Device>⟧.left_since self.new) (⟦<MemDisk as Device>⟧.may_leave self.new) }
         ensures cause { HasCause (⟦<MemDisk as Device>⟧.failed self.old) (⟦<MemDisk as Device>⟧.failed self.new) result }
         ensures counted { MakesCalls 1 (⟦<MemDisk as Device>⟧.refuses self.old) (⟦<MemDisk as Device>⟧.refuses self.new) result }
-        ensures kind { ⟦<MemDisk as Device>⟧.expects self.new ≡ after_kind Writing (⟦<MemDisk as Device>⟧.expects self.old) }
+        ensures kind { ⟦<MemDisk as Device>⟧.expects self.new ≡ after_kind (Writing at bytes.now (is_ok result)) (⟦<MemDisk as Device>⟧.expects self.old) }
 
         ensures calls { disk_calls self.new ≡ (if is_ok result then Write at bytes.now true ∷ disk_calls self.old else disk_calls self.old) }
         ensures opening { disk_opening self.new ≡ disk_opening self.old }
@@ -242,7 +242,7 @@ impl Device for MemDisk {
         ensures time { ⟦<MemDisk as Device>⟧.honest self.old → Elapses (⟦<MemDisk as Device>⟧.moment self.old) (⟦<MemDisk as Device>⟧.moment self.new) (⟦<MemDisk as Device>⟧.left_since self.old) (⟦<MemDisk as Device>⟧.left_since self.new) (⟦<MemDisk as Device>⟧.may_leave self.new) }
         ensures cause { HasCause (⟦<MemDisk as Device>⟧.failed self.old) (⟦<MemDisk as Device>⟧.failed self.new) result }
         ensures counted { MakesCalls 1 (⟦<MemDisk as Device>⟧.refuses self.old) (⟦<MemDisk as Device>⟧.refuses self.new) result }
-        ensures kind { ⟦<MemDisk as Device>⟧.expects self.new ≡ after_kind Syncing (⟦<MemDisk as Device>⟧.expects self.old) }
+        ensures kind { ⟦<MemDisk as Device>⟧.expects self.new ≡ after_kind (Syncing (is_ok result)) (⟦<MemDisk as Device>⟧.expects self.old) }
 
         ensures calls { disk_calls self.new ≡ (if is_ok result then Sync true ∷ disk_calls self.old else disk_calls self.old) }
         ensures opening { disk_opening self.new ≡ disk_opening self.old }

@@ -3,7 +3,7 @@ ghost use Rattle.std.specs.Prelude.{◌≡◌, ◌≢◌, ◌+◌, ◌-◌, ◌�
 ghost use Rattle.fkv_disk.specs.Bytes.{bytes_at};
 ghost use Rattle.fkv_disk.specs.Countdown.{counted_down, refusals, once_refuses};
 ghost use Rattle.fkv_disk.specs.Device.{Writes, LeavesNoMore, LeavesTorn, LeavesOnly, Elapses, HasCause, MakesCalls};
-ghost use Rattle.fkv_disk.specs.Kinds.{Reading, Writing, Syncing, after_kind};
+ghost use Rattle.fkv_disk.specs.Kinds.{Reading, Writing, Syncing, after_kind, nothing};
 
 use crate::Device;
 use fkv_base::Fault;
@@ -82,7 +82,7 @@ impl<D: Device> Device for Once<D> {
 
     ghost refuses = { λ once. once_refuses once.left (D.Device.refuses once.device) };
 
-    ghost expects = { λ _ _. false };
+    ghost expects = { λ _ _. nothing };
 
     ghost counts_now = { λ once. D.Device.counts_now once.device };
 
@@ -119,7 +119,7 @@ impl<D: Device> Device for Once<D> {
         ensures time { ⟦<Once<D> as Device>⟧.honest self.old → Elapses (⟦<Once<D> as Device>⟧.moment self.old) (⟦<Once<D> as Device>⟧.moment self.new) (⟦<Once<D> as Device>⟧.left_since self.old) (⟦<Once<D> as Device>⟧.left_since self.new) (⟦<Once<D> as Device>⟧.may_leave self.new) }
         ensures cause { HasCause (⟦<Once<D> as Device>⟧.failed self.old) (⟦<Once<D> as Device>⟧.failed self.new) result }
         ensures counted { MakesCalls 1 (⟦<Once<D> as Device>⟧.refuses self.old) (⟦<Once<D> as Device>⟧.refuses self.new) result }
-        ensures kind { ⟦<Once<D> as Device>⟧.expects self.new ≡ after_kind Writing (⟦<Once<D> as Device>⟧.expects self.old) }
+        ensures kind { ⟦<Once<D> as Device>⟧.expects self.new ≡ after_kind (Writing at bytes.now (is_ok result)) (⟦<Once<D> as Device>⟧.expects self.old) }
 
         ensures left { once_left self.new ≡ counted_down (once_left self.old) }
         ensures fails { once_left self.old ≡ Some 0 → IsErr result }
@@ -139,7 +139,7 @@ impl<D: Device> Device for Once<D> {
         ensures time { ⟦<Once<D> as Device>⟧.honest self.old → Elapses (⟦<Once<D> as Device>⟧.moment self.old) (⟦<Once<D> as Device>⟧.moment self.new) (⟦<Once<D> as Device>⟧.left_since self.old) (⟦<Once<D> as Device>⟧.left_since self.new) (⟦<Once<D> as Device>⟧.may_leave self.new) }
         ensures cause { HasCause (⟦<Once<D> as Device>⟧.failed self.old) (⟦<Once<D> as Device>⟧.failed self.new) result }
         ensures counted { MakesCalls 1 (⟦<Once<D> as Device>⟧.refuses self.old) (⟦<Once<D> as Device>⟧.refuses self.new) result }
-        ensures kind { ⟦<Once<D> as Device>⟧.expects self.new ≡ after_kind Syncing (⟦<Once<D> as Device>⟧.expects self.old) }
+        ensures kind { ⟦<Once<D> as Device>⟧.expects self.new ≡ after_kind (Syncing (is_ok result)) (⟦<Once<D> as Device>⟧.expects self.old) }
 
         ensures left { once_left self.new ≡ counted_down (once_left self.old) }
         ensures fails { once_left self.old ≡ Some 0 → IsErr result }

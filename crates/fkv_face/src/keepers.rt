@@ -108,8 +108,25 @@ fn next(keeper: &mut HeldKeeper, ask: TurnAsk, turned: &mut Turned, points: &mut
 pub extern "C" fn fkv_turn(keeper: &mut HeldKeeper, turned: &mut Turned, points: &mut [u64]) -> i32
     ensures { says.IsTurned ⟦<Posted<'static> as Device>⟧ keeper.old.value result turned.old turned.new points.old points.new keeper.new.value }
 {
-    let ask = keeper.lent().turn();
+    let ask = keeper.lent().turn(true);
     next(keeper, ask, turned, points).number
+}
+
+/// As `fkv_turn`, but that writes of a commit that rest don't go on: the turn serves mailboxes alone then.
+#[unsafe(no_mangle)]
+pub extern "C" fn fkv_serve(keeper: &mut HeldKeeper, turned: &mut Turned, points: &mut [u64]) -> i32
+    ensures { says.IsTurned ⟦<Posted<'static> as Device>⟧ keeper.old.value result turned.old turned.new points.old points.new keeper.new.value }
+{
+    let ask = keeper.lent().turn(false);
+    next(keeper, ask, turned, points).number
+}
+
+/// 1 where the writes of the commit in hand rest: the last turn came to a sync, which the next `fkv_turn` posts. (A hint: no clause speaks of it.)
+#[unsafe(no_mangle)]
+pub extern "C" fn fkv_rests(keeper: &mut HeldKeeper) -> i32
+    ensures same { keeper.new.value ≡ keeper.old.value }
+{
+    if keeper.lent().rests() { 1 } else { 0 }
 }
 
 /// Tells how the call that is posted has gone, and what comes next, as `fkv_turn` tells it. The bytes are what a read gave: what was last written

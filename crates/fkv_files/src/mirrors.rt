@@ -2,6 +2,7 @@
 ghost use Rattle.std.specs.Prelude.{◌≡◌, ◌≤◌, ◌+◌, ◌-◌, ◌^◌, [], length, min, false, ⊤, IfOk};
 ghost use Rattle.fkv_disk.specs.Device.{IsAfter};
 ghost use Rattle.fkv_disk.specs.Done.{calls_of, counts_now, only_now};
+ghost use Rattle.fkv_disk.specs.Kinds.{nothing};
 ghost use Rattle.fkv_disk.specs.Memory.{disk_calls, disk_opening};
 ghost use Rattle.fkv_disk.specs.Stays.{seen_left};
 ghost use Rattle.std.proofs.Props.{props};
@@ -85,7 +86,7 @@ impl<D: Device> Device for Mirror<D> {
 
     ghost refuses = { λ _ _. false };
 
-    ghost expects = { λ _ _. false };
+    ghost expects = { λ _ _. nothing };
 
     ghost counts_now = { λ mirror t image claim le left. counts_now mirror.memory.forgotten mirror.memory.opening.items (calls_of mirror.memory.done.items) t image le left };
 

@@ -136,7 +136,7 @@ impl Flush {
         ensures none { OnErr result (flush_asks_left self.new.step ≡ 0) }
         ensures cause { HasCause (D.failed d.old) (D.failed d.new) result }
         ensures counted { MakesCalls (calls_asked (flush_ask self.old.places self.old.step)) (D.refuses d.old) (D.refuses d.new) result }
-        ensures kind { D.expects d.new ≡ kinds_by (first_asked (flush_calls self.old.shape self.old.bytes self.old.step true)) (D.expects d.old) }
+        ensures kind { D.expects d.new ≡ kinds_by (first_asked (flush_calls self.old.shape self.old.bytes self.old.step true)) (is_ok result) (D.expects d.old) }
         ensures honest { D.honest d.old ↔ D.honest d.new }
         ensures calls { D.honest d.old → Adds (flush_calls self.old.shape self.old.bytes self.old.step (is_ok result)) (D.seen d.old) (D.seen d.new) (D.may_leave d.old) (D.may_leave d.new) }
         ensures time { D.honest d.old → Elapses (D.moment d.old) (D.moment d.new) (D.left_since d.old) (D.left_since d.new) (D.may_leave d.new) }
@@ -265,7 +265,7 @@ fn call_device<D: Device>(
     ensures cause { HasCause (D.failed d.old) (D.failed d.new) result }
     ensures called { (places : Places) → OnErr result (0 < calls_asked (flush_ask places step)) }
     ensures counted { (places : Places) → MakesCalls (calls_asked (flush_ask places step)) (D.refuses d.old) (D.refuses d.new) result }
-    ensures kind { D.expects d.new ≡ kinds_by (first_asked (flush_calls shape bytes.now step true)) (D.expects d.old) }
+    ensures kind { D.expects d.new ≡ kinds_by (first_asked (flush_calls shape bytes.now step true)) (is_ok result) (D.expects d.old) }
     ensures honest { D.honest d.old ↔ D.honest d.new }
     ensures calls { D.honest d.old → Adds (flush_calls shape bytes.now step (is_ok result)) (D.seen d.old) (D.seen d.new) (D.may_leave d.old) (D.may_leave d.new) }
     ensures time { D.honest d.old → Elapses (D.moment d.old) (D.moment d.new) (D.left_since d.old) (D.left_since d.new) (D.may_leave d.new) }

@@ -1,5 +1,5 @@
 //! How the sessions' mailboxes are served.
-ghost use Rattle.std.specs.Prelude.{◌≡◌, ◌+◌, ◌-◌, ◌<◌, ◌≤◌, ◌↔◌, ℕ, List, length, IfOk, OnOk, OnErr};
+ghost use Rattle.std.specs.Prelude.{◌≡◌, ◌+◌, ◌-◌, ◌<◌, ◌≤◌, ◌↔◌, ℕ, List, length, is_ok, IfOk, OnOk, OnErr};
 ghost use Rattle.fkv_disk.specs.Asks.{asked_call, kinds_by};
 ghost use Rattle.fkv_disk.specs.Bytes.{bytes_at};
 ghost use Rattle.fkv_disk.specs.Device.{LeavesNoMore, Elapses, HasCause, MakesCalls};
@@ -133,7 +133,7 @@ impl Serve {
         ensures none { OnErr result (serve_asks_left self.old.shape.sessions self.new.step ≡ 0) }
         ensures cause { HasCause (D.failed d.old) (D.failed d.new) result }
         ensures counted { MakesCalls (calls_asked (serve_ask self.old.step)) (D.refuses d.old) (D.refuses d.new) result }
-        ensures kind { D.expects d.new ≡ kinds_by (mail_read self.old.shape self.old.step) (D.expects d.old) }
+        ensures kind { D.expects d.new ≡ kinds_by (mail_read self.old.shape self.old.step) (is_ok result) (D.expects d.old) }
         ensures honest { D.honest d.old ↔ D.honest d.new }
         ensures seen { D.honest d.old → D.seen d.new ≡ D.seen d.old }
         ensures crash { D.honest d.old → LeavesNoMore (D.may_leave d.old) (D.may_leave d.new) }

@@ -13,12 +13,12 @@ use Rattle.fkv_commit.specs.declared.commits.Commit.{Commit}
 use Rattle.fkv_base.specs.declared.commits.CommitKind.{CommitKind}
 use Rattle.fkv_commit.specs.declared.starting.StartAnswer.{StartAnswer}
 use Rattle.fkv_commit.specs.declared.starting.StartAnswer.TheVariants as start
-use Rattle.fkv_commit.specs.Starting.{start_ask, start_next}
+use Rattle.fkv_commit.specs.Starting.{start_begun, start_ask, start_next}
 use Rattle.fkv_keeper.specs.declared.answers.KeeperTold.{KeeperTold}
 use Rattle.fkv_keeper.specs.declared.answers.KeeperTold.TheVariants.{Begun, CommitRefused}
 use Rattle.fkv_keeper.specs.declared.keepers.Keeping.{Keeping}
 use Rattle.fkv_keeper.specs.declared.keepers.Keeping.TheVariants.{Ended, Starts}
-use Rattle.fkv_keeper.specs.Keeping.{KeeperState, keeping_ask, keeper_ask, start_ledto, keeping_next, keeper_next, commit_asked}
+use Rattle.fkv_keeper.specs.Keeping.{KeeperState, asked_for, ended, keeping_ask, keeper_ask, start_ledto, keeping_next, keeper_next, commit_asked}
 use Rattle.fkv_keeper.specs.Running.{IsBeginTold, IsCommitBegun}
 use Rattle.fkv_epoch.specs.Claiming.{takes_action}
 use Rattle.fkv_keeper.specs.Answers.{is_busy}
@@ -32,15 +32,19 @@ Begins before s (Ended (Begun number)) = (c : Commit) × (s.commit ≡ Some c) �
 Begins before s (Ended (CommitRefused why)) = s.commit ≡ before
 Begins before s step = ⊥
 
-pub begins_first : (s : KeeperState) (kind : CommitKind) → Begins s.commit (commit_asked s kind) (commit_asked s kind).step
-begins_first s kind = cases s.is_broken
-  where
-    first : KeeperState
-    first = record s { start = (commit_asked (record s { is_broken = false }) kind).start; step = Starts }
+either : (before : Option Commit) (b : Bool) (x y : KeeperState) → Begins before x x.step → Begins before y y.step → Begins before (if b then x else y) (if b then x else y).step
+either before true x y one other = one
+either before false x y one other = other
 
-    cases : (b : Bool) → Begins s.commit (if b then record s { step = Ended (CommitRefused fault.Broken) } else first) (if b then record s { step = Ended (CommitRefused fault.Broken) } else first).step
-    cases true = refl
-    cases false = refl
+pub begins_first : (s : KeeperState) (kind : CommitKind) → Begins s.commit (commit_asked s kind) (commit_asked s kind).step
+begins_first s kind = either s.commit s.is_broken _ _ refl (either s.commit s.rests _ _ refl refl)
+
+either_commit : (before : Option Commit) (b : Bool) (x y : KeeperState) → x.commit ≡ before → y.commit ≡ before → (if b then x else y).commit ≡ before
+either_commit before true x y one other = one
+either_commit before false x y one other = other
+
+pub asked_keeps : (s : KeeperState) (kind : CommitKind) → (commit_asked s kind).commit ≡ s.commit
+asked_keeps s kind = either_commit s.commit s.is_broken _ _ refl (either_commit s.commit s.rests _ _ refl refl)
 
 inside : (before : Option Commit) (s : KeeperState) → s.step ≡ Starts → s.commit ≡ before → Begins before s s.step
 inside before s at same = rw at same
@@ -105,12 +109,19 @@ pub broken_begun : (shape : Shape) (p : Places) (s : KeeperState) (kind : Commit
 unfolding keeping_ask
 broken_begun shape p s kind broken = cases s.is_broken refl broken
   where
-    asked : Bool → KeeperState
-    asked b = if b then record s { step = Ended (CommitRefused fault.Broken) } else record s { start = (commit_asked (record s { is_broken = false }) kind).start; step = Starts }
+    first : KeeperState
+    first = record s { start = start_begun s.start (asked_for s kind); step = Starts }
 
-    cases : (b : Bool) → s.is_broken ≡ b → (asked b).is_broken ≡ true → (keeper_ask shape p (asked b) ≡ Done (CommitRefused fault.Broken)) × ((asked b).commit ≡ s.commit)
+    asked : Bool → Bool → KeeperState
+    asked b rests = if b then ended s (CommitRefused fault.Broken) else (if rests then ended s (CommitRefused fault.CommitRunning) else first)
+
+    as_broken : (rests : Bool) → (asked false rests).is_broken ≡ s.is_broken
+    as_broken true = refl
+    as_broken false = refl
+
+    cases : (b : Bool) → s.is_broken ≡ b → (asked b s.rests).is_broken ≡ true → (keeper_ask shape p (asked b s.rests) ≡ Done (CommitRefused fault.Broken)) × ((asked b s.rests).commit ≡ s.commit)
     cases true at broken = (refl, refl)
-    cases false at broken = never (sym broken ∙ at)
+    cases false at broken = never (sym broken ∙ as_broken s.rests ∙ at)
 
 -- it asks for words and slots alone, and at its end for nothing
 

@@ -39,15 +39,15 @@ use Rattle.fkv_manifest.specs.declared.answers.WriteAnswer.TheVariants as write
 use Rattle.fkv_manifest.specs.Committing.{commit_next, commit_answer}
 use Rattle.fkv_maintain.specs.declared.maintaining.MaintainAnswer.{MaintainAnswer}
 use Rattle.fkv_maintain.specs.declared.maintaining.MaintainAnswer.TheVariants as maintain
-use Rattle.fkv_maintain.specs.Maintaining.{maintain_begun, maintain_ask, maintain_next, maintain_given, maintain_called}
+use Rattle.fkv_maintain.specs.Maintaining.{maintain_ask, maintain_next, maintain_given, maintain_called}
 use Rattle.fkv_keeper.specs.declared.answers.KeeperTold.{KeeperTold}
 use Rattle.fkv_keeper.specs.declared.answers.KeeperTold.TheVariants.{TurnRefused, CommitRefused}
 use Rattle.fkv_keeper.specs.declared.keepers.Keeping.{Keeping}
 use Rattle.fkv_keeper.specs.declared.keepers.Keeping.TheVariants.{Ended, Starts, Maintains, LoadsPhase, Enters, Copies, Seeks, Waits, Writes, Finishes}
-use Rattle.fkv_keeper.specs.Keeping.{asked_for, KeeperState, is_copy_resting, copy_asked, copy_told, copy_driven, copied, points_known, ended, turned, turn_asked, commit_asked, start_ledto, maintain_ledto, copies, part_begun, phase_ledto, enter_ledto, copy_ledto, seek_ledto, writes_begun, wait_ledto, finished, finish_ledto, keeping_next, keeping_given, write_ledto, writes_called, keeping_called}
+use Rattle.fkv_keeper.specs.Keeping.{asked_for, KeeperState, is_copy_resting, copy_asked, copy_told, copy_driven, copied, points_known, ended, turned, turn_asked, commit_asked, start_ledto, maintain_ledto, copies, part_begun, parts_begun, must_rest, writes_taken_up, phase_ledto, enter_ledto, copy_ledto, seek_ledto, writes_begun, wait_ledto, finished, finish_ledto, keeping_next, keeping_given, write_ledto, writes_called, keeping_called}
 use Rattle.fkv_keeper.specs.KeeperRun.{KeeperEvent, BeginsTurn, BeginsCommit, Replies, Gets, Calls, is_in_hand, begins, keeper_run, IsOpened}
 use Rattle.fkv_keeper.specs.CheckpointLaws.{replies_after, copy_replies, LastBegin, begun_of, begun_by, last_begin_after, last_begin, copy_by, HasCopied, IsBeforeWrites}
-use Rattle.fkv_keeper.proofs.KeeperRuns.{happens_at, happens_so}
+use Rattle.fkv_keeper.proofs.Happens.{happens_at, happens_so}
 
 -- what is known by how far the call has come
 abbrev pub Here : Places → List ℕ → LastBegin → KeeperState → Keeping → Type 0
@@ -57,9 +57,13 @@ Here p replies told s Waits = (c : Commit) → s.commit ≡ Some c → c.is_copi
 Here p replies told s Starts = told.asked ≡ Some s.start.asked.kind
 Here p replies told s step = ⊤
 
+-- the device works, and no writes rest
+abbrev pub IsAtWork : KeeperState → Type 0
+IsAtWork s = (s.is_broken ≡ false) × (s.rests ≡ false)
+
 -- what holds at every moment
 pub record IsSound (p : Places) (replies : List ℕ) (told : LastBegin) (s : KeeperState) (step : Keeping) : Type 0 where
-  pub copied : (c : Commit) → s.commit ≡ Some c → c.kind ≡ Full → c.is_copied ≡ true → s.is_broken ≡ false → IsBeforeWrites step → HasCopied p replies s.copy
+  pub copied : (c : Commit) → s.commit ≡ Some c → c.kind ≡ Full → c.is_copied ≡ true → IsAtWork s → IsBeforeWrites step → HasCopied p replies s.copy
   pub points : (c : Commit) → s.commit ≡ Some c → s.has_points ≡ true → c.is_copied ≡ true
   pub begun : (c : Commit) → s.commit ≡ Some c → told.begun ≡ Some (record { kind = c.kind; number = c.number; first = c.first })
   pub rests : (c : Commit) → s.commit ≡ Some c → is_copy_resting s.copy ≡ true → s.copy ≡ Some (copy_by p replies)
@@ -69,7 +73,7 @@ at_step : (p : Places) (replies : List ℕ) (told : LastBegin) (s : KeeperState)
 at_step p replies told s step e sound = subst (λ (x : Keeping). IsSound p replies told s x) (sym e) sound
 
 -- a state with the same commit and the same copy
-keeps : (p : Places) (replies : List ℕ) (told : LastBegin) (s a : KeeperState) (step next : Keeping) → a.commit ≡ s.commit → a.copy ≡ s.copy → a.has_points ≡ s.has_points → (a.is_broken ≡ false → s.is_broken ≡ false)
+keeps : (p : Places) (replies : List ℕ) (told : LastBegin) (s a : KeeperState) (step next : Keeping) → a.commit ≡ s.commit → a.copy ≡ s.copy → a.has_points ≡ s.has_points → (IsAtWork a → IsAtWork s)
     → (IsBeforeWrites next → IsBeforeWrites step) → IsSound p replies told s step → Here p replies told a next → IsSound p replies told a next
 keeps p replies told s a step next same copy points works before sound here = record {
   copied = λ c in_hand full is_copied working early. subst (λ (x : Option Copier). HasCopied p replies x) (sym copy) (sound.copied c (sym same ∙ in_hand) full is_copied (works working) (before early));
@@ -130,7 +134,7 @@ maintain_sound : (p : Places) (replies : List ℕ) (told : LastBegin) (t : Keepe
 unfolding maintain_ledto
 maintain_sound p replies told t (Done maintain.Through) e sound = keeps p replies told t _ Maintains LoadsPhase refl refl refl (λ works. works) (λ so. tt) sound tt
 maintain_sound p replies told t (Done maintain.Spent) e sound = over p replies told t Maintains _ tt sound
-maintain_sound p replies told t (Done maintain.Broken) e sound = keeps p replies told t _ Maintains (Ended (_)) refl refl refl (λ works. cc) (λ so. tt) sound tt
+maintain_sound p replies told t (Done maintain.Broken) e sound = keeps p replies told t _ Maintains (Ended (_)) refl refl refl (λ works. let wrong : true ≡ false = works.0 in cc) (λ so. tt) sound tt
 maintain_sound p replies told t ask e sound = at_step p replies told t Maintains e sound
 
 -- what the phase calls for
@@ -200,7 +204,12 @@ part_sound p replies told s c said reply granted in_hand sound = over p replies 
 phase_sound : (p : Places) (replies : List ℕ) (told : LastBegin) (s : KeeperState) (found : Option Commit) (said : PhaseSaid) (reply : ℕ) (granted : Bool) → s.commit ≡ found → IsSound p replies told s LoadsPhase → from_phase p replies told (is_copy_resting s.copy) reply granted (phase_ledto p s found said granted)
 unfolding phase_ledto
 phase_sound p replies told s None said reply granted in_hand sound = over p replies told s LoadsPhase _ tt sound
-phase_sound p replies told s (Some c) said reply granted in_hand sound = part_sound p replies told s c said reply granted in_hand sound
+phase_sound p replies told s (Some c) said reply granted in_hand sound = by s.rests granted
+  where
+    by : (rests granted : Bool) → from_phase p replies told (is_copy_resting s.copy) reply granted (if rests then writes_taken_up s granted else part_begun p s c said granted)
+    by true true = record { copied = λ its found full is_copied working early. absurd early; points = sound.points; begun = sound.begun; rests = sound.rests; here = tt }
+    by true false = keeps p replies told s _ LoadsPhase (Ended _) refl refl refl (λ works. works) (λ so. tt) sound tt
+    by false granted = part_sound p replies told s c said reply granted in_hand sound
 
 enter_sound : (p : Places) (replies : List ℕ) (told : LastBegin) (t : KeeperState) (ask : Ask EnterAnswer) → t.step ≡ Enters → IsSound p replies told t Enters → IsSound p replies told (enter_ledto t ask) (enter_ledto t ask).step
 unfolding enter_ledto
@@ -299,7 +308,11 @@ write_sound : (p : Places) (replies : List ℕ) (told : LastBegin) (t : KeeperSt
 unfolding write_ledto
 write_sound p replies told t None answer e in_hand sound = gone p replies told _ _ in_hand
 write_sound p replies told t (Some c) write.Written e in_hand sound = keeps p replies told t _ Writes Finishes refl refl refl (λ works. works) (λ early. early) sound tt
-write_sound p replies told t (Some c) write.Device e in_hand sound = at_step p replies told t Writes e sound
+write_sound p replies told t (Some c) write.Device e in_hand sound = by (must_rest t)
+  where
+    by : (rests : Bool) → let a = if rests then turned (record t { rests = true }) else t in IsSound p replies told a a.step
+    by true = record { copied = λ its found full is_copied working early. let wrong : true ≡ false = working.1 in cc; points = sound.points; begun = sound.begun; rests = sound.rests; here = tt }
+    by false = at_step p replies told t Writes e sound
 write_sound p replies told t (Some c) (write.Broken why) e in_hand sound = at_step p replies told t Writes e sound
 
 broken_not : true ≡ false → ⊥
@@ -308,7 +321,7 @@ broken_not e = cc
 call_sound : (p : Places) (replies : List ℕ) (told : LastBegin) (s : KeeperState) (done : Bool) → s.step ≡ Writes → IsSound p replies told s Writes → IsSound p replies told (writes_called s done) (writes_called s done).step
 call_sound p replies told s true e sound =
     write_sound p replies told (record s { writes = commit_next s.writes true }) s.commit (commit_answer (commit_next s.writes true)) e refl (keeps p replies told s _ Writes Writes refl refl refl (λ works. works) (λ early. early) sound tt)
-call_sound p replies told s false e sound = record { copied = λ c in_hand full is_copied working early. absurd (broken_not working); points = sound.points; begun = sound.begun; rests = sound.rests; here = tt }
+call_sound p replies told s false e sound = record { copied = λ c in_hand full is_copied working early. absurd (broken_not working.0); points = sound.points; begun = sound.begun; rests = sound.rests; here = tt }
 
 -- the commit is finished
 finished_sound : (p : Places) (replies : List ℕ) (told : LastBegin) (t : KeeperState) (found : Option Commit) → t.commit ≡ found → IsSound p replies told (finished t found) (finished t found).step
@@ -321,8 +334,8 @@ finish_sound p replies told t (Done its) e sound = finished_sound p replies told
 finish_sound p replies told t ask e sound = at_step p replies told t Finishes e sound
 
 -- a reply, an action, and a call of the device
-same_here : (p : Places) (replies : List ℕ) (told : LastBegin) (s t : KeeperState) (step : Keeping) → t.commit ≡ s.commit → t.copy ≡ s.copy → t.has_points ≡ s.has_points → t.is_broken ≡ s.is_broken → Here p replies told t step → IsSound p replies told s step → IsSound p replies told t step
-same_here p replies told s t step commit copy points broken here sound = keeps p replies told s t step step commit copy points (λ works. sym broken ∙ works) (λ early. early) sound here
+same_here : (p : Places) (replies : List ℕ) (told : LastBegin) (s t : KeeperState) (step : Keeping) → t.commit ≡ s.commit → t.copy ≡ s.copy → t.has_points ≡ s.has_points → t.is_broken ≡ s.is_broken → t.rests ≡ s.rests → Here p replies told t step → IsSound p replies told s step → IsSound p replies told t step
+same_here p replies told s t step commit copy points broken rests here sound = keeps p replies told s t step step commit copy points (λ works. (sym broken ∙ works.0, sym rests ∙ works.1)) (λ early. early) sound here
 
 reply_sound : (shape : Shape) (p : Places) (replies : List ℕ) (told : LastBegin) (s : KeeperState) (step : Keeping) (reply : ℕ) (granted : Bool) → s.step ≡ step → IsSound p replies told s step
     → IsSound p (replies_after (is_copy_resting s.copy) step (Replies reply granted) (keeping_next shape p s step reply granted).step replies) (last_begin_after step (Replies reply granted) (keeping_next shape p s step reply granted) told) (keeping_next shape p s step reply granted) (keeping_next shape p s step reply granted).step
@@ -330,52 +343,54 @@ unfolding keeping_next
 reply_sound shape p replies told s (Ended its) reply granted e sound = at_step p replies told s (Ended its) e sound
 reply_sound shape p replies told s Starts reply granted e sound =
     subst (λ x. IsSound p replies (begun_by (start_ask x) told) a a.step) (sym (start_kept t (start_ask t.start)))
-    (start_sound p replies told t (start_ask t.start) e (same_here p replies told s t Starts refl refl refl refl (sound.here ∙ ap (λ (x : StartAsked). Some x.kind) (sym (start_asked s.start reply))) sound))
+    (start_sound p replies told t (start_ask t.start) e (same_here p replies told s t Starts refl refl refl refl refl (sound.here ∙ ap (λ (x : StartAsked). Some x.kind) (sym (start_asked s.start reply))) sound))
   where
     t : KeeperState
     t = record s { start = start_next s.start reply }
 
     a : KeeperState
     a = start_ledto t (start_ask t.start)
-reply_sound shape p replies told s Maintains reply granted e sound = maintain_sound p replies told _ (maintain_ask shape p (maintain_next shape p s.maintain reply)) e (same_here p replies told s _ Maintains refl refl refl refl tt sound)
+reply_sound shape p replies told s Maintains reply granted e sound = maintain_sound p replies told _ (maintain_ask shape p (maintain_next shape p s.maintain reply)) e (same_here p replies told s _ Maintains refl refl refl refl refl tt sound)
 reply_sound shape p replies told s LoadsPhase reply granted e sound = phase_sound p replies told s s.commit (phase_said reply) reply granted refl sound
-reply_sound shape p replies told s Enters reply granted e sound = enter_sound p replies told _ (enter_ask (enter_next s.enter reply)) e (same_here p replies told s _ Enters refl refl refl refl tt sound)
+reply_sound shape p replies told s Enters reply granted e sound = enter_sound p replies told _ (enter_ask (enter_next s.enter reply)) e (same_here p replies told s _ Enters refl refl refl refl refl tt sound)
 reply_sound shape p replies told s Copies reply granted e sound =
     let after = driven_sound p replies told s reply sound in
     copy_sound p (reply ∷ replies) told (record s { copy = copy_driven s.copy reply }) (copy_told (copy_driven s.copy reply)) e after.here.0 refl after
-reply_sound shape p replies told s Seeks reply granted e sound = seek_sound p replies told _ (seek_ask (seek_next s.seek reply)) e (same_here p replies told s _ Seeks refl refl refl refl sound.here sound)
-reply_sound shape p replies told s Waits reply granted e sound = wait_sound shape p replies told _ (wait_ask (wait_next s.wait reply)) e (same_here p replies told s _ Waits refl refl refl refl sound.here sound)
+reply_sound shape p replies told s Seeks reply granted e sound = seek_sound p replies told _ (seek_ask (seek_next s.seek reply)) e (same_here p replies told s _ Seeks refl refl refl refl refl sound.here sound)
+reply_sound shape p replies told s Waits reply granted e sound = wait_sound shape p replies told _ (wait_ask (wait_next s.wait reply)) e (same_here p replies told s _ Waits refl refl refl refl refl sound.here sound)
 reply_sound shape p replies told s Writes reply granted e sound = at_step p replies told s Writes e sound
-reply_sound shape p replies told s Finishes reply granted e sound = finish_sound p replies told _ (finish_ask s.seek.points (finish_next s.finish reply)) e (same_here p replies told s _ Finishes refl refl refl refl tt sound)
+reply_sound shape p replies told s Finishes reply granted e sound = finish_sound p replies told _ (finish_ask s.seek.points (finish_next s.finish reply)) e (same_here p replies told s _ Finishes refl refl refl refl refl tt sound)
 
 given_sound : (shape : Shape) (p : Places) (replies : List ℕ) (told : LastBegin) (s : KeeperState) (step : Keeping) (action : Action) → s.step ≡ step → IsSound p replies told s step → IsSound p replies told (keeping_given shape p s step action) (keeping_given shape p s step action).step
 unfolding keeping_given
-given_sound shape p replies told s Maintains action e sound = maintain_sound p replies told _ (maintain_ask shape p (maintain_given s.maintain action)) e (same_here p replies told s _ Maintains refl refl refl refl tt sound)
+given_sound shape p replies told s Maintains action e sound = maintain_sound p replies told _ (maintain_ask shape p (maintain_given s.maintain action)) e (same_here p replies told s _ Maintains refl refl refl refl refl tt sound)
 given_sound shape p replies told s step action e sound = at_step p replies told s step e sound
 
 called_sound : (shape : Shape) (p : Places) (replies : List ℕ) (told : LastBegin) (s : KeeperState) (step : Keeping) (done : Bool) (bytes : List ℕ) → s.step ≡ step → IsSound p replies told s step → IsSound p replies told (keeping_called shape p s step done bytes) (keeping_called shape p s step done bytes).step
 unfolding keeping_called
-called_sound shape p replies told s Maintains done bytes e sound = maintain_sound p replies told _ (maintain_ask shape p (maintain_called shape p s.maintain done bytes)) e (same_here p replies told s _ Maintains refl refl refl refl tt sound)
+called_sound shape p replies told s Maintains done bytes e sound = maintain_sound p replies told _ (maintain_ask shape p (maintain_called shape p s.maintain done bytes)) e (same_here p replies told s _ Maintains refl refl refl refl refl tt sound)
 called_sound shape p replies told s Writes done bytes e sound = call_sound p replies told s done e sound
 called_sound shape p replies told s step done bytes e sound = at_step p replies told s step e sound
 
 -- where a turn or a commit is begun
 turn_sound : (p : Places) (replies : List ℕ) (told : LastBegin) (s : KeeperState) (its : KeeperTold) (broken : Bool) → IsSound p replies told s (Ended its)
-    → let a = if broken then ended s (TurnRefused fault.Broken) else record s { maintain = maintain_begun s.maintain; is_drain_full = false; step = Maintains } in IsSound p replies told a a.step
+    → let a = if broken then ended s (TurnRefused fault.Broken) else record s { maintain = parts_begun s.rests s.maintain; is_drain_full = false; step = Maintains } in IsSound p replies told a a.step
 turn_sound p replies told s its true sound = over p replies told s (Ended its) _ tt sound
 turn_sound p replies told s its false sound = keeps p replies told s _ (Ended its) Maintains refl refl refl (λ works. works) (λ so. tt) sound tt
 
 asked_sound : (p : Places) (replies : List ℕ) (told : LastBegin) (s : KeeperState) (kind : CommitKind) (its : KeeperTold) → IsSound p replies told s (Ended its) → IsSound p replies (record told { asked = Some kind }) s (Ended its)
 asked_sound p replies told s kind its sound = record { copied = sound.copied; points = sound.points; begun = sound.begun; rests = sound.rests; here = tt }
 
-commit_sound : (p : Places) (replies : List ℕ) (told : LastBegin) (s : KeeperState) (kind : CommitKind) (its : KeeperTold) (broken : Bool) → IsSound p replies told s (Ended its)
-    → let a = if broken then ended s (CommitRefused fault.Broken) else record s { start = start_begun s.start (asked_for s kind); step = Starts } in IsSound p replies (record told { asked = Some kind }) a a.step
-commit_sound p replies told s kind its true sound = over p replies (record told { asked = Some kind }) s (Ended its) _ tt (asked_sound p replies told s kind its sound)
-commit_sound p replies told s kind its false sound = keeps p replies (record told { asked = Some kind }) s _ (Ended its) Starts refl refl refl (λ works. works) (λ so. tt) (asked_sound p replies told s kind its sound) refl
+commit_sound : (p : Places) (replies : List ℕ) (told : LastBegin) (s : KeeperState) (kind : CommitKind) (its : KeeperTold) (broken rests : Bool) → IsSound p replies told s (Ended its)
+    → let a = if broken then ended s (CommitRefused fault.Broken) else (if rests then ended s (CommitRefused fault.CommitRunning) else record s { start = start_begun s.start (asked_for s kind); step = Starts }) in
+    IsSound p replies (record told { asked = Some kind }) a a.step
+commit_sound p replies told s kind its true rests sound = over p replies (record told { asked = Some kind }) s (Ended its) _ tt (asked_sound p replies told s kind its sound)
+commit_sound p replies told s kind its false true sound = over p replies (record told { asked = Some kind }) s (Ended its) _ tt (asked_sound p replies told s kind its sound)
+commit_sound p replies told s kind its false false sound = keeps p replies (record told { asked = Some kind }) s _ (Ended its) Starts refl refl refl (λ works. works) (λ so. tt) (asked_sound p replies told s kind its sound) refl
 
 commit_begins : (p : Places) (replies : List ℕ) (told : LastBegin) (s : KeeperState) (step : Keeping) (kind : CommitKind) → s.step ≡ step → IsSound p replies told s step
     → let a = begins s (is_in_hand step) (commit_asked s kind) in IsSound p (replies_after (is_copy_resting s.copy) step (BeginsCommit kind) a.step replies) (last_begin_after step (BeginsCommit kind) a told) a a.step
-commit_begins p replies told s (Ended its) kind e sound = commit_sound p replies told s kind its s.is_broken sound
+commit_begins p replies told s (Ended its) kind e sound = commit_sound p replies told s kind its s.is_broken s.rests sound
 commit_begins p replies told s LoadsPhase kind e sound = at_step p replies told s LoadsPhase e sound
 commit_begins p replies told s step kind e sound = at_step p replies told s step e sound
 

@@ -48,11 +48,11 @@ use Rattle.fkv_maintain.specs.declared.maintaining.Maintaining.TheVariants as pa
 use Rattle.fkv_maintain.specs.Maintaining.{MaintainState, maintain_ask, maintain_next, maintain_given, maintain_called, scan_ledto, claim_ledto, flush_ledto, shift_ledto, serve_ledto, turn_ledto, maintaining_next, maintaining_given, maintaining_called}
 use Rattle.fkv_keeper.specs.declared.keepers.Keeping.{Keeping}
 use Rattle.fkv_keeper.specs.declared.keepers.Keeping.TheVariants.{Ended, Starts, Maintains, LoadsPhase, Enters, Copies, Seeks, Waits, Writes, Finishes}
-use Rattle.fkv_keeper.specs.Keeping.{KeeperState, is_copy_resting, copy_driven, copy_told, turn_asked, commit_asked, start_ledto, maintain_ledto, part_begun, phase_ledto, enter_ledto, copy_ledto, seek_ledto, writes_begun, wait_ledto, finished, finish_ledto, keeping_next, keeping_given, write_ledto, writes_called, keeping_called}
+use Rattle.fkv_keeper.specs.Keeping.{KeeperState, must_rest, parts_begun, is_copy_resting, copy_driven, copy_told, turn_asked, commit_asked, start_ledto, maintain_ledto, part_begun, phase_ledto, enter_ledto, copy_ledto, seek_ledto, writes_begun, wait_ledto, finished, finish_ledto, keeping_next, keeping_given, write_ledto, writes_called, keeping_called}
 use Rattle.fkv_keeper.specs.KeeperRun.{KeeperEvent, BeginsTurn, BeginsCommit, Replies, Gets, Calls, is_in_hand, begins, keeper_run, IsOpened}
 use Rattle.fkv_keeper.proofs.CheckpointRanges.{IsShiftedIn, IsTurnedIn, shift_in, turn_in, claim_in, given_in}
 use Rattle.fkv_keeper.proofs.CheckpointParts.{IsStartIn, start_in, IsEnterIn, enter_in, IsSeekIn, seek_begun_in, seek_in}
-use Rattle.fkv_keeper.proofs.KeeperRuns.{happens_at, happens_so}
+use Rattle.fkv_keeper.proofs.Happens.{happens_at, happens_so}
 
 -- what every turn does
 abbrev pub IsMaintainAt : Maintaining → MaintainState → Type 0
@@ -153,6 +153,10 @@ maintain_led_in s (Done maintain.Spent) e fits = tt
 maintain_led_in s (Done maintain.Broken) e fits = tt
 maintain_led_in s ask e fits = keeping_at Maintains s e fits
 
+begun_parts_in : (rests : Bool) (m : MaintainState) → IsMaintainIn (parts_begun rests m)
+begun_parts_in true m = tt
+begun_parts_in false m = tt
+
 either_keeper : (b : Bool) (x y : KeeperState) → IsKeeperIn x → IsKeeperIn y → IsKeeperIn (if b then x else y)
 either_keeper true x y one other = one
 either_keeper false x y one other = other
@@ -166,7 +170,7 @@ part_in p s c said granted = tt
 phase_in : (p : Places) (s : KeeperState) (found : Option Commit) (said : PhaseSaid) (granted : Bool) → IsKeeperIn (phase_ledto p s found said granted)
 unfolding phase_ledto
 phase_in p s None said granted = tt
-phase_in p s (Some c) said granted = part_in p s c said granted
+phase_in p s (Some c) said granted = either_keeper s.rests _ _ (either_keeper granted _ _ tt tt) (part_in p s c said granted)
 
 enter_led_in : (s : KeeperState) (ask : Ask EnterAnswer) → s.step ≡ Enters → IsEnterIn s.enter → IsKeeperIn (enter_ledto s ask)
 unfolding enter_ledto
@@ -205,7 +209,7 @@ write_led_in : (s : KeeperState) (found : Option Commit) (answer : WriteAnswer) 
 unfolding write_ledto
 write_led_in s None answer e = tt
 write_led_in s (Some c) write.Written e = tt
-write_led_in s (Some c) write.Device e = keeping_at Writes s e tt
+write_led_in s (Some c) write.Device e = either_keeper (must_rest s) _ _ tt (keeping_at Writes s e tt)
 write_led_in s (Some c) (write.Broken why) e = keeping_at Writes s e tt
 
 call_in : (s : KeeperState) (done : Bool) → s.step ≡ Writes → IsKeeperIn (writes_called s done)
@@ -252,8 +256,8 @@ begins_in s begun (Ended its) e fits its_begun = its_begun
 begins_in s begun step e fits its_begun = keeping_at step s e fits
 
 happens_in : (shape : Shape) (p : Places) (s : KeeperState) (step : Keeping) (event : KeeperEvent) → s.step ≡ step → IsKeepingIn step s → IsKeeperIn (happens_at shape p s step event)
-happens_in shape p s step BeginsTurn e fits = begins_in s (turn_asked s) step e fits (either_keeper s.is_broken _ _ tt tt)
-happens_in shape p s step (BeginsCommit kind) e fits = begins_in s (commit_asked s kind) step e fits (either_keeper s.is_broken _ _ tt tt)
+happens_in shape p s step BeginsTurn e fits = begins_in s (turn_asked s) step e fits (either_keeper s.is_broken _ _ tt (begun_parts_in s.rests s.maintain))
+happens_in shape p s step (BeginsCommit kind) e fits = begins_in s (commit_asked s kind) step e fits (either_keeper s.is_broken _ _ tt (either_keeper s.rests _ _ tt tt))
 happens_in shape p s step (Replies reply granted) e fits = reply_in shape p s step reply granted e fits
 happens_in shape p s step (Gets action) e fits = keeper_given_in shape p s step action e fits
 happens_in shape p s step (Calls done bytes) e fits = called_in shape p s step done bytes e fits

@@ -1,6 +1,6 @@
 -- While a commit is written and finished it uses the checkpoint with which its writes have begun.
 use Rattle.std.proofs.Common.{◌≡◌, ℕ, ◌∙◌, ◌⊎◌, inl, inr, List, [], ◌∷◌, refl, ap, sym, subst, Bool, true, false}
-use Rattle.std.specs.Prelude.{Option, Some}
+use Rattle.std.specs.Prelude.{Option, Some, if◌then◌else◌}
 use Rattle.fkv_base.specs.declared.shapes.Shape.{Shape}
 use Rattle.fkv_plane.specs.declared.places.Places.{Places}
 use Rattle.fkv_commit.specs.declared.commits.Commit.{Commit}
@@ -10,10 +10,16 @@ use Rattle.fkv_manifest.specs.Committing.{CommitWriter}
 use Rattle.fkv_keeper.specs.declared.answers.KeeperTold.{KeeperTold}
 use Rattle.fkv_keeper.specs.declared.keepers.Keeping.{Keeping}
 use Rattle.fkv_keeper.specs.declared.keepers.Keeping.TheVariants.{Ended, Starts, LoadsPhase, Copies, Waits, Writes, Finishes}
-use Rattle.fkv_keeper.specs.Keeping.{KeeperState, Finality, is_copy_resting, keeping_given, keeping_called}
+use Rattle.fkv_keeper.specs.Keeping.{KeeperState, come_to, Finality, is_copy_resting, keeping_given, keeping_called}
 use Rattle.fkv_keeper.specs.KeeperRun.{KeeperEvent, BeginsTurn, BeginsCommit, Replies, Gets, Calls, is_in_hand, keeper_happens, keeper_run, IsOpened, Writing, writing_after, writing}
 use Rattle.fkv_keeper.specs.CheckpointLaws.{replies_after, copy_replies, BegunWith, LastBegin, last_begin_after, last_begin, begun_with, IsWrittenAs, AreWritesBegun, IsBehindWait, UsesAs, IsBeingWritten, IsFinished, IsCommitAfter, KeepsLists, MayFollow}
-use Rattle.fkv_keeper.proofs.KeeperRuns.{happens_at, happens_so}
+use Rattle.fkv_keeper.proofs.Happens.{happens_at, happens_so}
+use Rattle.fkv_keeper.specs.KeeperLaws.{MayRest}
+use Rattle.fkv_keeper.specs.PartLaws.{IsPartBegun, IsWriteTakenUp}
+use Rattle.fkv_keeper.proofs.KeeperRuns.{run_rests}
+use Rattle.fkv_keeper.proofs.PartMoves.{each_part}
+use Rattle.fkv_keeper.proofs.Rests.{begins_rest, rests_still}
+use Rattle.fkv_keeper.proofs.CheckpointRuns.{run_copied}
 use Rattle.fkv_keeper.proofs.CheckpointMoves.{IsMove, each_move}
 use Rattle.fkv_keeper.proofs.CheckpointWrites.{run_writes}
 
@@ -127,11 +133,74 @@ first_written shape p s event w waits writes =
     same : happens_at shape p s Waits event ≡ keeper_happens shape p s event
     same = ap (λ (x : Keeping). happens_at shape p s x event) (sym waits) ∙ happens_so shape p s event
 
-pub run_used : (shape : Shape) (p : Places) (opening : KeeperState) (events : List KeeperEvent) → IsOpened opening → IsBehindWait (keeper_run shape p opening events).step
+-- a commit that stays as it is uses what it has used
+kept_used : (p : Places) (replies : List ℕ) (told now : Option BegunWith) (w v : Writing) (s a : KeeperState) → a.commit ≡ s.commit → a.used ≡ s.used → a.last ≡ s.last → v.first ≡ w.first
+    → ((c : Commit) → a.commit ≡ Some c → now ≡ Some (record { kind = c.kind; number = c.number; first = c.first })) → IsBeingWritten p replies told w s → IsBeingWritten p replies now v a
+kept_used p replies told now w v s a commit used last first begun its = record {
+  commit = its.commit;
+  in_hand = commit ∙ its.in_hand;
+  begun = begun its.commit (commit ∙ its.in_hand);
+  uses = used_as its.commit.kind its.commit.kind p replies w v s a its.commit its.commit refl refl refl used last first its.uses;
+}
+
+-- while writes rest no copy has a reply
+resting_replies : (rests : Bool) (step : Keeping) (event : KeeperEvent) (after : Keeping) (was : List ℕ) → MayRest step → (after ≡ Copies → ⊥) → replies_after rests step event after was ≡ was
+resting_replies rests LoadsPhase (Replies reply granted) Copies was may not = absurd (not refl)
+resting_replies rests LoadsPhase event after was may not = refl
+resting_replies rests Copies event after was may not = absurd may
+resting_replies rests step event after was may not = refl
+
+resting_first : (step : Keeping) (event : KeeperEvent) (after : KeeperState) (w : Writing) → MayRest step → (writing_after step event after w).first ≡ w.first
+resting_first Waits event after w may = absurd may
+resting_first Writes event after w may = absurd may
+resting_first step event after w may = refl
+
+no_copies : (step : Keeping) → MayRest step → step ≡ Copies → ⊥
+no_copies step may e = subst MayRest e may
+
+-- writes that rest are behind the wait again where they are taken up, and nowhere else
+taken_up : (step : Keeping) (s : KeeperState) (event : KeeperEvent) (a : KeeperState) → IsBehindWait step → MayRest s.step → IsPartBegun step s event a → IsWriteTakenUp s event a
+taken_up Writes s event a behind may (inl writes) = absurd (subst MayRest writes may)
+taken_up Writes s event a behind may (inr (inl begun)) = absurd (subst MayRest begun.waits may)
+taken_up Writes s event a behind may (inr (inr its)) = its
+taken_up Finishes s event a behind may (inl finishes) = absurd (subst MayRest finishes may)
+taken_up Finishes s event a behind may (inr begun) = absurd (subst MayRest begun.writes may)
+taken_up step s event a behind may begun = absurd behind
+
+-- a keeper that has come to the wait is at it
+at_waits : (s : KeeperState) → come_to s ≡ Waits → (s.rests ≡ false) × (s.step ≡ Waits)
+at_waits s waits = by s.rests refl waits
+  where
+    by : (rests : Bool) → s.rests ≡ rests → (if rests then Writes else s.step) ≡ Waits → (s.rests ≡ false) × (s.step ≡ Waits)
+    by true e clash = cc
+    by false e same = (e, same)
+
+writes_now : (shape : Shape) (p : Places) (s : KeeperState) (event : KeeperEvent) → s.rests ≡ false → s.step ≡ Waits → come_to (keeper_happens shape p s event) ≡ Writes → (keeper_happens shape p s event).step ≡ Writes
+writes_now shape p s event awake waits writes = by a.rests refl writes
+  where
+    a : KeeperState
+    a = keeper_happens shape p s event
+
+    by : (rests : Bool) → a.rests ≡ rests → (if rests then Writes else a.step) ≡ Writes → a.step ≡ Writes
+    by true e same = absurd (not_writing s.step waits (begins_rest shape p s event awake e).writes)
+    by false e same = same
+
+-- what is behind the wait has come to be so
+pub come_behind : (s : KeeperState) → IsBehindWait s.step → IsBehindWait (come_to s)
+come_behind s behind = by s.rests
+  where
+    by : (rests : Bool) → IsBehindWait (if rests then Writes else s.step)
+    by true = tt
+    by false = behind
+
+no_behind : (opening : KeeperState) → IsOpened opening → IsBehindWait (come_to opening) → ⊥
+no_behind opening opened behind = no_start opening opening.step refl opened (subst (λ (rests : Bool). IsBehindWait (if rests then Writes else opening.step)) opened.none_rest behind)
+
+pub run_used : (shape : Shape) (p : Places) (opening : KeeperState) (events : List KeeperEvent) → IsOpened opening → IsBehindWait (come_to (keeper_run shape p opening events))
     → IsBeingWritten p (copy_replies shape p opening events) (begun_with shape p opening events) (writing shape p opening events) (keeper_run shape p opening events)
 unfolding keeper_run copy_replies last_begin writing
-run_used shape p opening [] opened behind = absurd (no_start opening opening.step refl opened behind)
-run_used shape p opening (event ∷ before) opened behind = by_step (λ goes. run_used shape p opening before opened goes) (before_it s.step a.step move.one.follows behind)
+run_used shape p opening [] opened behind = absurd (no_behind opening opened behind)
+run_used shape p opening (event ∷ before) opened behind = by_step (λ goes. run_used shape p opening before opened goes) (before_it (come_to s) (come_to a) move.one.follows behind)
   where
     s : KeeperState
     s = keeper_run shape p opening before
@@ -151,11 +220,45 @@ run_used shape p opening (event ∷ before) opened behind = by_step (λ goes. ru
     move : IsMove p s event a
     move = each_move shape p s event
 
-    by_step : (IsBehindWait s.step → IsBeingWritten p replies told.begun w s) → ((s.step ≡ Waits) × (a.step ≡ Writes)) ⊎ IsBehindWait s.step → IsBeingWritten p (replies_after (is_copy_resting s.copy) s.step event a.step replies) (last_begin_after s.step event a told).begun (writing_after s.step event a w) a
-    by_step been (inl begins) =
-        as_before p replies told _ s a event (inr begins.0)
-        (has_begun shape p replies told.begun _ s a begins.0 begins.1 (first_written shape p s event w begins.0 begins.1) move.lists (run_writes shape p opening before event opened begins.0 begins.1))
-    by_step been (inr goes) =
-        let its = been goes in
+    Written : Type 0
+    Written = IsBeingWritten p (replies_after (is_copy_resting s.copy) s.step event a.step replies) (last_begin_after s.step event a told).begun (writing_after s.step event a w) a
+
+    begun : (c : Commit) → a.commit ≡ Some c → (last_begin_after s.step event a told).begun ≡ Some (record { kind = c.kind; number = c.number; first = c.first })
+    begun c in_hand = (run_copied shape p opening (event ∷ before) opened).begun c in_hand
+
+    still : a.commit ≡ s.commit → a.used ≡ s.used → a.last ≡ s.last → (writing_after s.step event a w).first ≡ w.first → replies_after (is_copy_resting s.copy) s.step event a.step replies ≡ replies → IsBeingWritten p replies told.begun w s → Written
+    still commit used last first same its =
+        subst (λ (x : List ℕ). IsBeingWritten p x (last_begin_after s.step event a told).begun (writing_after s.step event a w) a) (sym same)
+        (kept_used p replies told.begun (last_begin_after s.step event a told).begun w (writing_after s.step event a w) s a commit used last first begun its)
+
+    from_rest : s.rests ≡ true → (is : Bool) → a.rests ≡ is → IsBehindWait (if is then Writes else a.step) → IsBeingWritten p replies told.begun w s → Written
+    from_rest rests true is goes its =
+        let was = run_rests shape p opening before opened rests in
+        let kept = rests_still shape p s event rests was.rests was.serves is in
+        still kept.commit kept.used kept.last (resting_first s.step event a w was.rests) (resting_replies (is_copy_resting s.copy) s.step event a.step replies was.rests (no_copies a.step kept.rests)) its
+    from_rest rests false is goes its =
+        let was = run_rests shape p opening before opened rests in
+        let up = taken_up a.step s event a goes was.rests (each_part shape p s event).begins in
+        still (ap (λ (x : KeeperState). x.commit) up.same) (ap (λ (x : KeeperState). x.used) up.same) (ap (λ (x : KeeperState). x.last) up.same) (resting_first s.step event a w was.rests)
+        (resting_replies (is_copy_resting s.copy) s.step event a.step replies was.rests (λ at. subst IsBehindWait at goes)) its
+
+    from_step : s.rests ≡ false → IsBehindWait s.step → (is : Bool) → a.rests ≡ is → IsBehindWait (if is then Writes else a.step) → IsBeingWritten p replies told.begun w s → Written
+    from_step awake goes true is after its =
+        let rest = begins_rest shape p s event awake is in
+        still (ap (λ (x : KeeperState). x.commit) rest.same) (ap (λ (x : KeeperState). x.used) rest.same) (ap (λ (x : KeeperState). x.last) rest.same) (same_first s.step event a w goes)
+        (same_replies (is_copy_resting s.copy) s.step event a.step replies (inl goes)) its
+    from_step awake goes false is after its =
         as_before p replies told _ s a event (inl goes)
-        (goes_on p replies told.begun w _ s a its.commit goes behind its.in_hand (subst (λ (x : Option Commit). IsCommitAfter x s a) its.in_hand move.copies.commit) move.lists (same_first s.step event a w goes) its.begun its.uses)
+        (goes_on p replies told.begun w _ s a its.commit goes after its.in_hand (subst (λ (x : Option Commit). IsCommitAfter x s a) its.in_hand move.copies.commit) move.lists (same_first s.step event a w goes) its.begun its.uses)
+
+    by_step : (IsBehindWait (come_to s) → IsBeingWritten p replies told.begun w s) → ((come_to s ≡ Waits) × (come_to a ≡ Writes)) ⊎ IsBehindWait (come_to s) → Written
+    by_step been (inl begins) =
+        let waits = at_waits s begins.0 in
+        let writes = writes_now shape p s event waits.0 waits.1 begins.1 in
+        as_before p replies told _ s a event (inr waits.1)
+        (has_begun shape p replies told.begun _ s a waits.1 writes (first_written shape p s event w waits.1 writes) move.lists (run_writes shape p opening before event opened waits.1 writes))
+    by_step been (inr goes) = by s.rests refl goes
+      where
+        by : (rests : Bool) → s.rests ≡ rests → IsBehindWait (if rests then Writes else s.step) → Written
+        by true rests behind_it = from_rest rests a.rests refl behind (been goes)
+        by false awake behind_it = from_step awake behind_it a.rests refl behind (been goes)

@@ -1,6 +1,6 @@
 -- What the parts of a commit have met of the drain slots, as each seeks one.
 use Rattle.std.proofs.Common.{◌≡◌, ℕ, ◌+◌, refl, sym, subst, List, Bool, true, false}
-use Rattle.std.specs.Prelude.{not, ⊤, ◌++◌, ◌∷◌, [], ◌==◌, nat_lt, nat_le, max, if◌then◌else◌, length}
+use Rattle.std.specs.Prelude.{not, ⊤, [], ◌==◌, nat_lt, nat_le, max, if◌then◌else◌, length}
 use Rattle.fkv_base.specs.Limits.{drain_slots, last_of}
 use Rattle.fkv_base.specs.declared.faults.Fault.{Fault}
 use Rattle.fkv_base.specs.declared.faults.Fault.TheVariants as fault

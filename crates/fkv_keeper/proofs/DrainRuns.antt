@@ -34,18 +34,18 @@ use Rattle.fkv_manifest.specs.declared.answers.WriteAnswer.TheVariants as write
 use Rattle.fkv_manifest.specs.Committing.{commit_next, commit_answer}
 use Rattle.fkv_maintain.specs.declared.maintaining.MaintainAnswer.{MaintainAnswer}
 use Rattle.fkv_maintain.specs.declared.maintaining.MaintainAnswer.TheVariants as maintain
-use Rattle.fkv_maintain.specs.Maintaining.{maintain_ask, maintain_next, maintain_given, maintain_called}
+use Rattle.fkv_maintain.specs.Maintaining.{MaintainState, maintain_ask, maintain_next, maintain_given, maintain_called}
 use Rattle.fkv_keeper.specs.declared.answers.KeeperTold.{KeeperTold}
 use Rattle.fkv_keeper.specs.declared.answers.KeeperTold.TheVariants.{Turned, CommitRefused}
 use Rattle.fkv_keeper.specs.declared.keepers.Keeping.{Keeping}
 use Rattle.fkv_keeper.specs.declared.keepers.Keeping.TheVariants.{Ended, Starts, Maintains, LoadsPhase, Enters, Copies, Seeks, Waits, Writes, Finishes}
-use Rattle.fkv_keeper.specs.Keeping.{asked_for, KeeperState, is_copy_resting, copy_asked, copy_driven, copy_told, device_passed, end_told, keeping_ask, ended, turned, turn_over, turn_asked, commit_asked, start_ledto, maintain_ledto, copies, part_begun, phase_ledto, enter_ledto, copy_ledto, seek_ledto, writes_begun, wait_ledto, finished, finish_ledto, keeping_next, keeping_given, write_ledto, writes_called, keeping_called}
+use Rattle.fkv_keeper.specs.Keeping.{asked_for, KeeperState, must_rest, parts_begun, is_copy_resting, copy_driven, copy_told, device_passed, end_told, keeping_ask, ended, turned, turn_over, turn_asked, commit_asked, start_ledto, maintain_ledto, copies, part_begun, phase_ledto, enter_ledto, copy_ledto, seek_ledto, writes_begun, wait_ledto, finished, finish_ledto, keeping_next, keeping_given, write_ledto, writes_called, keeping_called}
 use Rattle.fkv_keeper.specs.KeeperRun.{KeeperEvent, BeginsTurn, BeginsCommit, Replies, Gets, Calls, is_in_hand, is_calling, keeper_happens, keeper_run, IsOpened}
 use Rattle.fkv_keeper.specs.DrainLaws.{HasSoughtAll, told_anew, told_after, call_told}
 use Rattle.fkv_keeper.proofs.DrainSought.{passed_told, still_sought, now_sought}
 use Rattle.fkv_keeper.proofs.DrainCommits.{EnterKnows, enter_step, enter_begins, enter_none, SeekKnows, seek_step, seek_begins, seek_none, StartKnows, start_step, start_none}
 use Rattle.fkv_keeper.proofs.DrainParts.{IsLeftOut, maintain_replied, maintain_got, maintain_made_call}
-use Rattle.fkv_keeper.proofs.KeeperRuns.{happens_at, happens_so}
+use Rattle.fkv_keeper.proofs.Happens.{happens_at, happens_so}
 
 -- the turn was told to have left a part out
 abbrev Full : KeeperState → List Exchange → Type 0
@@ -113,7 +113,7 @@ part_led p s c said granted told full = over s told full
 phase_led : (p : Places) (s : KeeperState) (found : Option Commit) (said : PhaseSaid) (granted : Bool) (told : List Exchange) → Full s told → Knows (phase_ledto p s found said granted) told
 unfolding phase_ledto
 phase_led p s None said granted told full = over s told full
-phase_led p s (Some c) said granted told full = part_led p s c said granted told full
+phase_led p s (Some c) said granted told full = either s.rests _ _ told (either granted _ _ told full (over (record s { is_granted = false }) told full)) (part_led p s c said granted told full)
 
 enter_led : (t : KeeperState) (ask : Ask EnterAnswer) (told : List Exchange) → t.step ≡ Enters → enter_ask t.enter ≡ ask → EnterKnows t.enter t.enter.step told → Full t told → Knows (enter_ledto t ask) told
 unfolding enter_ledto
@@ -161,7 +161,7 @@ write_led : (t : KeeperState) (found : Option Commit) (answer : WriteAnswer) (to
 unfolding write_ledto
 write_led t None answer told e full = over t told full
 write_led t (Some c) write.Written told e full = full
-write_led t (Some c) write.Device told e full = at_step t Writes told e full
+write_led t (Some c) write.Device told e full = either (must_rest t) _ _ told (over (record t { rests = true }) told full) (at_step t Writes told e full)
 write_led t (Some c) (write.Broken why) told e full = at_step t Writes told e full
 
 write_called : (s : KeeperState) (done : Bool) (told : List Exchange) → s.step ≡ Writes → Full s told → Knows (writes_called s done) told
@@ -215,11 +215,15 @@ called_at shape p s Writes done bytes told e knows = write_called s done told e 
 called_at shape p s step done bytes told e knows = at_step s step told e knows
 
 -- a turn and a commit that begin
+parts_begin : (rests : Bool) (m : MaintainState) (told : List Exchange) → IsLeftOut (parts_begun rests m) told
+parts_begin true m told = record { knows = tt; full = λ e. cc }
+parts_begin false m told = record { knows = tt; full = λ e. cc }
+
 turn_begins : (s : KeeperState) (told : List Exchange) → Knows (turn_asked s) told
-turn_begins s told = either s.is_broken _ _ told tt (record { knows = tt; full = λ e. cc })
+turn_begins s told = either s.is_broken _ _ told tt (parts_begin s.rests s.maintain told)
 
 commit_begins : (s : KeeperState) (kind : CommitKind) (told : List Exchange) → Knows (commit_asked s kind) told
-commit_begins s kind told = either s.is_broken _ (record s { start = start_begun s.start (asked_for s kind); step = Starts }) told tt tt
+commit_begins s kind told = either s.is_broken _ _ told tt (either s.rests _ (record s { start = start_begun s.start (asked_for s kind); step = Starts }) told tt tt)
 
 -- by the step of the keeper
 abbrev told_at : Shape → Places → KeeperState → Keeping → KeeperEvent → List Exchange → List Exchange

@@ -44,7 +44,7 @@ use Rattle.fkv_keeper.specs.LastCommits.{point_written, slot_said, slot_written}
 use Rattle.fkv_keeper.specs.CheckpointLaws.{IsCommitAfter, IsFinished, IsWrittenAs, AreWritesBegun, copy_replies, begun_with}
 use Rattle.fkv_keeper.specs.PartLaws.{IsStartBegun, IsPartBegun}
 use Rattle.fkv_keeper.specs.SlotLaws.{HasRoom, CommitHasRoom, IsSlotWhole}
-use Rattle.fkv_keeper.proofs.KeeperRuns.{happens_at, happens_so}
+use Rattle.fkv_keeper.proofs.Happens.{happens_at, happens_so}
 use Rattle.fkv_keeper.proofs.Classes.{happens_class}
 use Rattle.fkv_keeper.proofs.CheckpointMoves.{IsMove, each_move}
 use Rattle.fkv_keeper.proofs.CheckpointWrites.{run_writes}

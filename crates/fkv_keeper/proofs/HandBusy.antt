@@ -45,11 +45,13 @@ use Rattle.fkv_manifest.specs.declared.commits.Committing.{Committing}
 use Rattle.fkv_manifest.specs.declared.commits.Committing.TheVariants as writing
 use Rattle.fkv_manifest.specs.declared.gates.Gating.{Gating}
 use Rattle.fkv_manifest.specs.declared.gates.Gating.TheVariants as gate
-use Rattle.fkv_manifest.specs.Committing.{commit_start, commit_step_next, commit_step_answer, commit_answer, commit_next, gate_after}
+use Rattle.fkv_manifest.specs.Committing.{CommitWriter, commit_start, commit_step_next, commit_step_answer, commit_answer, commit_next, gate_after}
 use Rattle.fkv_manifest.specs.Gating.{GateWriter, gate_start, gate_answer, gate_next}
 use Rattle.fkv_maintain.specs.declared.maintaining.MaintainAnswer.{MaintainAnswer}
 use Rattle.fkv_maintain.specs.declared.maintaining.MaintainAnswer.TheVariants as maintain
-use Rattle.fkv_maintain.specs.Maintaining.{maintain_ask, maintaining_ask, maintain_next, maintain_given, maintain_called}
+use Rattle.fkv_flush.specs.Serving.{serve_ask}
+use Rattle.fkv_maintain.specs.Parts.{IsServing}
+use Rattle.fkv_maintain.specs.Maintaining.{maintain_ask, device_asked, maintaining_ask, maintain_next, maintain_given, maintain_called}
 use Rattle.fkv_keeper.specs.declared.answers.KeeperTold.TheVariants.{Turned, TurnRefused, CommitRefused}
 use Rattle.fkv_keeper.specs.declared.keepers.Keeping.{Keeping}
 use Rattle.fkv_keeper.specs.declared.keepers.Keeping.TheVariants.{Ended, Starts, Maintains, LoadsPhase, Enters, Copies, Seeks, Waits, Writes, Finishes}
@@ -57,8 +59,10 @@ use Rattle.fkv_keeper.specs.Answers.{is_busy}
 use Rattle.fkv_keeper.specs.LastCommits.{is_gate_open}
 use Rattle.fkv_keeper.specs.KeeperAsks.{keeper_asks_left}
 use Rattle.fkv_keeper.specs.KeeperRun.{KeeperEvent, BeginsTurn, BeginsCommit, Replies, Gets, Calls, is_in_hand, begins, keeper_happens, keeper_run}
-use Rattle.fkv_keeper.specs.Keeping.{KeeperState, device_passed, write_asked, turn_over, is_copy_resting, copy_asked, copy_told, copy_driven, keeping_ask, ended, turned, commit_asked, turn_asked, start_ledto, maintain_ledto, copies, copies_next, part_begun, phase_ledto, enter_ledto, copy_ledto, seek_ledto, checkpoint_used, writes_of, writes_begun, wait_ledto, finished, finish_ledto, keeping_next, keeping_given, write_ledto, keeping_called}
+use Rattle.fkv_keeper.specs.Keeping.{KeeperState, device_passed, write_asked, turn_over, is_copy_resting, copy_asked, copy_told, copy_driven, keeping_ask, ended, turned, commit_asked, turn_asked, start_ledto, maintain_ledto, copies, copies_next, part_begun, writes_taken_up, parts_begun, must_rest, phase_ledto, enter_ledto, copy_ledto, seek_ledto, checkpoint_used, writes_of, writes_begun, wait_ledto, finished, finish_ledto, keeping_next, keeping_given, write_ledto, keeping_called}
+use Rattle.fkv_keeper.specs.KeeperLaws.{MayRest}
 use Rattle.fkv_keeper.proofs.KeeperLeft.{keeper_left, never, nor}
+use Rattle.fkv_keeper.proofs.Rests.{begins_rest, rests_still}
 
 -- the writes of a commit go on: neither they nor those of its slot are at an end
 abbrev GoesOn : Gating → Committing → Type 0
@@ -85,11 +89,15 @@ either_busy false shape p s t one other = other
 
 commit_busy : (shape : Shape) (p : Places) (s : KeeperState) (kind : CommitKind) → IsBusyNow shape p (commit_asked s kind)
 unfolding keeping_ask starting_ask passed
-commit_busy shape p s kind = either_busy s.is_broken shape p _ _ tt refl
+commit_busy shape p s kind = either_busy s.is_broken shape p _ _ tt (either_busy s.rests shape p _ _ tt refl)
 
 turn_busy : (shape : Shape) (p : Places) (s : KeeperState) → IsBusyNow shape p (turn_asked s)
-unfolding keeping_ask maintaining_ask scan_ask device_passed passed
-turn_busy shape p s = either_busy s.is_broken shape p _ _ tt refl
+unfolding keeping_ask maintaining_ask scan_ask serve_ask device_asked device_passed passed
+turn_busy shape p s = either_busy s.is_broken shape p _ _ tt (parts s.rests)
+  where
+    parts : (rests : Bool) → is_busy (device_passed (maintain_ask shape p (parts_begun rests s.maintain)) (Turned false false)) ≡ true
+    parts true = refl
+    parts false = refl
 
 enters : (shape : Shape) (p : Places) (s : KeeperState) (c : Commit) → IsBusyNow shape p (record s { enter = enter_begun s.enter c.number; step = Enters })
 unfolding keeping_ask entering_ask deferring_ask raise_ask passed
@@ -160,6 +168,10 @@ finishes : (shape : Shape) (p : Places) (s : KeeperState) (c : Commit) → IsBus
 unfolding keeping_ask durable_from
 finishes shape p s c = finish_on s.seek.points (finish_begun s.finish c.number) s.is_drain_full (nat_lt 0 s.finish.sessions)
 
+-- where writes rest they go on, and a turn serves
+abbrev GoesOnThere : KeeperState → Type 0
+GoesOnThere s = s.rests ≡ true → MayRest s.step × (s.step ≡ Maintains → IsServing s.maintain.step) × GoesOn s.writes.gate.step s.writes.step
+
 -- where a reply leads
 
 started : (shape : Shape) (p : Places) (s : KeeperState) (ask : Ask StartAnswer) → s.step ≡ Starts → start_ask s.start ≡ ask → IsBusyNow shape p (start_ledto s ask)
@@ -186,10 +198,14 @@ part_busy shape p s c (Says phase.WaitPending version) granted some = next_copie
 part_busy shape p s c (Says phase.WaitFlush version) granted some = either_busy s.has_points shape p (record s { wait = wait_begun c.end c.epoch; step = Waits }) (turned s) (waits shape p s c) tt
 part_busy shape p s c said granted some = tt
 
-phased : (shape : Shape) (p : Places) (s : KeeperState) (c : Option Commit) (said : PhaseSaid) (granted : Bool) → 0 < p.buckets → IsBusyNow shape p (phase_ledto p s c said granted)
+phased : (shape : Shape) (p : Places) (s : KeeperState) (c : Option Commit) (said : PhaseSaid) (granted : Bool) → 0 < p.buckets → GoesOnThere s → IsBusyNow shape p (phase_ledto p s c said granted)
 unfolding phase_ledto
-phased shape p s None said granted some = tt
-phased shape p s (Some c) said granted some = part_busy shape p s c said granted some
+phased shape p s None said granted some there = tt
+phased shape p s (Some c) said granted some there = by s.rests refl
+  where
+    by : (rests : Bool) → s.rests ≡ rests → IsBusyNow shape p (if rests then writes_taken_up s granted else part_begun p s c said granted)
+    by true rests = either_busy granted shape p _ _ (there rests).2 tt
+    by false awake = part_busy shape p s c said granted some
 
 entered : (shape : Shape) (p : Places) (s : KeeperState) (ask : Ask EnterAnswer) → s.step ≡ Enters → enter_ask s.enter ≡ ask → IsBusyNow shape p (enter_ledto s ask)
 unfolding enter_ledto keeping_ask passed
@@ -237,18 +253,18 @@ unfolding finish_ledto keeping_ask passed
 finished_busy shape p s (Done its) at same = done_busy shape p s s.commit
 finished_busy shape p s ask at same = still shape p s Finishes at (ap (λ (its : Ask FinishAnswer). is_busy (passed its (turn_over s))) same)
 
-next_busy : (shape : Shape) (p : Places) (s : KeeperState) (step : Keeping) (reply : ℕ) (granted : Bool) → 0 < p.buckets → s.step ≡ step → IsBusyNow shape p s → IsBusyNow shape p (keeping_next shape p s step reply granted)
+next_busy : (shape : Shape) (p : Places) (s : KeeperState) (step : Keeping) (reply : ℕ) (granted : Bool) → 0 < p.buckets → s.step ≡ step → GoesOnThere s → IsBusyNow shape p s → IsBusyNow shape p (keeping_next shape p s step reply granted)
 unfolding keeping_next
-next_busy shape p s (Ended its) reply granted some at held = held
-next_busy shape p s Starts reply granted some at held = started shape p (record s { start = start_next s.start reply }) (start_ask (start_next s.start reply)) at refl
-next_busy shape p s Maintains reply granted some at held = maintained shape p (record s { maintain = maintain_next shape p s.maintain reply }) (maintain_ask shape p (maintain_next shape p s.maintain reply)) at refl
-next_busy shape p s LoadsPhase reply granted some at held = phased shape p s s.commit (phase_said reply) granted some
-next_busy shape p s Enters reply granted some at held = entered shape p (record s { enter = enter_next s.enter reply }) (enter_ask (enter_next s.enter reply)) at refl
-next_busy shape p s Copies reply granted some at held = copied_busy shape p (record s { copy = copy_driven s.copy reply }) (copy_told (copy_driven s.copy reply)) at refl
-next_busy shape p s Seeks reply granted some at held = sought shape p (record s { seek = seek_next s.seek reply }) (seek_ask (seek_next s.seek reply)) at refl
-next_busy shape p s Waits reply granted some at held = waited shape p (record s { wait = wait_next s.wait reply }) (wait_ask (wait_next s.wait reply)) at refl
-next_busy shape p s Writes reply granted some at held = held
-next_busy shape p s Finishes reply granted some at held = finished_busy shape p (record s { finish = finish_next s.finish reply }) (finish_ask s.seek.points (finish_next s.finish reply)) at refl
+next_busy shape p s (Ended its) reply granted some at there held = held
+next_busy shape p s Starts reply granted some at there held = started shape p (record s { start = start_next s.start reply }) (start_ask (start_next s.start reply)) at refl
+next_busy shape p s Maintains reply granted some at there held = maintained shape p (record s { maintain = maintain_next shape p s.maintain reply }) (maintain_ask shape p (maintain_next shape p s.maintain reply)) at refl
+next_busy shape p s LoadsPhase reply granted some at there held = phased shape p s s.commit (phase_said reply) granted some there
+next_busy shape p s Enters reply granted some at there held = entered shape p (record s { enter = enter_next s.enter reply }) (enter_ask (enter_next s.enter reply)) at refl
+next_busy shape p s Copies reply granted some at there held = copied_busy shape p (record s { copy = copy_driven s.copy reply }) (copy_told (copy_driven s.copy reply)) at refl
+next_busy shape p s Seeks reply granted some at there held = sought shape p (record s { seek = seek_next s.seek reply }) (seek_ask (seek_next s.seek reply)) at refl
+next_busy shape p s Waits reply granted some at there held = waited shape p (record s { wait = wait_next s.wait reply }) (wait_ask (wait_next s.wait reply)) at refl
+next_busy shape p s Writes reply granted some at there held = held
+next_busy shape p s Finishes reply granted some at there held = finished_busy shape p (record s { finish = finish_next s.finish reply }) (finish_ask s.seek.points (finish_next s.finish reply)) at refl
 
 given_busy : (shape : Shape) (p : Places) (s : KeeperState) (step : Keeping) (action : Action) → s.step ≡ step → IsBusyNow shape p s → IsBusyNow shape p (keeping_given shape p s step action)
 unfolding keeping_given
@@ -283,7 +299,7 @@ written : (shape : Shape) (p : Places) (s : KeeperState) (c : Option Commit) (an
 unfolding write_ledto
 written shape p s None answer at led = tt
 written shape p s (Some c) write.Written at led = finishes shape p s c
-written shape p s (Some c) write.Device at led = still shape p s Writes at led
+written shape p s (Some c) write.Device at led = either_busy (must_rest s) shape p _ _ tt (still shape p s Writes at led)
 written shape p s (Some c) (write.Broken why) at led = absurd led
 
 called_busy : (shape : Shape) (p : Places) (s : KeeperState) (step : Keeping) (done : Bool) (bytes : List ℕ) → s.step ≡ step → BusyAt shape p s step → IsBusyNow shape p s → IsBusyNow shape p (keeping_called shape p s step done bytes)
@@ -297,22 +313,52 @@ begins_busy : (shape : Shape) (p : Places) (s t : KeeperState) (hand : Bool) →
 begins_busy shape p s t true held begun = held
 begins_busy shape p s t false held begun = begun
 
-event_busy : (shape : Shape) (p : Places) (s : KeeperState) (event : KeeperEvent) → 0 < p.buckets → IsBusyNow shape p s → IsBusyNow shape p (keeper_happens shape p s event)
+event_busy : (shape : Shape) (p : Places) (s : KeeperState) (event : KeeperEvent) → 0 < p.buckets → GoesOnThere s → IsBusyNow shape p s → IsBusyNow shape p (keeper_happens shape p s event)
 unfolding keeper_happens
-event_busy shape p s BeginsTurn some held = begins_busy shape p s (turn_asked s) (is_in_hand s.step) held (turn_busy shape p s)
-event_busy shape p s (BeginsCommit kind) some held = begins_busy shape p s (commit_asked s kind) (is_in_hand s.step) held (commit_busy shape p s kind)
-event_busy shape p s (Replies reply granted) some held = next_busy shape p s s.step reply granted some refl held
-event_busy shape p s (Gets action) some held = given_busy shape p s s.step action refl held
-event_busy shape p s (Calls done bytes) some held = called_busy shape p s s.step done bytes refl held held
+event_busy shape p s BeginsTurn some there held = begins_busy shape p s (turn_asked s) (is_in_hand s.step) held (turn_busy shape p s)
+event_busy shape p s (BeginsCommit kind) some there held = begins_busy shape p s (commit_asked s kind) (is_in_hand s.step) held (commit_busy shape p s kind)
+event_busy shape p s (Replies reply granted) some there held = next_busy shape p s s.step reply granted some refl there held
+event_busy shape p s (Gets action) some there held = given_busy shape p s s.step action refl held
+event_busy shape p s (Calls done bytes) some there held = called_busy shape p s s.step done bytes refl held held
 
 opening_busy : (shape : Shape) (p : Places) (s : KeeperState) (step : Keeping) → is_in_hand step ≡ false → BusyAt shape p s step
 opening_busy shape p s (Ended its) idle = tt
 opening_busy shape p s step idle = never idle
 
-run_busy : (shape : Shape) (p : Places) (opening : KeeperState) (events : List KeeperEvent) → 0 < p.buckets → is_in_hand opening.step ≡ false → IsBusyNow shape p (keeper_run shape p opening events)
+-- writes that rest go on still, and those that begin to rest go on
+led_on : (its : Gating) (step : Committing) (answer : WriteAnswer) → answer ≡ write.Device → Led its step answer → GoesOn its step
+led_on its step answer device led = subst (λ (x : WriteAnswer). Led its step x) device led
+
+event_there : (shape : Shape) (p : Places) (s : KeeperState) (event : KeeperEvent) → GoesOnThere s → IsBusyNow shape p s → GoesOnThere (keeper_happens shape p s event)
+event_there shape p s event there held is = by s.rests refl
+  where
+    a : KeeperState
+    a = keeper_happens shape p s event
+
+    by : (rests : Bool) → s.rests ≡ rests → MayRest a.step × (a.step ≡ Maintains → IsServing a.maintain.step) × GoesOn a.writes.gate.step a.writes.step
+    by true rests =
+        let was = there rests in
+        let still = rests_still shape p s event rests was.0 was.1 is in
+        (still.rests, still.serves, subst (λ (w : CommitWriter). GoesOn w.gate.step w.step) (sym still.writes) was.2)
+    by false awake =
+        let its = begins_rest shape p s event awake is in
+        let here : BusyAt shape p s Writes = subst (λ (x : Keeping). BusyAt shape p s x) its.writes held in
+        let next = commit_next s.writes true in
+        let on : GoesOn next.gate.step next.step = led_on next.gate.step next.step (commit_answer next) its.answers (write_led s.writes.gate s.writes.step here) in
+        subst (λ (x : KeeperState). MayRest x.step × (x.step ≡ Maintains → IsServing x.maintain.step) × GoesOn x.writes.gate.step x.writes.step) (sym its.same) (tt, (λ at. cc), on)
+
+-- a call that is in hand asks, and writes that rest go on
+record Asks (shape : Shape) (p : Places) (s : KeeperState) : Type 0 where
+  busy : IsBusyNow shape p s
+  there : GoesOnThere s
+
+run_asks : (shape : Shape) (p : Places) (opening : KeeperState) (events : List KeeperEvent) → 0 < p.buckets → is_in_hand opening.step ≡ false → opening.rests ≡ false → Asks shape p (keeper_run shape p opening events)
 unfolding keeper_run
-run_busy shape p opening [] some idle = opening_busy shape p opening opening.step idle
-run_busy shape p opening (event ∷ before) some idle = event_busy shape p (keeper_run shape p opening before) event some (run_busy shape p opening before some idle)
+run_asks shape p opening [] some idle awake = record { busy = opening_busy shape p opening opening.step idle; there = λ rests. never (sym rests ∙ awake) }
+run_asks shape p opening (event ∷ before) some idle awake =
+    let s = keeper_run shape p opening before in
+    let was = run_asks shape p opening before some idle awake in
+    record { busy = event_busy shape p s event some was.there was.busy; there = event_there shape p s event was.there was.busy }
 
 -- so where none are left no call is in hand
 writes_asked : (its : GateWriter) (step : Committing) (full : Bool) → GoesOn its.step step → is_busy (write_asked (commit_step_answer its step) (Turned false full)) ≡ true
@@ -334,7 +380,7 @@ ended_by shape p s true e held none =
     let some = (keeper_left shape p s).0 (busy_so shape p s s.step held e) in
     let no : ⊥ = omega (arith, some, none) in absurd no
 
-pub run_ended : (shape : Shape) (p : Places) (opening : KeeperState) (events : List KeeperEvent) → 0 < p.buckets → is_in_hand opening.step ≡ false → keeper_asks_left shape p (keeper_run shape p opening events) ≡ 0
+pub run_ended : (shape : Shape) (p : Places) (opening : KeeperState) (events : List KeeperEvent) → 0 < p.buckets → is_in_hand opening.step ≡ false → opening.rests ≡ false → keeper_asks_left shape p (keeper_run shape p opening events) ≡ 0
     → is_in_hand (keeper_run shape p opening events).step ≡ false
-run_ended shape p opening events some idle none =
-    let s = keeper_run shape p opening events in ended_by shape p s (is_in_hand s.step) refl (run_busy shape p opening events some idle) none
+run_ended shape p opening events some idle awake none =
+    let s = keeper_run shape p opening events in ended_by shape p s (is_in_hand s.step) refl (run_asks shape p opening events some idle awake).busy none

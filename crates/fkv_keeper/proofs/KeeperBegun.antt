@@ -5,12 +5,12 @@ use Rattle.fkv_base.specs.declared.shapes.Shape.{Shape}
 use Rattle.fkv_plane.specs.declared.places.Places.{Places}
 use Rattle.fkv_base.specs.declared.commits.CommitKind.{CommitKind}
 use Rattle.fkv_commit.specs.AsksLeft.{starting_asks_left}
-use Rattle.fkv_maintain.specs.AsksLeft.{maintain_asks_left}
+use Rattle.fkv_maintain.specs.AsksLeft.{maintain_asks_left, most_maintain_asks}
 use Rattle.fkv_keeper.specs.KeeperAsks.{most_part_asks, most_begin_asks, most_turn_asks, keeping_asks_left, keeper_asks_left}
-use Rattle.fkv_keeper.specs.Keeping.{KeeperState, commit_asked, turn_asked}
-use Rattle.fkv_maintain.specs.Maintaining.{maintain_begun}
+use Rattle.fkv_keeper.specs.Keeping.{KeeperState, commit_asked, parts_begun, turn_asked}
+use Rattle.fkv_maintain.specs.Maintaining.{MaintainState, maintain_begun}
 use Rattle.fkv_plane.proofs.Shown.{sum_most}
-use Rattle.fkv_maintain.proofs.Shown.{maintain_begun_left}
+use Rattle.fkv_maintain.proofs.Shown.{maintain_begun_left, maintain_serving_left}
 
 either : (shape : Shape) (p : Places) (b : Bool) (x y : KeeperState) (n : ℕ) → keeper_asks_left shape p x ≤ n → keeper_asks_left shape p y ≤ n → keeper_asks_left shape p (if b then x else y) ≤ n
 either shape p true x y n first second = first
@@ -18,11 +18,15 @@ either shape p false x y n first second = second
 
 pub begin_bounded : (shape : Shape) (p : Places) (s : KeeperState) (kind : CommitKind) → keeper_asks_left shape p (commit_asked s kind) ≤ most_begin_asks
 unfolding keeping_asks_left starting_asks_left
-begin_bounded shape p s kind = either shape p s.is_broken _ _ _ (omega arith) (omega arith)
+begin_bounded shape p s kind = either shape p s.is_broken _ _ _ (omega arith) (either shape p s.rests _ _ _ (omega arith) (omega arith))
+
+parts_begun_left : (shape : Shape) (rests : Bool) (m : MaintainState) → maintain_asks_left shape (parts_begun rests m) ≤ most_maintain_asks shape
+parts_begun_left shape true m = maintain_serving_left shape m
+parts_begun_left shape false m = maintain_begun_left shape (maintain_begun m) refl refl
 
 pub turn_bounded : (shape : Shape) (p : Places) (s : KeeperState) → s.seek.sessions ≡ shape.sessions → s.finish.sessions ≡ shape.sessions → keeper_asks_left shape p (turn_asked s) ≤ most_turn_asks shape
 unfolding keeping_asks_left
 turn_bounded shape p s seeks finishes =
-    let begun = maintain_begun_left shape (maintain_begun s.maintain) refl refl in
-    let most = sum_most (maintain_asks_left shape (maintain_begun s.maintain)) (most_part_asks s.seek.sessions s.finish.sessions + 1) in
+    let begun = parts_begun_left shape s.rests s.maintain in
+    let most = sum_most (maintain_asks_left shape (parts_begun s.rests s.maintain)) (most_part_asks s.seek.sessions s.finish.sessions + 1) in
     either shape p s.is_broken _ _ _ (omega arith) (omega (arith, begun, most, seeks, finishes))

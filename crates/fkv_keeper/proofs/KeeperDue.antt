@@ -2,9 +2,8 @@
 use Rattle.std.proofs.Common.{◌≡◌, ℕ, List, [], ◌∷◌, Bool, true, refl}
 use Rattle.std.specs.Prelude.{Option, Some}
 use Rattle.fkv_base.specs.declared.shapes.Shape.{Shape}
-use Rattle.fkv_disk.specs.Asks.{AskedCall, Reads, first_asked, calls_by, count_by, kinds_by}
+use Rattle.fkv_disk.specs.Asks.{AskedCall, Reads, first_asked, calls_by, count_by}
 use Rattle.fkv_disk.specs.Calls.{Call, Write, Sync}
-use Rattle.fkv_disk.specs.Kinds.{Kind}
 use Rattle.fkv_plane.specs.declared.places.Places.{Places}
 use Rattle.fkv_flush.specs.declared.flushing.Flushing.{Flushing}
 use Rattle.fkv_flush.specs.declared.flushing.Flushing.TheVariants as flush
@@ -111,11 +110,10 @@ keeping_reads shape s Maintains at count its = maintain_reads shape s.maintain s
 keeping_reads shape s WritesCommit at count its = calls_read_none shape s.maintain.serving (with_call (commit_step_call s.writes.area s.writes.triples s.writes.gate s.writes.step true) []) at count its
 keeping_reads shape s step at count its = cc
 
-pub makes_due : (k : KeeperModel) (expects expects' : List Kind → Bool) → expects' ≡ kinds_by (keeper_due k) expects → MakesDue k expects expects'
-makes_due k expects expects' kind =
+pub makes_due : (k : KeeperModel) → MakesDue k
+makes_due k =
     let due = keeping_is_due k.shape k.places k.state k.state.step in
     record {
-      kind = kind;
       counted = due.counted;
       calls = due.its;
       read = λ seen at count its.

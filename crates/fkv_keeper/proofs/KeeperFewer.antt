@@ -49,7 +49,7 @@ use Rattle.fkv_maintain.specs.declared.maintaining.MaintainAnswer.{MaintainAnswe
 use Rattle.fkv_maintain.specs.declared.maintaining.MaintainAnswer.TheVariants as maintain
 use Rattle.fkv_maintain.specs.AsksLeft.{maintain_asks_left}
 use Rattle.fkv_keeper.specs.KeeperAsks.{committing_calls_left, writes_left, copy_left, most_copy_asks, most_write_asks, most_part_asks, keeping_asks_left, keeper_asks_left, keeping_made, keeper_calls_asked}
-use Rattle.fkv_keeper.specs.Keeping.{KeeperState, device_passed, write_asked, turn_over, is_copy_resting, copy_asked, copy_told, copy_driven, keeping_ask, keeper_ask, ended, start_ledto, maintain_ledto, copies, part_begun, phase_ledto, enter_ledto, copy_ledto, seek_ledto, writes_begun, wait_ledto, finished, finish_ledto, keeping_next, keeper_next, keeping_given, keeper_given, write_ledto, keeping_called, keeper_called, writes_of, checkpoint_used}
+use Rattle.fkv_keeper.specs.Keeping.{KeeperState, device_passed, write_asked, turn_over, is_copy_resting, copy_asked, copy_told, copy_driven, keeping_ask, keeper_ask, ended, start_ledto, maintain_ledto, copies, part_begun, phase_ledto, enter_ledto, copy_ledto, seek_ledto, writes_begun, wait_ledto, finished, finish_ledto, keeping_next, keeper_next, keeping_given, keeper_given, must_rest, turned, write_ledto, keeping_called, keeper_called, writes_of, checkpoint_used}
 use Rattle.fkv_maintain.specs.declared.maintaining.Maintaining.TheVariants.{Broken}
 use Rattle.fkv_maintain.specs.Maintaining.{MaintainState, maintaining_ask, maintain_ask, maintain_next, maintain_given, maintain_called}
 use Rattle.fkv_keeper.proofs.KeeperDevice.{keeper_asked_calls}
@@ -183,11 +183,35 @@ part_led shape p s c (Says phase.WaitPending version) granted = either shape p c
 part_led shape p s c (Says phase.WaitFlush version) granted = either shape p s.has_points _ _ _ (waits_led shape p s c) (over shape p s (turn_over s) _ (omega arith))
 part_led shape p s c said granted = over shape p s (turn_over s) _ (omega arith)
 
+-- writes have eight calls at most
+gate_bounded : (step : Gating) → gate_calls_left step ≤ 6
+gate_bounded gate.Closes = omega arith
+gate_bounded gate.SyncsClosed = omega arith
+gate_bounded gate.WritesBody = omega arith
+gate_bounded gate.SyncsBody = omega arith
+gate_bounded gate.Opens = omega arith
+gate_bounded gate.SyncsOpen = omega arith
+gate_bounded gate.Written = omega arith
+gate_bounded (gate.Broken why) = omega arith
+
+committing_bounded : (its : GateWriter) (step : Committing) → committing_calls_left its step ≤ 8
+committing_bounded its writing.WritesTriples = let most = gate_bounded its.step in omega (arith, most)
+committing_bounded its writing.SyncsTriples = let most = gate_bounded its.step in omega (arith, most)
+committing_bounded its writing.PutsSlot = let most = gate_bounded its.step in omega (arith, most)
+committing_bounded its (writing.Broken why) = omega arith
+
+takes_up_led : (shape : Shape) (p : Places) (s : KeeperState) → keeper_asks_left shape p (record s { rests = false; is_granted = true; step = Writes }) < most_part_asks s.seek.sessions s.finish.sessions + 1
+unfolding keeping_asks_left
+takes_up_led shape p s =
+    let few = committing_bounded s.writes.gate s.writes.step in
+    let most = sum_most (writes_left s.writes) (s.finish.sessions + 1) in
+    omega (arith, few, most)
+
 phase_led : (shape : Shape) (p : Places) (s : KeeperState) (commit : Option Commit) (said : PhaseSaid) (granted : Bool)
     → keeper_asks_left shape p (phase_ledto p s commit said granted) < most_part_asks s.seek.sessions s.finish.sessions + 1
 unfolding phase_ledto
 phase_led shape p s None said granted = over shape p s (turn_over s) _ (omega arith)
-phase_led shape p s (Some c) said granted = part_led shape p s c said granted
+phase_led shape p s (Some c) said granted = either shape p s.rests _ _ _ (either shape p granted _ _ _ (takes_up_led shape p s) (over shape p (record s { is_granted = false }) (turn_over s) _ (omega arith))) (part_led shape p s c said granted)
 
 inside_enter : (shape : Shape) (p : Places) (s : KeeperState) (old : ℕ) → s.step ≡ Enters → enter_asks_left s.enter < old → keeper_asks_left shape p s < old
 unfolding keeping_asks_left
@@ -386,7 +410,14 @@ write_led : (shape : Shape) (p : Places) (s : KeeperState) (commit : Option Comm
 unfolding write_ledto keeping_asks_left
 write_led shape p s None answer old at fewer = omega arith
 write_led shape p s (Some c) write.Written old at fewer = let most = finish_begun_left s.finish c.number in omega (arith, most, fewer)
-write_led shape p s (Some c) write.Device old at fewer = let most = sum_most (writes_left s.writes) (s.finish.sessions + 1) in rw at (omega (arith, most, fewer))
+write_led shape p s (Some c) write.Device old at fewer = by (must_rest s)
+  where
+    on : keeper_asks_left shape p s < old + (s.finish.sessions + 1)
+    on = let most = sum_most (writes_left s.writes) (s.finish.sessions + 1) in rw at (omega (arith, most, fewer))
+
+    by : (rests : Bool) → keeper_asks_left shape p (if rests then turned (record s { rests = true }) else s) < old + (s.finish.sessions + 1)
+    by true = omega arith
+    by false = on
 write_led shape p s (Some c) (write.Broken why) old at fewer = let most = sum_most (writes_left s.writes) (s.finish.sessions + 1) in rw at (omega (arith, most, fewer))
 
 asks_device : (answer : WriteAnswer) (full : Bool) → write_asked answer (Turned false full) ≡ Done Device → answer ≡ write.Device

@@ -39,8 +39,11 @@ use Rattle.fkv_keeper.specs.declared.keepers.Keeping.{Keeping}
 use Rattle.fkv_keeper.specs.declared.keepers.Keeping.TheVariants.{Ended, Starts, Maintains, LoadsPhase, Enters, Copies, Seeks, Waits, Writes, Finishes}
 use Rattle.fkv_maintain.specs.declared.maintaining.MaintainAnswer.{MaintainAnswer}
 use Rattle.fkv_maintain.specs.declared.maintaining.MaintainAnswer.TheVariants as maintain
-use Rattle.fkv_maintain.specs.Maintaining.{maintain_begun, maintain_ask, maintain_next, maintain_given, maintain_called}
-use Rattle.fkv_keeper.specs.Keeping.{KeeperState, is_copy_resting, copy_taken, copy_driven, copy_told, copied, points_known, ended, turned, start_ledto, maintain_ledto, copies, part_begun, phase_ledto, enter_ledto, copy_ledto, seek_ledto, writes_begun, wait_ledto, finished, finish_ledto, keeping_next, keeping_given, write_ledto, writes_called, keeping_called, asked_for}
+use Rattle.fkv_maintain.specs.Maintaining.{maintain_ask, maintain_next, maintain_given, maintain_called}
+use Rattle.fkv_keeper.specs.Keeping.{KeeperState, is_copy_resting, copy_taken, copy_driven, copy_told, copied, points_known, ended, turned, start_ledto, maintain_ledto, copies, part_begun, parts_begun, writes_taken_up, phase_ledto, enter_ledto, copy_ledto, seek_ledto, writes_begun, wait_ledto, finished, finish_ledto, keeping_next, keeping_given, must_rest, write_ledto, writes_called, keeping_called, asked_for}
+use Rattle.fkv_record.specs.Places.{area_place}
+use Rattle.fkv_keeper.specs.declared.last_commits.Checkpoint.{Checkpoint}
+use Rattle.fkv_keeper.specs.LastCommits.{area_number}
 use Rattle.fkv_keeper.specs.KeeperRun.{Replies, Gets, Calls, Writing, writing_after, open_after}
 use Rattle.fkv_keeper.specs.KeeperLaws.{IsRefusal, AreWritesOfCommit, IsWritten, IsMemoryRefused, number_in_hand, IsFinishOfBegun}
 
@@ -142,10 +145,36 @@ part_step shape p w s c (Says phase.WaitFlush version) granted works in_hand =
     either_step s.has_points shape w s _ _ (going shape w s _ Waits tt refl works refl works) (turns shape w s s s.is_drain_full works refl)
 part_step shape p w s c said granted works in_hand = turns shape w s s s.is_drain_full works refl
 
-phase_step : (shape : Shape) (p : Places) (w : Writing) (s : KeeperState) (found : Option Commit) (said : PhaseSaid) (granted : Bool) → s.is_broken ≡ false → s.commit ≡ found → IsStep shape w s (phase_ledto p s found said granted)
+-- the commit's writes are the same in a state that has the same of it
+pub kept_writes : (shape : Shape) (s a : KeeperState) (w : Writing) → a.commit ≡ s.commit → a.writes ≡ s.writes → a.used ≡ s.used → a.seek ≡ s.seek → a.last ≡ s.last → a.lost ≡ s.lost → KnowsWrites shape s w → KnowsWrites shape a w
+kept_writes shape s a w commit writes used seek last lost known = record {
+  commit = known.commit;
+  in_hand = commit ∙ known.in_hand;
+  writes = record {
+    area = known.writes.area ∙ ap (λ (x : Checkpoint). area_place shape (area_number x.area)) (sym used);
+    step = known.writes.step;
+    gate = known.writes.gate ∙ rw (used, seek, last, lost) refl;
+  };
+  run = writes ∙ known.run;
+}
+
+-- writes that rest are taken up, or rest still
+take_up_step : (shape : Shape) (w : Writing) (s : KeeperState) (granted : Bool) → s.is_broken ≡ false → KnowsWrites shape s w → IsStep shape w s (writes_taken_up s granted)
+take_up_step shape w s true works known =
+    going shape w s a Writes tt refl works refl (works, kept_writes shape s a w refl refl refl refl refl refl known)
+  where
+    a : KeeperState
+    a = record s { rests = false; is_granted = true; step = Writes }
+take_up_step shape w s false works known = turns shape w s (record s { is_granted = false }) s.is_drain_full works refl
+
+phase_step : (shape : Shape) (p : Places) (w : Writing) (s : KeeperState) (found : Option Commit) (said : PhaseSaid) (granted : Bool) → s.is_broken ≡ false → s.commit ≡ found → (s.rests ≡ true → KnowsWrites shape s w) → IsStep shape w s (phase_ledto p s found said granted)
 unfolding phase_ledto
-phase_step shape p w s None said granted works in_hand = turns shape w s s s.is_drain_full works refl
-phase_step shape p w s (Some c) said granted works in_hand = part_step shape p w s c said granted works in_hand
+phase_step shape p w s None said granted works in_hand resting = turns shape w s s s.is_drain_full works refl
+phase_step shape p w s (Some c) said granted works in_hand resting = by s.rests refl
+  where
+    by : (rests : Bool) → s.rests ≡ rests → IsStep shape w s (if rests then writes_taken_up s granted else part_begun p s c said granted)
+    by true rests = take_up_step shape w s granted works (resting rests)
+    by false awake = part_step shape p w s c said granted works in_hand
 
 enter_step : (shape : Shape) (w : Writing) (s t : KeeperState) (ask : Ask EnterAnswer) → t.step ≡ Enters → t.is_broken ≡ false → t.commit ≡ s.commit → IsStep shape w s (enter_ledto t ask)
 unfolding enter_ledto
@@ -220,7 +249,8 @@ write_step shape w s t (Some c) write.Written e works same its known = going sha
 
     whole : IsWritten shape a w
     whole = record { commit = known.commit; in_hand = known.in_hand; writes = writes; answered = ap commit_answer (sym known.run) ∙ its }
-write_step shape w s t (Some c) write.Device e works same its known = going shape w s t Writes tt e works (ap number_in_hand same) (works, known)
+write_step shape w s t (Some c) write.Device e works same its known =
+    either_step (must_rest t) shape w s _ _ (turns shape w s (record t { rests = true }) t.is_drain_full works (ap number_in_hand same)) (going shape w s t Writes tt e works (ap number_in_hand same) (works, known))
 write_step shape w s t (Some c) (write.Broken why) e works same its known = going shape w s t Writes tt e works (ap number_in_hand same) (works, known)
 
 call_step : (shape : Shape) (w : Writing) (s : KeeperState) (done : Bool) → s.step ≡ Writes → s.is_broken ≡ false → KnowsWrites shape s w → IsStep shape (record w { answers = done ∷ w.answers }) s (writes_called s done)
@@ -271,20 +301,20 @@ finish_step shape w s reply ask e works known = going shape w s t Finishes tt e 
     after = record { commit = known.commit; in_hand = known.in_hand; writes = writes; answered = known.answered }
 
 -- a reply, an action, and a call of the device, where a call is in hand
-pub reply_step : (shape : Shape) (p : Places) (w : Writing) (s : KeeperState) (step : Keeping) (reply : ℕ) (granted : Bool) → IsGoing step → s.step ≡ step → Knows shape s w step → IsStep shape (writing_after step (Replies reply granted) (keeping_next shape p s step reply granted) w) s (keeping_next shape p s step reply granted)
+pub reply_step : (shape : Shape) (p : Places) (w : Writing) (s : KeeperState) (step : Keeping) (reply : ℕ) (granted : Bool) → IsGoing step → s.step ≡ step → (s.rests ≡ true → KnowsWrites shape s w) → Knows shape s w step → IsStep shape (writing_after step (Replies reply granted) (keeping_next shape p s step reply granted) w) s (keeping_next shape p s step reply granted)
 unfolding keeping_next
-reply_step shape p w s (Ended its) reply granted goes e known = absurd goes
-reply_step shape p w s Starts reply granted goes e known = start_step shape w s _ (start_ask (start_next s.start reply)) e known refl
-reply_step shape p w s Maintains reply granted goes e known = maintain_step shape w s _ (maintain_ask shape p (maintain_next shape p s.maintain reply)) e known refl
-reply_step shape p w s LoadsPhase reply granted goes e known = phase_step shape p w s s.commit (phase_said reply) granted known refl
-reply_step shape p w s Enters reply granted goes e known = enter_step shape w s _ (enter_ask (enter_next s.enter reply)) e known refl
-reply_step shape p w s Copies reply granted goes e known = copy_step shape w s _ (copy_told (copy_driven s.copy reply)) e known refl
-reply_step shape p w s Seeks reply granted goes e known = seek_step shape w s _ (seek_ask (seek_next s.seek reply)) e known refl
-reply_step shape p w s Waits reply granted goes e known =
+reply_step shape p w s (Ended its) reply granted goes e resting known = absurd goes
+reply_step shape p w s Starts reply granted goes e resting known = start_step shape w s _ (start_ask (start_next s.start reply)) e known refl
+reply_step shape p w s Maintains reply granted goes e resting known = maintain_step shape w s _ (maintain_ask shape p (maintain_next shape p s.maintain reply)) e known refl
+reply_step shape p w s LoadsPhase reply granted goes e resting known = phase_step shape p w s s.commit (phase_said reply) granted known refl resting
+reply_step shape p w s Enters reply granted goes e resting known = enter_step shape w s _ (enter_ask (enter_next s.enter reply)) e known refl
+reply_step shape p w s Copies reply granted goes e resting known = copy_step shape w s _ (copy_told (copy_driven s.copy reply)) e known refl
+reply_step shape p w s Seeks reply granted goes e resting known = seek_step shape w s _ (seek_ask (seek_next s.seek reply)) e known refl
+reply_step shape p w s Waits reply granted goes e resting known =
     let t = record s { wait = wait_next s.wait reply } in
     wait_step shape (record { first = (wait_ledto shape t (wait_ask (wait_next s.wait reply))).writes; answers = [] }) s t (wait_ask (wait_next s.wait reply)) e known refl refl refl
-reply_step shape p w s Writes reply granted goes e known = going shape w s s Writes tt e known.0 refl known
-reply_step shape p w s Finishes reply granted goes e known = finish_step shape w s reply (finish_ask s.seek.points (finish_next s.finish reply)) e known.0 known.1
+reply_step shape p w s Writes reply granted goes e resting known = going shape w s s Writes tt e known.0 refl known
+reply_step shape p w s Finishes reply granted goes e resting known = finish_step shape w s reply (finish_ask s.seek.points (finish_next s.finish reply)) e known.0 known.1
 
 -- where nothing happens
 pub stays : (shape : Shape) (w : Writing) (s : KeeperState) (step : Keeping) → IsGoing step → s.step ≡ step → Knows shape s w step → IsStep shape w s s
@@ -311,10 +341,12 @@ called_step shape p w s Writes done bytes goes e known = call_step shape w s don
 called_step shape p w s step done bytes goes e known = stays shape w s step goes e known
 
 -- where a turn or a commit is begun
-pub turn_step : (shape : Shape) (w : Writing) (s : KeeperState) (broken : Bool) → s.is_broken ≡ broken → IsStep shape w s (if broken then ended s (TurnRefused fault.Broken) else record s { maintain = maintain_begun s.maintain; is_drain_full = false; step = Maintains })
+pub turn_step : (shape : Shape) (w : Writing) (s : KeeperState) (broken : Bool) → s.is_broken ≡ broken → IsStep shape w s (if broken then ended s (TurnRefused fault.Broken) else record s { maintain = parts_begun s.rests s.maintain; is_drain_full = false; step = Maintains })
 turn_step shape w s true e = record { broken = λ broken. tt; knows = tt; number = refl; memory = λ ends. cc; told = λ full ends. cc }
 turn_step shape w s false e = going shape w s _ Maintains tt refl e refl e
 
-pub commit_step : (shape : Shape) (w : Writing) (s : KeeperState) (kind : CommitKind) (broken : Bool) → s.is_broken ≡ broken → IsStep shape w s (if broken then ended s (CommitRefused fault.Broken) else record s { start = start_begun s.start (asked_for s kind); step = Starts })
-commit_step shape w s kind true e = record { broken = λ broken. tt; knows = tt; number = refl; memory = λ ends. cc; told = λ full ends. cc }
-commit_step shape w s kind false e = going shape w s _ Starts tt refl e refl e
+pub commit_step : (shape : Shape) (w : Writing) (s : KeeperState) (kind : CommitKind) (broken rests : Bool) → s.is_broken ≡ broken
+    → IsStep shape w s (if broken then ended s (CommitRefused fault.Broken) else (if rests then ended s (CommitRefused fault.CommitRunning) else record s { start = start_begun s.start (asked_for s kind); step = Starts }))
+commit_step shape w s kind true rests e = record { broken = λ broken. tt; knows = tt; number = refl; memory = λ ends. cc; told = λ full ends. cc }
+commit_step shape w s kind false true e = record { broken = λ broken. tt; knows = tt; number = refl; memory = λ ends. cc; told = λ full ends. cc }
+commit_step shape w s kind false false e = going shape w s _ Starts tt refl e refl e

@@ -18,6 +18,7 @@ mod FewLost
 mod GoesOn
 mod Granted
 mod HandBusy
+mod Happens
 mod KeeperBegun
 mod KeeperCalls
 mod KeeperDevice
@@ -31,6 +32,7 @@ mod NewKeepers
 mod PartMoves
 mod PointsFound
 mod PointsWritten
+mod Rests
 pub mod Shown
 mod TurnRun
 mod WholeCalls

@@ -35,10 +35,10 @@ use Rattle.fkv_maintain.specs.Maintaining.{maintain_ask, maintain_next, maintain
 use Rattle.fkv_keeper.specs.declared.answers.KeeperTold.{KeeperTold}
 use Rattle.fkv_keeper.specs.declared.keepers.Keeping.{Keeping}
 use Rattle.fkv_keeper.specs.declared.keepers.Keeping.TheVariants.{Ended, Starts, Maintains, LoadsPhase, Enters, Copies, Seeks, Waits, Writes, Finishes}
-use Rattle.fkv_keeper.specs.Keeping.{KeeperState, is_copy_resting, copy_driven, copy_told, copied, points_known, ended, turned, turn_asked, commit_asked, start_ledto, maintain_ledto, copies, part_begun, phase_ledto, enter_ledto, copy_ledto, seek_ledto, writes_begun, wait_ledto, finished, finish_ledto, keeping_next, keeping_given, write_ledto, writes_called, keeping_called}
+use Rattle.fkv_keeper.specs.Keeping.{KeeperState, is_copy_resting, copy_driven, copy_told, copied, points_known, ended, turned, turn_asked, commit_asked, start_ledto, maintain_ledto, copies, part_begun, must_rest, writes_taken_up, phase_ledto, enter_ledto, copy_ledto, seek_ledto, writes_begun, wait_ledto, finished, finish_ledto, keeping_next, keeping_given, write_ledto, writes_called, keeping_called}
 use Rattle.fkv_keeper.specs.KeeperRun.{KeeperEvent, BeginsTurn, BeginsCommit, Replies, Gets, Calls, keeper_happens}
 use Rattle.fkv_keeper.specs.PartLaws.{IsPartBegun, end_of, entered_after, taken_after, end_after, seek_after, KnowsParts}
-use Rattle.fkv_keeper.proofs.KeeperRuns.{happens_at, happens_so}
+use Rattle.fkv_keeper.proofs.Happens.{happens_at, happens_so}
 
 -- what one event is said to do
 pub record IsPart (event : KeeperEvent) (step : Keeping) (s a : KeeperState) : Type 0 where
@@ -98,7 +98,7 @@ maintain_part : (event : KeeperEvent) (s t : KeeperState) (ask : Ask MaintainAns
 unfolding maintain_ledto
 maintain_part event s t (Done maintain.Through) e still its = record { begins = tt; knows = record { entered = its.entered; taken = λ other. its.taken; end = its.end; seek = λ other. its.seek } }
 maintain_part event s t (Done maintain.Spent) e still its = ends event Maintains s t _ its
-maintain_part event s t (Done maintain.Broken) e still its = ends event Maintains s (record t { is_broken = true }) _ (record { entered = its.entered; taken = its.taken; end = its.end; seek = its.seek })
+maintain_part event s t (Done maintain.Broken) e still its = ends event Maintains s (record t { is_broken = true; rests = false }) _ (record { entered = its.entered; taken = its.taken; end = its.end; seek = its.seek })
 maintain_part event s t ask e still its = remains event Maintains s t e still its
 
 -- what the phase calls for
@@ -142,7 +142,16 @@ part_part p s c reply said granted says e in_hand = over s reply granted
 phase_part : (p : Places) (s : KeeperState) (found : Option Commit) (reply : ℕ) (granted : Bool) → s.step ≡ LoadsPhase → s.commit ≡ found → IsPart (Replies reply granted) LoadsPhase s (phase_ledto p s found (phase_said reply) granted)
 unfolding phase_ledto
 phase_part p s None reply granted e in_hand = over s reply granted
-phase_part p s (Some c) reply granted e in_hand = part_part p s c reply (phase_said reply) granted refl e in_hand
+phase_part p s (Some c) reply granted e in_hand = by s.rests refl granted
+  where
+    by : (rests : Bool) → s.rests ≡ rests → (granted : Bool) → IsPart (Replies reply granted) LoadsPhase s (if rests then writes_taken_up s granted else part_begun p s c (phase_said reply) granted)
+    by true rests true = record {
+      begins = inr (inr (record { loads = e; rests = rests; reply = reply; let_on = refl; awake = refl; same = refl }));
+      knows = record { entered = refl; taken = λ other. refl; end = λ was is before after. same_end s s refl was is before after; seek = λ other. refl };
+    }
+    by true rests false =
+        ends (Replies reply false) LoadsPhase s (record s { is_granted = false }) _ (record { entered = refl; taken = refl; end = λ was is before after. same_end s s refl was is before after; seek = refl })
+    by false awake granted = part_part p s c reply (phase_said reply) granted refl e in_hand
 
 enter_part : (s : KeeperState) (reply : ℕ) (granted : Bool) (t : KeeperState) (ask : Ask EnterAnswer) → s.step ≡ Enters → t.step ≡ Enters → enter_ask (enter_next s.enter reply) ≡ ask
     → t.commit ≡ s.commit → t.has_entered ≡ s.has_entered → t.has_points ≡ s.has_points → t.seek ≡ s.seek → IsPart (Replies reply granted) Enters s (enter_ledto t ask)
@@ -190,7 +199,7 @@ begun_part : (shape : Shape) (s : KeeperState) (reply : ℕ) (granted : Bool) (t
     → IsPart (Replies reply granted) Waits s (writes_begun shape t found)
 begun_part shape s reply granted t None e flushed its = ends (Replies reply granted) Waits s t _ its
 begun_part shape s reply granted t (Some c) e flushed its = record {
-  begins = inr (record { waits = e; reply = reply; granted = granted; replied = refl; flushed = flushed });
+  begins = inr (inl (record { waits = e; reply = reply; granted = granted; replied = refl; flushed = flushed }));
   knows = record { entered = its.entered; taken = λ other. its.taken; end = its.end; seek = λ other. its.seek };
 }
 
@@ -212,14 +221,19 @@ write_part s bytes (Some c) write.Written e in_hand answers = record {
   knows = record { entered = refl; taken = λ other. refl; end = λ was is before after. same_end s s refl was is before after; seek = λ other. refl };
 }
 write_part s bytes (Some c) write.Device e in_hand answers =
-    remains (Calls true bytes) Writes s (record s { writes = commit_next s.writes true }) e e (record { entered = refl; taken = refl; end = λ was is before after. same_end s s refl was is before after; seek = refl })
+    either (must_rest t) (Calls true bytes) Writes s _ _
+    (λ rests. ends (Calls true bytes) Writes s (record t { rests = true }) _ (record { entered = refl; taken = refl; end = λ was is before after. same_end s s refl was is before after; seek = refl }))
+    (λ awake. remains (Calls true bytes) Writes s t e e (record { entered = refl; taken = refl; end = λ was is before after. same_end s s refl was is before after; seek = refl }))
+  where
+    t : KeeperState
+    t = record s { writes = commit_next s.writes true }
 write_part s bytes (Some c) (write.Broken why) e in_hand answers =
     remains (Calls true bytes) Writes s (record s { writes = commit_next s.writes true }) e e (record { entered = refl; taken = refl; end = λ was is before after. same_end s s refl was is before after; seek = refl })
 
 call_part : (s : KeeperState) (done : Bool) (bytes : List ℕ) → s.step ≡ Writes → IsPart (Calls done bytes) Writes s (writes_called s done)
 call_part s true bytes e = write_part s bytes s.commit (commit_answer (commit_next s.writes true)) e refl refl
 call_part s false bytes e =
-    ends (Calls false bytes) Writes s (record s { writes = commit_next s.writes false; is_broken = true }) _ (record { entered = refl; taken = refl; end = λ was is before after. same_end s s refl was is before after; seek = refl })
+    ends (Calls false bytes) Writes s (record s { writes = commit_next s.writes false; is_broken = true; rests = false }) _ (record { entered = refl; taken = refl; end = λ was is before after. same_end s s refl was is before after; seek = refl })
 
 -- the commit is finished
 finished_part : (s : KeeperState) (reply : ℕ) (granted : Bool) (found : Option Commit) → IsPart (Replies reply granted) Finishes s (finished (record s { finish = finish_next s.finish reply }) found)
@@ -270,7 +284,8 @@ turn_part s its =
 commit_part : (s : KeeperState) (kind : CommitKind) (its : KeeperTold) → IsPart (BeginsCommit kind) (Ended its) s (commit_asked s kind)
 commit_part s kind its =
     either s.is_broken (BeginsCommit kind) (Ended its) s _ _ (λ broken. ends (BeginsCommit kind) (Ended its) s s _ (record { entered = refl; taken = refl; end = same_end s s refl; seek = refl }))
-    (λ works. record { begins = inr (record { kind = kind; asked = refl; start = refl }); knows = record { entered = refl; taken = λ other. refl; end = λ was is before after. same_end s s refl was is before after; seek = λ other. refl } })
+    (λ works. either s.rests (BeginsCommit kind) (Ended its) s _ _ (λ rests. ends (BeginsCommit kind) (Ended its) s s _ (record { entered = refl; taken = refl; end = same_end s s refl; seek = refl }))
+    (λ awake. record { begins = inr (record { kind = kind; asked = refl; start = refl }); knows = record { entered = refl; taken = λ other. refl; end = λ was is before after. same_end s s refl was is before after; seek = λ other. refl } }))
 
 happens_part : (shape : Shape) (p : Places) (s : KeeperState) (step : Keeping) (event : KeeperEvent) → s.step ≡ step → IsPart event step s (happens_at shape p s step event)
 happens_part shape p s (Ended its) BeginsTurn e = turn_part s its

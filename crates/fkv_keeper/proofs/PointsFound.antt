@@ -1,6 +1,6 @@
 -- The points, the end and the epoch of the commit in hand are those that the search has told which has begun last.
 use Rattle.std.proofs.Common.{◌≡◌, ℕ, ◌∙◌, ◌⊎◌, inl, inr, List, [], ◌∷◌, refl, ap, sym, subst, Bool, true, false, length}
-use Rattle.std.specs.Prelude.{not, ◌+◌, Option, Some, None, ◌==◌, ◌++◌, nat_lt, max, if◌then◌else◌, ⊤}
+use Rattle.std.specs.Prelude.{not, ◌+◌, Option, Some, None, ◌==◌, nat_lt, max, if◌then◌else◌, ⊤}
 use Rattle.fkv_base.specs.declared.numbers.Addr.{Addr}
 use Rattle.fkv_base.specs.declared.numbers.Serial.{Serial}
 use Rattle.fkv_base.specs.declared.numbers.Version.{Version}
@@ -28,7 +28,7 @@ use Rattle.fkv_keeper.specs.Keeping.{KeeperState, start_ledto, seek_ledto, keepi
 use Rattle.fkv_keeper.specs.KeeperRun.{KeeperEvent, Replies, is_in_hand, keeper_happens, keeper_run, IsOpened}
 use Rattle.fkv_keeper.specs.CheckpointLaws.{IsBegun, IsCommitAfter}
 use Rattle.fkv_keeper.specs.PartLaws.{IsSeekBegun, IsWaitBegun, IsPartBegun, undone_by, taken_after, taken_by, SafeEnd, end_of, end_begun, end_taken, end_after, seek_after, Found, found_by, found_after, points_found, found_of, HasFound}
-use Rattle.fkv_keeper.proofs.KeeperRuns.{happens_at, happens_so}
+use Rattle.fkv_keeper.proofs.Happens.{happens_at, happens_so}
 use Rattle.fkv_keeper.proofs.CheckpointMoves.{IsMove, each_move}
 use Rattle.fkv_keeper.proofs.PartMoves.{IsPart, each_part}
 

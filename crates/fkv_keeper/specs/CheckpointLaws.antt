@@ -36,7 +36,7 @@ use Rattle.fkv_keeper.specs.declared.keepers.Keeping.TheVariants.{Ended, Starts,
 use Rattle.fkv_maintain.specs.declared.maintaining.Maintaining.TheVariants.{Claims}
 use Rattle.fkv_maintain.specs.Maintaining.{MaintainState}
 use Rattle.fkv_keeper.specs.LastCommits.{other_area, area_number, gate_opened, slot_written}
-use Rattle.fkv_keeper.specs.Keeping.{KeeperState, is_copy_resting, copy_driven, lost_left, keeper_ask}
+use Rattle.fkv_keeper.specs.Keeping.{KeeperState, come_to, is_copy_resting, copy_driven, lost_left, keeper_ask}
 use Rattle.fkv_keeper.specs.KeeperRun.{KeeperEvent, BeginsCommit, Replies, keeper_run, Writing}
 
 -- the replies to the copy that began last, the newest first; one that rests is taken up
@@ -101,7 +101,7 @@ IsBeforeWrites step = ⊤
 -- Where the device works, and the writes of a full commit that counts as copied have not begun, its finished copy is in hand.
 abbrev pub HoldsCopy : Places → List ℕ → KeeperState → Type 0
 HoldsCopy p replies s =
-    (c : Commit) → s.commit ≡ Some c → c.kind ≡ Full → c.is_copied ≡ true → s.is_broken ≡ false → IsBeforeWrites s.step → HasCopied p replies s.copy
+    (c : Commit) → s.commit ≡ Some c → c.kind ≡ Full → c.is_copied ≡ true → s.is_broken ≡ false → IsBeforeWrites (come_to s) → HasCopied p replies s.copy
 
 -- A full commit writes the triples of its finished copy into the area that the newest finished commit's checkpoint doesn't use. They are its
 -- checkpoint, which has the commit's own number and first address, and its slot names no lost range.
@@ -278,9 +278,15 @@ abbrev pub IsPhaseLoaded : Keeping → KeeperEvent → Type 0
 IsPhaseLoaded LoadsPhase (Replies reply granted) = ⊤
 IsPhaseLoaded step event = ⊥
 
--- One thing for the commit in a turn.
+-- writes that rest are taken up where the phase is loaded, and else steps follow as they may
+abbrev pub MayStep : Bool → Keeping → Keeping → Type 0
+MayStep true LoadsPhase Writes = ⊤
+MayStep rests step after = MayFollow step after
+
+-- One thing for the commit in a turn. To where its writes rest, and to the turns there, the same applies as to the writes.
 pub record DoesOneThing (s : KeeperState) (event : KeeperEvent) (a : KeeperState) : Type 0 where
-  pub follows : MayFollow s.step a.step
+  pub follows : MayFollow (come_to s) (come_to a)
+  pub steps : MayStep s.rests s.step a.step
   pub once : IsPhaseLoaded s.step event → a.step ≡ LoadsPhase → ⊥
 
 -- Which words a step may change: no step but a finish changes a session's durable word, and of a session only what its mailbox tells.

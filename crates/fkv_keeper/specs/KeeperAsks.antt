@@ -7,7 +7,7 @@ use Rattle.fkv_disk.specs.Bytes.{bytes_at}
 use Rattle.fkv_disk.specs.Asks.{AskedCall, Reads, first_asked, calls_by, count_by, kinds_by}
 use Rattle.fkv_disk.specs.Calls.{Call}
 use Rattle.fkv_disk.specs.Device.{HasCause, MakesCalls}
-use Rattle.fkv_disk.specs.Kinds.{Kind}
+use Rattle.fkv_disk.specs.Kinds.{Kind, Foretold}
 use Rattle.fkv_plane.specs.declared.asks.Ask.{Ask}
 use Rattle.fkv_plane.specs.declared.asks.Ask.TheVariants.{Done}
 use Rattle.fkv_plane.specs.declared.places.Places.{Places}
@@ -67,21 +67,22 @@ keeper_due k = keeping_due k.shape k.state k.state.step
 abbrev pub keeper_read : KeeperModel → List ℕ → List ℕ
 keeper_read k seen = bytes_at seen (mail_place k.shape k.state.maintain.serving) 24
 
--- A step at the device: it was called, and what the device counts and refuses says with what result; by this the keeper went on. An honest
--- device took what the keeper writes, and gave what it reads as.
-pub record IsDeviceStep (k : KeeperModel) (honest : Type 0) (failed failed' : ℕ) (refuses refuses' : ℕ → Bool) (seen seen' : List ℕ) (may_leave may_leave' : List ℕ → Type 0) (next : KeeperModel) : Type 0 where
+-- A step at the device: it was called, and what the device counts and refuses says with what result; by this the keeper went on. Any device has
+-- met the call that is due, with its place and bytes and this outcome, and no other one. An honest device took what the keeper writes, and gave
+-- what it reads as.
+pub record IsDeviceStep (k : KeeperModel) (honest : Type 0) (failed failed' : ℕ) (refuses refuses' : ℕ → Bool) (expects expects' : List Kind → Foretold) (seen seen' : List ℕ) (may_leave may_leave' : List ℕ → Type 0) (next : KeeperModel) : Type 0 where
   pub called : Result (Ask KeeperTold) Fault
   pub bytes : List ℕ
   pub went_on : next ≡ record k { state = keeper_called k.shape k.places k.state (is_ok called) bytes }
   pub cause : HasCause failed failed' called
   pub counted : MakesCalls (keeper_made k.places k.state) refuses refuses' called
+  pub kind : expects' ≡ kinds_by (keeper_due k) (is_ok called) expects
   pub read : honest → next ≡ record k { state = keeper_called k.shape k.places k.state (is_ok called) (keeper_read k seen) }
   pub wrote : honest → Adds (keeper_calls k.shape k.state (is_ok called)) seen seen' may_leave may_leave'
 
--- What a step makes of the device is the call that is due, and nothing else. Any device has met a call of this kind. The calls that the step
--- counts, and those that it writes and syncs, are this one, and what it reads of a device is what this one reads.
-pub record MakesDue (k : KeeperModel) (expects expects' : List Kind → Bool) : Type 0 where
-  pub kind : expects' ≡ kinds_by (keeper_due k) expects
+-- What a step makes of the device is the call that is due, and nothing else. The calls that the step counts, and those that it writes and syncs, are
+-- this one, and what it reads of a device is what this one reads.
+pub record MakesDue (k : KeeperModel) : Type 0 where
   pub counted : keeper_made k.places k.state ≡ count_by (keeper_due k)
   pub calls : (done : Bool) → keeper_calls k.shape k.state done ≡ calls_by (keeper_due k) done
   pub read : (seen : List ℕ) (at count : ℕ) → keeper_due k ≡ Some (Reads at count) → keeper_read k seen ≡ bytes_at seen at count

@@ -19,7 +19,7 @@ pub data KeeperEvent : Type 0 where
   -- a turn is begun, or a commit of a kind, where no call is in hand
   BeginsTurn : KeeperEvent
   BeginsCommit : CommitKind → KeeperEvent
-  -- its ask is replied to, and whether memory is granted where the reply leads to a copy
+  -- its ask is replied to, and whether memory is granted where the reply leads to a copy, and going on where writes rest
   Replies : ℕ → Bool → KeeperEvent
   -- it gets the action of a drain slot
   Gets : Action → KeeperEvent
@@ -47,10 +47,11 @@ unfoldable pub keeper_run : Shape → Places → KeeperState → List KeeperEven
 keeper_run shape p opening [] = opening
 keeper_run shape p opening (event ∷ before) = keeper_happens shape p (keeper_run shape p opening before) event
 
--- The keeper of a store that was opened: no call and no commit is in hand, and the device has not failed.
+-- The keeper of a store that was opened: no call and no commit is in hand, no writes rest, and the device has not failed.
 pub record IsOpened (s : KeeperState) : Type 0 where
   pub none_in_hand : is_in_hand s.step ≡ false
   pub no_commit : s.commit ≡ None
+  pub none_rest : s.rests ≡ false
   pub works : s.is_broken ≡ false
 
 -- it asks for the device, and the call fails

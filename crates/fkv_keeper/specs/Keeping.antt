@@ -5,6 +5,7 @@ use Rattle.fkv_base.specs.declared.faults.Fault.TheVariants as fault
 use Rattle.fkv_base.specs.declared.numbers.Addr.{Addr}
 use Rattle.fkv_base.specs.declared.numbers.Serial.{Serial}
 use Rattle.fkv_base.specs.declared.numbers.Version.{Version}
+use Rattle.fkv_base.specs.Limits.{is_specified}
 use Rattle.fkv_base.specs.declared.phases.Phase.TheVariants as phase
 use Rattle.fkv_base.specs.declared.shapes.Shape.{Shape}
 use Rattle.fkv_words.specs.declared.phase_words.PhaseSaid.{PhaseSaid}
@@ -42,7 +43,8 @@ use Rattle.fkv_commit.specs.Starting.{StartState, start_begun, start_ask, start_
 use Rattle.fkv_commit.specs.Waiting.{WaitState, wait_begun, wait_ask, wait_next}
 use Rattle.fkv_manifest.specs.declared.answers.WriteAnswer.{WriteAnswer}
 use Rattle.fkv_manifest.specs.declared.answers.WriteAnswer.TheVariants as write
-use Rattle.fkv_manifest.specs.Committing.{CommitWriter, commit_start, commit_next, commit_answer}
+use Rattle.fkv_disk.specs.Calls.{Call, Sync}
+use Rattle.fkv_manifest.specs.Committing.{CommitWriter, commit_start, commit_next, commit_answer, commit_call}
 use Rattle.fkv_manifest.specs.Gating.{GateWriter, gate_start}
 use Rattle.fkv_keeper.specs.declared.answers.KeeperTold.{KeeperTold}
 use Rattle.fkv_keeper.specs.declared.answers.KeeperTold.TheVariants.{Device, Turned, TurnRefused, Begun, CommitRefused}
@@ -52,7 +54,7 @@ use Rattle.fkv_keeper.specs.declared.last_commits.Checkpoint.{Checkpoint}
 use Rattle.fkv_maintain.specs.declared.maintaining.MaintainAnswer.{MaintainAnswer}
 use Rattle.fkv_maintain.specs.declared.maintaining.MaintainAnswer.TheVariants as maintain
 use Rattle.fkv_keeper.specs.LastCommits.{other_area, area_number, is_gate_open, gate_opened, slot_place, slot_written}
-use Rattle.fkv_maintain.specs.Maintaining.{MaintainState, maintain_begun, maintain_ask, maintain_next, maintain_given, maintain_called, maintain_word_due}
+use Rattle.fkv_maintain.specs.Maintaining.{MaintainState, maintain_begun, maintain_serving, maintain_ask, maintain_next, maintain_given, maintain_called, maintain_word_due}
 
 -- a finished commit
 pub record Finality : Type 0 where
@@ -77,7 +79,7 @@ pub record KeeperState : Type 0 where
   pub has_entered : Bool
   -- its points were taken
   pub has_points : Bool
-  -- the memory that was asked for last was granted
+  -- what was asked for last was granted: memory for a copy, or that writes that rest go on
   pub is_granted : Bool
   -- the device has failed
   pub is_broken : Bool
@@ -85,6 +87,8 @@ pub record KeeperState : Type 0 where
   pub is_drain_full : Bool
   -- a commit was finished since the store was opened
   pub has_finished : Bool
+  -- the writes of the commit in hand rest: no turn is in hand that may go on with them
+  pub rests : Bool
   -- the checkpoint that the commit uses whose writes are under way
   pub used : Checkpoint
   -- the newest finished commit
@@ -147,6 +151,10 @@ keeping_ask shape p s Finishes = passed (finish_ask s.seek.points s.finish) (tur
 abbrev pub keeper_ask : Shape → Places → KeeperState → Ask KeeperTold
 keeper_ask shape p s = keeping_ask shape p s s.step
 
+-- how far the commit in hand has come: where its writes rest that is the writes, whatever call is in hand
+abbrev pub come_to : KeeperState → Keeping
+come_to s = if s.rests then Writes else s.step
+
 abbrev pub ended : KeeperState → KeeperTold → KeeperState
 ended s told = record s { step = Ended told }
 
@@ -162,17 +170,23 @@ turned_full s = ended (record s { is_drain_full = true }) (Turned false true)
 abbrev pub asked_for : KeeperState → CommitKind → StartAsked
 asked_for s kind = record { class = s.start.asked.class; kind = kind; lost = length s.lost; checkpoint = s.last.checkpoint.number }
 
--- a commit begins, of this kind; a device that has failed is never used again
+-- A commit begins, of this kind. A device that has failed is never used again, and where the writes of a commit rest it is running.
 abbrev pub commit_asked : KeeperState → CommitKind → KeeperState
-commit_asked s kind = if s.is_broken then ended s (CommitRefused fault.Broken) else record s { start = start_begun s.start (asked_for s kind); step = Starts }
+commit_asked s kind =
+    if s.is_broken then ended s (CommitRefused fault.Broken)
+    else (if s.rests then ended s (CommitRefused fault.CommitRunning) else record s { start = start_begun s.start (asked_for s kind); step = Starts })
+
+-- a turn begins, and where the writes of a commit rest it only serves
+abbrev pub parts_begun : Bool → MaintainState → MaintainState
+parts_begun rests s = if rests then maintain_serving s else maintain_begun s
 
 abbrev pub turn_asked : KeeperState → KeeperState
-turn_asked s = if s.is_broken then ended s (TurnRefused fault.Broken) else record s { maintain = maintain_begun s.maintain; is_drain_full = false; step = Maintains }
+turn_asked s = if s.is_broken then ended s (TurnRefused fault.Broken) else record s { maintain = parts_begun s.rests s.maintain; is_drain_full = false; step = Maintains }
 
 -- by what the machines inside ask next
 unfoldable pub start_ledto : KeeperState → Ask StartAnswer → KeeperState
 start_ledto s (Done (start.Begun number first)) =
-    ended (record s { commit = Some (commit_begun number s.start.asked.kind first); copy = None; has_entered = false; has_points = false }) (Begun number)
+    ended (record s { commit = Some (commit_begun number s.start.asked.kind first); copy = None; has_entered = false; has_points = false; rests = false }) (Begun number)
 start_ledto s (Done (start.Refused why)) = ended s (CommitRefused why)
 start_ledto s (Done start.Idle) = ended s (CommitRefused fault.CommitRunning)
 start_ledto s ask = s
@@ -185,10 +199,14 @@ word_due_at p s step = None
 abbrev pub keeper_word_due : Places → KeeperState → Option ℕ
 keeper_word_due p s = word_due_at p s s.step
 
+-- the device has failed, and nothing goes on any more
+abbrev pub broken : KeeperState → KeeperState
+broken s = ended (record s { is_broken = true; rests = false }) (TurnRefused fault.Device)
+
 unfoldable pub maintain_ledto : KeeperState → Ask MaintainAnswer → KeeperState
 maintain_ledto s (Done maintain.Through) = record s { is_drain_full = s.maintain.is_drain_full; step = LoadsPhase }
 maintain_ledto s (Done maintain.Spent) = ended s (TurnRefused fault.EpochsSpent)
-maintain_ledto s (Done maintain.Broken) = ended (record s { is_broken = true }) (TurnRefused fault.Device)
+maintain_ledto s (Done maintain.Broken) = broken s
 maintain_ledto s ask = s
 
 -- the copy that a turn goes on with: the one that rests, or else a new one
@@ -211,9 +229,14 @@ part_begun p s c (Says phase.WaitPending version) granted = copies_next p s c gr
 part_begun p s c (Says phase.WaitFlush version) granted = if s.has_points then record s { wait = wait_begun c.end c.epoch; step = Waits } else turned s
 part_begun p s c said granted = turned s
 
+-- writes that rest go on where they are let, and else they rest still
+abbrev pub writes_taken_up : KeeperState → Bool → KeeperState
+writes_taken_up s granted = if granted then record s { rests = false; is_granted = true; step = Writes } else turned (record s { is_granted = false })
+
+-- where writes rest, they are next, whatever the phase is
 unfoldable pub phase_ledto : Places → KeeperState → Option Commit → PhaseSaid → Bool → KeeperState
 phase_ledto p s None said granted = turned s
-phase_ledto p s (Some c) said granted = part_begun p s c said granted
+phase_ledto p s (Some c) said granted = if s.rests then writes_taken_up s granted else part_begun p s c said granted
 
 unfoldable pub enter_ledto : KeeperState → Ask EnterAnswer → KeeperState
 enter_ledto s (Done enter.Entered) = turned (record s { has_entered = true })
@@ -331,7 +354,11 @@ step_may_copy step commit has_entered rests = false
 abbrev pub may_copy : KeeperState → Bool
 may_copy s = step_may_copy s.step s.commit s.has_entered (is_copy_resting s.copy)
 
--- Where the reply leads. Where a copy begins it goes by whether memory was granted for it.
+-- What a step is granted: where writes rest, that they go on, and elsewhere memory for a copy.
+abbrev pub granted_for : KeeperState → Bool → Bool → Bool
+granted_for s has_room goes_on = if s.rests then goes_on else has_room
+
+-- Where the reply leads. Where a copy begins, or writes rest, it goes by what was granted.
 unfoldable pub keeping_next : Shape → Places → KeeperState → Keeping → ℕ → Bool → KeeperState
 keeping_next shape p s (Ended its) reply granted = s
 keeping_next shape p s Starts reply granted = start_ledto (record s { start = start_next s.start reply }) (start_ask (start_next s.start reply))
@@ -355,11 +382,24 @@ keeping_given shape p s step action = s
 abbrev pub keeper_given : Shape → Places → KeeperState → Action → KeeperState
 keeper_given shape p s action = keeping_given shape p s s.step action
 
+-- a call is a sync
+abbrev pub is_sync : Option Call → Bool
+is_sync (Some (Sync done)) = true
+is_sync call = false
+
+-- Before a sync a living store's writes rest. So mailboxes are served while the bytes become durable.
+abbrev pub must_rest : KeeperState → Bool
+must_rest s = not (is_specified s.start.asked.class) && is_sync (commit_call s.writes true)
+
+-- and the turn is over there
+abbrev pub rested : KeeperState → KeeperState
+rested s = if must_rest s then turned (record s { rests = true }) else s
+
 -- behind the last sync the commit finishes
 unfoldable pub write_ledto : KeeperState → Option Commit → WriteAnswer → KeeperState
 write_ledto s None answer = turned s
 write_ledto s (Some c) write.Written = record s { finish = finish_begun s.finish c.number; step = Finishes }
-write_ledto s (Some c) write.Device = s
+write_ledto s (Some c) write.Device = rested s
 write_ledto s (Some c) (write.Broken why) = s
 
 -- where a call of the device leads that a part of every turn makes
@@ -370,7 +410,7 @@ turn_called shape p s done bytes =
 -- where one leads that the writes of a commit make
 abbrev pub writes_called : KeeperState → Bool → KeeperState
 writes_called s true = write_ledto (record s { writes = commit_next s.writes true }) s.commit (commit_answer (commit_next s.writes true))
-writes_called s false = ended (record s { writes = commit_next s.writes false; is_broken = true }) (TurnRefused fault.Device)
+writes_called s false = broken (record s { writes = commit_next s.writes false })
 
 -- where a call of the device leads, whether it succeeded, and what it read
 unfoldable pub keeping_called : Shape → Places → KeeperState → Keeping → Bool → List ℕ → KeeperState

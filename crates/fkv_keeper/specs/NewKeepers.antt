@@ -36,3 +36,4 @@ pub record IsNewKeeper (shape : Shape) (last : Finality) (lost : List LostRange)
   pub none_left_out : k.state.is_drain_full ≡ false
   pub works : k.state.is_broken ≡ false
   pub granted : k.state.is_granted ≡ true
+  pub none_rest : k.state.rests ≡ false

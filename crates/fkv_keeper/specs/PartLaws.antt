@@ -81,6 +81,15 @@ pub record IsWriteBegun (s : KeeperState) (event : KeeperEvent) : Type 0 where
   pub replied : event ≡ Replies reply granted
   pub flushed : wait_ask (wait_next s.wait reply) ≡ Done wait.Flushed
 
+-- The writes that rest are about to go on, as they were.
+pub record IsWriteTakenUp (s : KeeperState) (event : KeeperEvent) (a : KeeperState) : Type 0 where
+  pub loads : s.step ≡ LoadsPhase
+  pub rests : s.rests ≡ true
+  pub reply : ℕ
+  pub let_on : event ≡ Replies reply true
+  pub awake : a.rests ≡ false
+  pub same : a ≡ record s { rests = false; is_granted = true; step = Writes }
+
 -- The commit in hand is about to be finished: a call of its writes has succeeded, and they are written.
 pub record IsFinishBegun (s : KeeperState) (event : KeeperEvent) (a : KeeperState) : Type 0 where
   pub writes : s.step ≡ Writes
@@ -97,7 +106,7 @@ IsPartBegun Starts s event a = (s.step ≡ Starts) ⊎ IsStartBegun s event a
 IsPartBegun Enters s event a = (s.step ≡ Enters) ⊎ IsEnterBegun s event a
 IsPartBegun Seeks s event a = (s.step ≡ Seeks) ⊎ IsSeekBegun s event a
 IsPartBegun Waits s event a = (s.step ≡ Waits) ⊎ IsWaitBegun s event a
-IsPartBegun Writes s event a = (s.step ≡ Writes) ⊎ IsWriteBegun s event
+IsPartBegun Writes s event a = (s.step ≡ Writes) ⊎ (IsWriteBegun s event ⊎ IsWriteTakenUp s event a)
 IsPartBegun Finishes s event a = (s.step ≡ Finishes) ⊎ IsFinishBegun s event a
 IsPartBegun step s event a = ⊤
 

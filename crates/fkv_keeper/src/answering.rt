@@ -64,8 +64,8 @@ impl Keeper {
     /// Makes the one call of the device that it asks for, which is the one that `device_ask` tells. Where it asks for none it makes none, and stays where it is. Where the
     /// device fails the turn ends with `Device`, and no call of the device is ever made again.
     pub fn device_step<D: Device>(&mut self, d: &mut D) -> KeeperAsk
-        ensures step { IsDeviceStep self.old (D.honest d.old) (D.failed d.old) (D.failed d.new) (D.refuses d.old) (D.refuses d.new) (D.seen d.old) (D.seen d.new) (D.may_leave d.old) (D.may_leave d.new) self.new }
-        ensures due { MakesDue self.old (D.expects d.old) (D.expects d.new) }
+        ensures step { IsDeviceStep self.old (D.honest d.old) (D.failed d.old) (D.failed d.new) (D.refuses d.old) (D.refuses d.new) (D.expects d.old) (D.expects d.new) (D.seen d.old) (D.seen d.new) (D.may_leave d.old) (D.may_leave d.new) self.new }
+        ensures due { MakesDue self.old }
         ensures asked { keeper_made self.old.places self.old.state ≡ keeper_calls_asked (keeper_ask self.old.shape self.old.places self.old.state) }
         ensures ask { IsAsked self.new.state.last (keeper_ask self.old.shape self.old.places self.new.state) result }
         ensures fewer { keeper_ask self.old.shape self.old.places self.old.state ≡ Done AtDevice → keeper_asks_left self.old.shape self.old.places self.new.state < keeper_asks_left self.old.shape self.old.places self.old.state }

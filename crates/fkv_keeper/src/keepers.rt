@@ -14,7 +14,7 @@ ghost use Rattle.fkv_keeper.specs.declared.answers.KeeperTold.TheVariants.{Devic
 ghost use Rattle.fkv_disk.specs.Device.{Elapses, HasCause, MakesCalls};
 ghost use Rattle.fkv_flush.specs.Devices.{Adds};
 ghost use Rattle.fkv_keeper.specs.KeeperAsks.{IsBusyWhereLeft, keeper_asks_left, most_begin_asks, most_turn_asks, keeper_calls, keeper_calls_asked, keeper_due, keeper_made, keeper_read};
-ghost use Rattle.fkv_keeper.specs.Keeping.{commit_asked, turn_asked, keeper_ask, keeper_next, keeper_given, keeper_called, may_copy, turn_called, writes_called, keeper_word_due};
+ghost use Rattle.fkv_keeper.specs.Keeping.{commit_asked, turn_asked, keeper_ask, keeper_next, keeper_given, keeper_called, granted_for, may_copy, turn_called, writes_called, keeper_word_due};
 ghost use Rattle.fkv_keeper.specs.KeeperRun.{IsOpened};
 ghost use Rattle.fkv_keeper.specs.NewKeepers.{IsNewKeeper};
 ghost use Rattle.fkv_keeper.specs.declared.keepers.Keeping.TheVariants.{Ended, Maintains};
@@ -88,6 +88,8 @@ pub struct Keeper {
     pub(crate) is_broken: bool,
     pub(crate) is_drain_full: bool,
     pub(crate) has_finished: bool,
+    /// The writes of the commit in hand rest: the turn ended before a sync.
+    pub(crate) rests: bool,
     pub(crate) used: Checkpoint,
     pub(crate) last: LastCommit,
     pub(crate) lost: ArrayVec<LostRange, MAX_LOST_IN_HAND>,
@@ -101,7 +103,7 @@ impl Model for Keeper {
 
     ghost Value = { KeeperModel };
 
-    ghost view = { λ m. record { shape = m.shape; places = m.places; state = record { maintain = m.maintain.state; start = m.start; enter = m.enter; copy = m.copy; seek = m.seek; wait = m.wait; writes = m.writes; finish = m.finish; commit = m.commit; has_entered = m.has_entered; has_points = m.has_points; is_granted = m.is_granted; is_broken = m.is_broken; is_drain_full = m.is_drain_full; has_finished = m.has_finished; used = m.used; last = record { number = m.last.number; points = m.last.points.items; checkpoint = m.last.checkpoint; gates = m.last.gates }; lost = m.lost.items; step = m.step } } };
+    ghost view = { λ m. record { shape = m.shape; places = m.places; state = record { maintain = m.maintain.state; start = m.start; enter = m.enter; copy = m.copy; seek = m.seek; wait = m.wait; writes = m.writes; finish = m.finish; commit = m.commit; has_entered = m.has_entered; has_points = m.has_points; is_granted = m.is_granted; is_broken = m.is_broken; is_drain_full = m.is_drain_full; has_finished = m.has_finished; rests = m.rests; used = m.used; last = record { number = m.last.number; points = m.last.points.items; checkpoint = m.last.checkpoint; gates = m.last.gates }; lost = m.lost.items; step = m.step } } };
 
     ghost invariant = { λ m. (m.maintain.shape ≡ m.shape) × (m.maintain.places ≡ m.places) × (m.seek.sessions ≡ m.shape.sessions) × (m.finish.sessions ≡ m.shape.sessions) × IsRoomFor m.places m.room };
 }
@@ -142,6 +144,7 @@ impl Keeper {
             is_broken: false,
             is_drain_full: false,
             has_finished: false,
+            rests: false,
             used,
             last,
             lost,
@@ -149,7 +152,7 @@ impl Keeper {
         })
     }
 
-    /// Begins a commit and gives its first ask, or its refusal where there is none.
+    /// Begins a commit and gives its first ask, or its refusal where there is none. While the writes of a commit rest none begins.
     #[tactic(auto, unfolding(crate::specs::Keeping::keeping_ask))]
     pub fn begin_commit(&mut self, kind: CommitKind) -> Ask<KeeperTold>
         ensures next { self.new ≡ record self.old { state = commit_asked self.old.state kind } }
@@ -159,6 +162,8 @@ impl Keeper {
     {
         if self.is_broken {
             self.step = Keeping::Ended(KeeperTold::CommitRefused(Fault::Broken));
+        } else if self.rests {
+            self.step = Keeping::Ended(KeeperTold::CommitRefused(Fault::CommitRunning));
         } else {
             self.start.start(StartAsked {
                 class: self.start.class(),
@@ -171,7 +176,7 @@ impl Keeper {
         self.ask()
     }
 
-    /// Begins a turn and gives its first ask, or its refusal where there is none.
+    /// Begins a turn and gives its first ask, or its refusal where there is none. While the writes of a commit rest it only serves.
     #[tactic(auto, unfolding(crate::specs::Keeping::keeping_ask))]
     pub fn begin_turn(&mut self) -> Ask<KeeperTold>
         ensures next { self.new ≡ record self.old { state = turn_asked self.old.state } }
@@ -183,14 +188,14 @@ impl Keeper {
             self.step = Keeping::Ended(KeeperTold::TurnRefused(Fault::Broken));
         } else {
             self.is_drain_full = false;
-            self.maintain.start();
+            self.begins_parts();
             self.step = Keeping::Maintains;
         }
         self.ask()
     }
 
     /// Goes on with the reply to its ask. At a call's end, and where it needs the device, it stays where it is. Memory for a copy that
-    /// the step may begin is asked for first.
+    /// the step may begin is asked for first. Writes that rest go on.
     #[tactic(auto, using(crate::proofs::Granted::is_granted_so))]
     pub fn go_on(&mut self, reply: u64) -> Ask<KeeperTold>
         ensures next { self.new ≡ record self.old { state = keeper_next self.old.shape self.old.places self.old.state reply self.new.state.is_granted } }
@@ -199,7 +204,7 @@ impl Keeper {
         ensures fewer { is_done (keeper_ask self.old.shape self.old.places self.old.state) ≡ false → takes_action (keeper_ask self.old.shape self.old.places self.old.state) ≡ false → keeper_asks_left self.old.shape self.old.places self.new.state < keeper_asks_left self.old.shape self.old.places self.old.state }
     {
         let room = self.room();
-        self.go_on_with(reply, room)
+        self.go_on_with(reply, room, true)
     }
 
     /// Memory for the copy of the index that its next step may begin: where it loads the phase, wait-pending is deferred, the commit in
@@ -236,11 +241,17 @@ impl Keeper {
     }
 
     /// Goes on as `go_on` does, and a copy begins in this room, which `room` has given. Where none begins the room is kept; where one
-    /// is to begin and there is no room, the turn ends with `Memory`. A copy that rests takes none.
+    /// is to begin and there is no room, the turn ends with `Memory`. A copy that rests takes none. Writes that rest go on where the caller
+    /// says so.
     #[tactic(auto, using(fkv_commit::proofs::Shown::seek_keeps), unfolding(crate::specs::Keeping::keeping_next))]
-    pub fn go_on_with(&mut self, reply: u64, room: Option<CopyRoom>) -> Ask<KeeperTold>
+    pub fn go_on_with(
+        &mut self,
+        reply: u64,
+        room: Option<CopyRoom>,
+        goes_on: bool,
+    ) -> Ask<KeeperTold>
         requires { IsRoomFor self.old.places room }
-        ensures next { self.new ≡ record self.old { state = keeper_next self.old.shape self.old.places self.old.state reply (is_some room) } }
+        ensures next { self.new ≡ record self.old { state = keeper_next self.old.shape self.old.places self.old.state reply (granted_for self.old.state (is_some room) goes_on) } }
         ensures ask { result ≡ keeper_ask self.old.shape self.old.places self.new.state }
         ensures left { IsBusyWhereLeft (keeper_asks_left self.old.shape self.old.places self.new.state) result }
         ensures fewer { is_done (keeper_ask self.old.shape self.old.places self.old.state) ≡ false → takes_action (keeper_ask self.old.shape self.old.places self.old.state) ≡ false → keeper_asks_left self.old.shape self.old.places self.new.state < keeper_asks_left self.old.shape self.old.places self.old.state }
@@ -252,7 +263,7 @@ impl Keeper {
                 self.after_start(ask);
             }
             Keeping::Maintains => return self.go_on_maintaining(reply),
-            Keeping::LoadsPhase => self.after_phase(phase_said(reply), room),
+            Keeping::LoadsPhase => self.after_phase(phase_said(reply), room, goes_on),
             Keeping::Enters => {
                 let ask = self.enter.drive(reply);
                 self.after_enter(ask);
@@ -275,6 +286,14 @@ impl Keeper {
             }
         }
         self.ask()
+    }
+
+    /// Whether the writes of the commit in hand rest: then the turn ended before a sync, and the next one only serves, up to where it
+    /// is let go on.
+    pub fn rests(&self) -> bool
+        ensures { result ≡ self.now.state.rests }
+    {
+        self.rests
     }
 
     /// Goes on with what every turn does. What that asks is passed on at once, and not asked for again.
@@ -340,7 +359,7 @@ impl Keeper {
         ensures none { OnErr result (keeper_asks_left self.old.shape self.old.places self.new.state ≡ 0) }
         ensures cause { HasCause (D.failed d.old) (D.failed d.new) result }
         ensures counted { MakesCalls (keeper_made self.old.places self.old.state) (D.refuses d.old) (D.refuses d.new) result }
-        ensures kind { D.expects d.new ≡ kinds_by (keeper_due self.old) (D.expects d.old) }
+        ensures kind { D.expects d.new ≡ kinds_by (keeper_due self.old) (is_ok result) (D.expects d.old) }
         ensures asked { keeper_made self.old.places self.old.state ≡ keeper_calls_asked (keeper_ask self.old.shape self.old.places self.old.state) }
         ensures honest { D.honest d.old ↔ D.honest d.new }
         ensures read { D.honest d.old → self.new ≡ record self.old { state = keeper_called self.old.shape self.old.places self.old.state (is_ok result) (keeper_read self.old (D.seen d.old)) } }
@@ -362,7 +381,7 @@ impl Keeper {
         ensures refused { OnErr result (self.new.state.step ≡ Ended (TurnRefused Failed)) }
         ensures cause { HasCause (D.failed d.old) (D.failed d.new) result }
         ensures counted { MakesCalls (maintain_made self.old.places self.old.state.maintain) (D.refuses d.old) (D.refuses d.new) result }
-        ensures kind { D.expects d.new ≡ kinds_by (maintain_asked self.old.shape self.old.state.maintain) (D.expects d.old) }
+        ensures kind { D.expects d.new ≡ kinds_by (maintain_asked self.old.shape self.old.state.maintain) (is_ok result) (D.expects d.old) }
         ensures honest { D.honest d.old ↔ D.honest d.new }
         ensures read { D.honest d.old → self.new ≡ record self.old { state = turn_called self.old.shape self.old.places self.old.state (is_ok result) (keeper_read self.old (D.seen d.old)) } }
         ensures calls { D.honest d.old → Adds (maintain_calls self.old.shape self.old.state.maintain (is_ok result)) (D.seen d.old) (D.seen d.new) (D.may_leave d.old) (D.may_leave d.new) }
@@ -384,7 +403,7 @@ impl Keeper {
         ensures refused { OnErr result (self.new.state.step ≡ Ended (TurnRefused Failed)) }
         ensures cause { HasCause (D.failed d.old) (D.failed d.new) result }
         ensures counted { MakesCalls (calls_next (commit_answer self.old.state.writes)) (D.refuses d.old) (D.refuses d.new) result }
-        ensures kind { D.expects d.new ≡ kinds_by (first_asked (with_call (commit_call self.old.state.writes true) [])) (D.expects d.old) }
+        ensures kind { D.expects d.new ≡ kinds_by (first_asked (with_call (commit_call self.old.state.writes true) [])) (is_ok result) (D.expects d.old) }
         ensures honest { D.honest d.old ↔ D.honest d.new }
         ensures calls { D.honest d.old → Adds (with_call (commit_call self.old.state.writes (is_ok result)) []) (D.seen d.old) (D.seen d.new) (D.may_leave d.old) (D.may_leave d.new) }
         ensures time { D.honest d.old → Elapses (D.moment d.old) (D.moment d.new) (D.left_since d.old) (D.left_since d.new) (D.may_leave d.new) }

@@ -7,8 +7,8 @@ ghost use Rattle.fkv_keeper.specs.declared.answers.KeeperTold.TheVariants.{Commi
 ghost use Rattle.fkv_keeper.specs.declared.keepers.Keeping.TheVariants.{Ended, Finishes, Waits, Writes};
 ghost use Rattle.fkv_keeper.specs.CheckpointLaws.{AreWritesBegun, ChangesItsWords, CopiesOnce, DoesOneThing, HoldsCopy, IsBehindWait, IsBeingWritten, KeepsLists, SparesDurable, begun_with, copy_replies};
 ghost use Rattle.fkv_keeper.specs.KeeperAsks.{keeper_asks_left};
-ghost use Rattle.fkv_keeper.specs.Keeping.{KeeperState};
-ghost use Rattle.fkv_keeper.specs.KeeperLaws.{CopiesAgain, IsBrokenForGood, IsFinishOfBegun, IsMemoryRefused, IsWritten};
+ghost use Rattle.fkv_keeper.specs.Keeping.{KeeperState, come_to};
+ghost use Rattle.fkv_keeper.specs.KeeperLaws.{CopiesAgain, IsBrokenForGood, IsFinishOfBegun, IsMemoryRefused, IsResting, IsWritten};
 ghost use Rattle.fkv_keeper.specs.PartLaws.{HasFound, IsPartBegun, KnowsParts, points_found};
 ghost use Rattle.fkv_keeper.specs.DrainLaws.{HasSoughtAll, call_told};
 ghost use Rattle.fkv_keeper.specs.SlotLaws.{CommitHasRoom, IsSlotWhole};
@@ -16,7 +16,8 @@ ghost use Rattle.fkv_keeper.specs.KeeperRun.{IsOpened, KeeperEvent, has_failed, 
 
 /// Whatever turns and commits are begun, and whatever the replies, the actions and the answers of the device are: once a call of the
 /// device has failed, nothing is asked any more, and each turn and each commit is refused as broken. The durable words and rest are
-/// stored only where all writes of the commit in hand have succeeded, to the last sync. Where memory is refused the turn ends and
+/// stored only where all writes of the commit in hand have succeeded, to the last sync. Writes rest only in a living store, before a sync, and
+/// a turn only serves there: what was written so far is the commit's. Where memory is refused the turn ends and
 /// nothing else changes, so the commit isn't copied still; the next turn keeps it up to its part for it, where the copy begins again. Memory is refused only where no
 /// copy rests: one that rests is taken up there as it is. A commit that is told as finished has the number that was told as begun last,
 /// and no number is told as finished again without being told as begun again. With no asks left, in a store that has buckets, no call is in hand.
@@ -27,6 +28,9 @@ pub fn law_of_the_keeper()
     ensures finished { (shape : Shape) (p : Places) (opening : KeeperState) (events : List KeeperEvent) → IsOpened opening
         → (keeper_run shape p opening events).step ≡ Finishes
         → IsWritten shape (keeper_run shape p opening events) (writing shape p opening events) }
+    ensures rests { (shape : Shape) (p : Places) (opening : KeeperState) (events : List KeeperEvent) → IsOpened opening
+        → (keeper_run shape p opening events).rests ≡ true
+        → IsResting shape (keeper_run shape p opening events) (writing shape p opening events) }
     ensures memory { (shape : Shape) (p : Places) (opening : KeeperState) (events : List KeeperEvent) (event : KeeperEvent) → IsOpened opening
         → is_calling (keeper_run shape p opening events).step event ≡ true
         → (keeper_run shape p opening (event ∷ events)).step ≡ Ended (TurnRefused Memory)
@@ -57,7 +61,7 @@ pub fn law_of_checkpoints()
         → (keeper_run shape p opening (event ∷ events)).step ≡ Writes
         → AreWritesBegun shape p (copy_replies shape p opening events) (begun_with shape p opening events) (keeper_run shape p opening events) (keeper_run shape p opening (event ∷ events)) }
     ensures used { (shape : Shape) (p : Places) (opening : KeeperState) (events : List KeeperEvent) → IsOpened opening
-        → IsBehindWait (keeper_run shape p opening events).step
+        → IsBehindWait (come_to (keeper_run shape p opening events))
         → IsBeingWritten p (copy_replies shape p opening events) (begun_with shape p opening events) (writing shape p opening events) (keeper_run shape p opening events) }
     ensures copies { (shape : Shape) (p : Places) (s : KeeperState) (event : KeeperEvent) → CopiesOnce p s event (keeper_happens shape p s event) }
     ensures lists { (shape : Shape) (p : Places) (s : KeeperState) (event : KeeperEvent) → KeepsLists s (keeper_happens shape p s event) }
@@ -70,10 +74,10 @@ pub fn law_of_checkpoints()
 
 /// From whatever state and by whatever event: each part of a commit begins only where the phase calls for it, or the part before it has
 /// come to it, and for the commit in hand: its number, and its end and epoch, go into the machine of the part. Wait-pending is deferred
-/// once for a commit. What is known of the commit in hand, that wait-pending is deferred, that its points are taken, and its end and
-/// epoch, is what its parts have told; and where a search for points begins, none count as taken. So in a run the points that count as
-/// taken, as they do in the wait, are those that the search has found that has begun last, for the commit's own number, and its end and
-/// epoch are those that this search has told.
+/// once for a commit. Writes that rest go on where they are let. What is known of the commit in hand, that wait-pending is deferred, that
+/// its points are taken, and its end and epoch, is what its parts have told; and where a search for points begins, none count as taken. So
+/// in a run the points that count as taken, as they do in the wait, are those that the search has found that has begun last, for the
+/// commit's own number, and its end and epoch are those that this search has told.
 pub fn law_of_parts()
     ensures begins { (shape : Shape) (p : Places) (s : KeeperState) (event : KeeperEvent) → let a = keeper_happens shape p s event in IsPartBegun a.step s event a }
     ensures knows { (shape : Shape) (p : Places) (s : KeeperState) (event : KeeperEvent) → KnowsParts event s.step s (keeper_happens shape p s event) }

@@ -5,15 +5,13 @@ ghost use Rattle.fkv_disk.specs.Asks.{asked_call, first_asked};
 ghost use Rattle.fkv_manifest.specs.Committing.{commit_answer};
 ghost use Rattle.fkv_manifest.specs.Devices.{next_made};
 ghost use Rattle.fkv_manifest.specs.Made.{with_call};
-ghost use Rattle.fkv_base.specs.declared.faults.Fault.TheVariants as fault;
-ghost use Rattle.fkv_keeper.specs.Keeping.{device_passed, end_told, write_asked, copy_asked, copy_driven, copy_told, is_copy_resting, points_known, ended, turned, turned_full, start_ledto, maintain_ledto, phase_ledto, part_begun, copies_next, copies, enter_ledto, copy_ledto, seek_ledto, wait_ledto, writes_begun, gate_writes_of, write_ledto, finish_ledto, finished, no_writes, checkpoint_used, triples_written, lost_left};
-ghost use Rattle.fkv_keeper.specs.declared.answers.KeeperTold.TheVariants.{TurnRefused};
+ghost use Rattle.fkv_keeper.specs.Keeping.{device_passed, end_told, write_asked, copy_asked, copy_driven, copy_told, is_copy_resting, points_known, ended, turned, turned_full, start_ledto, maintain_ledto, broken, granted_for, must_rest, parts_begun, phase_ledto, part_begun, rested, writes_taken_up, copies_next, copies, enter_ledto, copy_ledto, seek_ledto, wait_ledto, writes_begun, gate_writes_of, write_ledto, finish_ledto, finished, no_writes, checkpoint_used, triples_written, lost_left};
 
 use crate::answers::KeeperTold;
 use crate::keepers::{Keeper, Keeping};
 use crate::last_commits::Checkpoint;
 use crate::manifests::{slot_place, slot_written};
-use fkv_base::{Addr, CommitKind, Fault, Phase};
+use fkv_base::{Addr, CommitKind, Fault, Phase, StoreClass};
 use fkv_checkpoint::{CopyRoom, IndexCopy};
 use fkv_commit::{Commit, EnterAnswer, FinishAnswer, SeekAnswer, StartAnswer, WaitAnswer};
 use fkv_disk::DeviceAsk;
@@ -132,9 +130,10 @@ impl Keeper {
 
     /// The device has failed.
     pub(crate) fn breaks(&mut self)
-        ensures { self.new ≡ record self.old { state = ended (record self.old.state { is_broken = true }) (TurnRefused fault.Device) } }
+        ensures { self.new ≡ record self.old { state = broken self.old.state } }
     {
         self.is_broken = true;
+        self.rests = false;
         self.ends(KeeperTold::TurnRefused(Fault::Device));
     }
 
@@ -149,11 +148,23 @@ impl Keeper {
                     self.copy = None;
                     self.has_entered = false;
                     self.has_points = false;
+                    self.rests = false;
                     self.ends(KeeperTold::Begun(number));
                 }
                 StartAnswer::Refused(why) => self.ends(KeeperTold::CommitRefused(why)),
                 StartAnswer::Idle => self.ends(KeeperTold::CommitRefused(Fault::CommitRunning)),
             }
+        }
+    }
+
+    /// Begins the parts of a turn.
+    pub(crate) fn begins_parts(&mut self)
+        ensures { self.new ≡ record self.old { state = record self.old.state { maintain = parts_begun self.old.state.rests self.old.state.maintain } } }
+    {
+        if self.rests {
+            self.maintain.start_serving();
+        } else {
+            self.maintain.start();
         }
     }
 
@@ -174,18 +185,32 @@ impl Keeper {
         }
     }
 
-    /// Goes on by what the phase word says. A copy takes the room; where none begins it is kept.
+    /// Goes on by what the phase word says, or with the writes that rest. A copy takes the room; where none begins it is kept.
     #[tactic(auto, unfolding(crate::specs::Keeping::phase_ledto))]
-    pub(crate) fn after_phase(&mut self, said: PhaseSaid, room: Option<CopyRoom>)
+    pub(crate) fn after_phase(&mut self, said: PhaseSaid, room: Option<CopyRoom>, goes_on: bool)
         requires { IsRoomFor self.old.places room }
-        ensures { self.new ≡ record self.old { state = phase_ledto self.old.places self.old.state self.old.state.commit said (is_some room) } }
+        ensures { self.new ≡ record self.old { state = phase_ledto self.old.places self.old.state self.old.state.commit said (granted_for self.old.state (is_some room) goes_on) } }
     {
         let mut room = room;
         match self.commit {
             None => self.turns(),
+            Some(_) if self.rests => self.takes_up(goes_on),
             Some(commit) => self.begins_part(commit, said, &mut room),
         }
         self.keeps(room);
+    }
+
+    /// The writes that rest go on, or rest still.
+    fn takes_up(&mut self, goes_on: bool)
+        ensures { self.new ≡ record self.old { state = writes_taken_up self.old.state goes_on } }
+    {
+        self.is_granted = goes_on;
+        if goes_on {
+            self.rests = false;
+            self.step = Keeping::Writes;
+        } else {
+            self.turns();
+        }
     }
 
     /// Keeps room for a later copy, if there is some.
@@ -398,12 +423,34 @@ impl Keeper {
     {
         match self.commit {
             None => self.turns(),
-            Some(commit) => {
-                if let WriteAnswer::Written = self.writes.answer() {
+            Some(commit) => match self.writes.answer() {
+                WriteAnswer::Written => {
                     self.finish.start(self.seek.points(), commit.number);
                     self.step = Keeping::Finishes;
                 }
-            }
+                WriteAnswer::Device => self.rests_before_sync(),
+                WriteAnswer::Broken(_) => {}
+            },
+        }
+    }
+
+    /// The turn is over where the writes of a living store come to a sync. So mailboxes are served while the bytes become durable.
+    fn rests_before_sync(&mut self)
+        ensures { self.new ≡ record self.old { state = rested self.old.state } }
+    {
+        if self.must_rest() {
+            self.rests = true;
+            self.turns();
+        }
+    }
+
+    /// Whether the next call of the writes is a sync, in a living store.
+    fn must_rest(&self) -> bool
+        ensures { result ≡ must_rest self.now.state }
+    {
+        match self.start.class() {
+            StoreClass::Specified => false,
+            StoreClass::Living => matches!(self.writes.next_call(), Some(NextCall::Syncs)),
         }
     }
 

@@ -194,7 +194,15 @@ fn first_commit() -> LastCommit {
 
 /// A new store.
 pub(crate) fn new_store(alloc: Global) -> Result<SmallStore, Fault> {
-    let shape = small_shape()?;
+    store_of_shape(alloc, small_shape()?)
+}
+
+/// A new living store of the same sizes.
+pub(crate) fn living_store(alloc: Global) -> Result<SmallStore, Fault> {
+    store_of_shape(alloc, Shape::large(0, 4, 2, 1, 1, 0, 8)?)
+}
+
+fn store_of_shape(alloc: Global, shape: Shape) -> Result<SmallStore, Fault> {
     let plane = opened_words(alloc, &shape, 1, 1)?;
     let keeper = Keeper::new(alloc, shape, created_commit(), no_lost())?;
     Ok(SmallStore { plane, keeper })
@@ -306,7 +314,7 @@ pub(crate) fn finished(number: u64, point: u64) -> Option<Finished> {
 }
 
 /// The turn that has finished it.
-fn turned_finished(number: u64, point: u64) -> KeeperAsk {
+pub(crate) fn turned_finished(number: u64, point: u64) -> KeeperAsk {
     KeeperAsk::Turned(Ok(Turn {
         finished: finished(number, point),
         drain_full: false,
@@ -360,7 +368,7 @@ pub(crate) fn is_in(rt: &impl Abort, own: &SmallStore, wanted: u64) {
     assert_eq!(rt; phase(own), wanted);
 }
 
-fn is_durable(rt: &impl Abort, own: &SmallStore, wanted: u64) {
+pub(crate) fn is_durable(rt: &impl Abort, own: &SmallStore, wanted: u64) {
     assert_eq!(rt; durable(own), wanted);
 }
 
@@ -383,11 +391,11 @@ fn holds(
     Ok(())
 }
 
-fn holds_first(rt: &impl Abort, alloc: Global, disk: &MemDisk) -> Result<(), Fault> {
+pub(crate) fn holds_first(rt: &impl Abort, alloc: Global, disk: &MemDisk) -> Result<(), Fault> {
     holds(rt, alloc, disk, 1808, &[&CREATED, &FIRST_COMMIT])
 }
 
-fn holds_second(rt: &impl Abort, alloc: Global, disk: &MemDisk) -> Result<(), Fault> {
+pub(crate) fn holds_second(rt: &impl Abort, alloc: Global, disk: &MemDisk) -> Result<(), Fault> {
     let lists: [&[(usize, u8)]; 3] = [&CREATED, &FIRST_COMMIT, &SECOND_COMMIT];
     holds(rt, alloc, disk, 1832, &lists)
 }
@@ -403,7 +411,7 @@ fn disk_of_first(alloc: Global) -> Result<MemDisk, Fault> {
 }
 
 /// The first commit takes a turn for each phase.
-fn phases_pass(rt: &impl Abort, own: &mut SmallStore, disk: &mut MemDisk) {
+pub(crate) fn phases_pass(rt: &impl Abort, own: &mut SmallStore, disk: &mut MemDisk) {
     append(&mut own.plane, FIRST_HEADER, 10);
     is_new(rt, own);
     begins(rt, own, disk, CommitKind::Full, 1);

@@ -5,6 +5,8 @@
 #[cfg(test)]
 mod commits;
 #[cfg(test)]
+mod resting;
+#[cfg(test)]
 mod stepwise;
 #[cfg(test)]
 mod turns;

@@ -33,7 +33,7 @@ fn turn_by_steps(
             Ask::Done(_) => return (ask, got),
             Ask::Put(slot, action) => {
                 let _ = own.plane.put(slot, action);
-                own.keeper.go_on_with(0, room)
+                own.keeper.go_on_with(0, room, false)
             }
             Ask::Take(slot) => match own.plane.take(slot) {
                 Some(action) => own.keeper.take(action),
@@ -41,7 +41,7 @@ fn turn_by_steps(
             },
             word => {
                 let reply = own.plane.perform(&word);
-                own.keeper.go_on_with(reply, room)
+                own.keeper.go_on_with(reply, room, false)
             }
         };
     }

@@ -41,7 +41,7 @@ use Rattle.fkv_maintain.specs.declared.maintaining.MaintainAnswer.{MaintainAnswe
 use Rattle.fkv_maintain.specs.declared.maintaining.MaintainAnswer.TheVariants as answer
 use Rattle.fkv_maintain.specs.declared.maintaining.Maintaining.{Maintaining}
 use Rattle.fkv_maintain.specs.declared.maintaining.Maintaining.TheVariants.{Through, Spent, Broken, Scans, Claims, Flushes, Shifts, Turns, Serves}
-use Rattle.fkv_maintain.specs.Maintaining.{MaintainState, device_asked, maintaining_made, maintain_made, maintain_calls_asked, maintaining_ask, maintain_ask, scan_ledto, claim_ledto, flush_ledto, turn_form, shift_ledto, serve_ledto, serve_begun, turn_ledto, maintaining_next, maintain_next, maintaining_given, maintain_given, maintaining_called, maintain_called}
+use Rattle.fkv_maintain.specs.Maintaining.{MaintainState, maintain_serving, device_asked, maintaining_made, maintain_made, maintain_calls_asked, maintaining_ask, maintain_ask, scan_ledto, claim_ledto, flush_ledto, turn_form, shift_ledto, serve_ledto, serve_begun, turn_ledto, maintaining_next, maintain_next, maintaining_given, maintain_given, maintaining_called, maintain_called}
 use Rattle.fkv_maintain.specs.AsksLeft.{is_ended, GoesOnWhereLeft, from_mailboxes, from_page, from_shift, from_flush, from_claims, most_maintain_asks, unless_done, maintaining_asks_left, maintain_asks_left}
 
 if_most : (b : Bool) (n : ℕ) → (if b then 0 else n) ≤ n
@@ -174,6 +174,11 @@ maintain_asked shape p s ask e = rw e (maintain_left shape p s)
 pub maintain_begun_left : (shape : Shape) (s : MaintainState) → s.step ≡ Scans → s.scanning ≡ scan.LoadsEpoch → maintain_asks_left shape s ≤ most_maintain_asks shape
 unfolding maintaining_asks_left scan_asks_left
 maintain_begun_left shape s at first = rw (at, first) (if_most (is_done (scan_ask scan.LoadsEpoch)) (shape.sessions + 2 + from_claims shape))
+
+-- and of a turn that only serves
+pub maintain_serving_left : (shape : Shape) (s : MaintainState) → maintain_asks_left shape (maintain_serving s) ≤ most_maintain_asks shape
+unfolding maintaining_asks_left serve_asks_left
+maintain_serving_left shape s = let some = shape.limits.some_session in omega (arith, some)
 
 -- each part, as it begins
 

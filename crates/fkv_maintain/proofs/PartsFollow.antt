@@ -17,6 +17,7 @@ use Rattle.fkv_log.specs.Shifting.{shift_next, shift_next_ask}
 use Rattle.fkv_log.specs.Turning.{turn_next, turn_next_ask}
 use Rattle.fkv_flush.specs.declared.answers.DeviceAnswer.{DeviceAnswer}
 use Rattle.fkv_flush.specs.declared.answers.DeviceAnswer.TheVariants as device
+use Rattle.fkv_flush.specs.declared.serving.Serving.{Serving}
 use Rattle.fkv_flush.specs.declared.serving.Serving.TheVariants as serving
 use Rattle.fkv_flush.specs.Flushing.{flush_ask, flush_next, flush_done, bytes_next, bytes_done}
 use Rattle.fkv_flush.specs.Serving.{serve_ask, serve_next, serve_read, mailbox_from}
@@ -69,6 +70,12 @@ serve_comes : (shape : Shape) (m : MaintainState) (ask : Ask DeviceAnswer) → m
 unfolding serve_ledto
 serve_comes shape m (Done device.Through) at e = inr (refl, none_to_serve shape.sessions e)
 serve_comes shape m ask at e = inl at
+
+-- where there is a session, serving begins with the first one's mailbox
+pub serve_begins : (shape : Shape) (s : MaintainState) → serve_begun shape s ≡ record s { serving = serving.LoadsState 0; step = Serves }
+unfolding serve_ledto serve_ask
+serve_begins shape s =
+    ap (λ (first : Serving). serve_ledto (record s { serving = first; step = Serves }) (serve_ask first)) (first_loads shape.sessions shape.limits.some_session)
 
 serve_keeps : (m : MaintainState) (ask : Ask DeviceAnswer) → (serve_ledto m ask).serving ≡ m.serving
 unfolding serve_ledto

@@ -20,9 +20,9 @@ use Rattle.fkv_flush.specs.Flushing.{flush_ask, flush_next, flush_done, bytes_ne
 use Rattle.fkv_flush.specs.Serving.{serve_ask, serve_next, serve_read, mailbox_from}
 use Rattle.fkv_maintain.specs.declared.maintaining.Maintaining.{Maintaining}
 use Rattle.fkv_maintain.specs.declared.maintaining.Maintaining.TheVariants.{Through, Spent, Broken, Scans, Claims, Flushes, Shifts, Turns, Serves}
-use Rattle.fkv_maintain.specs.Maintaining.{MaintainState, scan_ledto, claim_ledto, flush_ledto, shift_ledto, turn_ledto, serve_ledto, maintaining_next, maintaining_given, maintaining_called, maintaining_made, maintaining_calls}
-use Rattle.fkv_maintain.specs.MaintainRun.{MaintainEvent, Replies, Gets, Calls, maintain_happens, maintain_run}
-use Rattle.fkv_maintain.specs.Parts.{MayFollow, entered, parts_of, AreInOrder, is_shift_slotless, is_page_slotless, lacks_slot, has_lacked_slot, CallsInItsParts}
+use Rattle.fkv_maintain.specs.Maintaining.{MaintainState, maintain_serving, scan_ledto, claim_ledto, flush_ledto, shift_ledto, turn_ledto, serve_ledto, maintaining_next, maintaining_given, maintaining_called, maintaining_made, maintaining_calls}
+use Rattle.fkv_maintain.specs.MaintainRun.{MaintainEvent, Replies, Gets, Calls, maintain_happens, maintain_run, serving_run}
+use Rattle.fkv_maintain.specs.Parts.{MayFollow, entered, parts_of, AreInOrder, is_shift_slotless, is_page_slotless, lacks_slot, has_lacked_slot, IsServing, ServesAlone, CallsInItsParts}
 use Rattle.fkv_maintain.proofs.PartsFollow.{follows_in_order}
 
 -- what follows is listed behind what was
@@ -153,3 +153,40 @@ writes_in shape s step done some = absurd (some refl)
 
 pub calls_in_parts : (shape : Shape) (p : Places) (s : MaintainState) → CallsInItsParts shape p s
 calls_in_parts shape p s = record { made = made_in p s s.step; writes = writes_in shape s s.step }
+
+-- a turn that only serves stays at that, to its end
+serving_stays : (shape : Shape) (p : Places) (s : MaintainState) (step : Maintaining) (event : MaintainEvent) (next : MaintainState)
+    → s.step ≡ step → IsServing step → MayFollow shape p s step event next → IsServing next.step
+serving_stays shape p s Serves event next at its (inl stays) = rw stays tt
+serving_stays shape p s Serves event next at its (inr (inl served)) = rw served.comes tt
+serving_stays shape p s Serves event next at its (inr (inr breaks)) = rw breaks.comes tt
+serving_stays shape p s Through event next at its same = rw (ap (λ (x : MaintainState). x.step) same ∙ at) tt
+serving_stays shape p s Broken event next at its same = rw (ap (λ (x : MaintainState). x.step) same ∙ at) tt
+serving_stays shape p s step event next at its same = absurd its
+
+serving_lacks_none : (shape : Shape) (s : MaintainState) (step : Maintaining) (event : MaintainEvent) → IsServing step → lacks_slot shape s step event ≡ false
+serving_lacks_none shape s Shifts event its = absurd its
+serving_lacks_none shape s Turns event its = absurd its
+serving_lacks_none shape s step event its = refl
+
+serving_writes_none : (shape : Shape) (s : MaintainState) (step : Maintaining) (done : Bool) → IsServing step → maintaining_calls shape s step done ≡ []
+unfolding maintaining_calls
+serving_writes_none shape s Flushes done its = absurd its
+serving_writes_none shape s step done its = refl
+
+-- and each event leaves it there
+pub serving_goes : (shape : Shape) (p : Places) (s : MaintainState) (event : MaintainEvent) → IsServing s.step → IsServing (maintain_happens shape p s event).step
+serving_goes shape p s event its = serving_stays shape p s s.step event (maintain_happens shape p s event) refl its (follows_in_order shape p s event)
+
+pub serves_alone : (shape : Shape) (p : Places) (s : MaintainState) (events : List MaintainEvent) → ServesAlone shape (serving_run shape p s events)
+unfolding serving_run
+serves_alone shape p s [] = record { part = tt; full = refl; reads = λ done. serving_writes_none shape (maintain_serving s) Serves done tt }
+serves_alone shape p s (event ∷ before) =
+    let m = serving_run shape p s before in
+    let was = serves_alone shape p s before in
+    let part = serving_goes shape p m event was.part in
+    record {
+      part = part;
+      full = happens_full shape p m event ∙ (ap (λ b. b || m.is_drain_full) (serving_lacks_none shape m m.step event was.part) ∙ was.full);
+      reads = λ done. serving_writes_none shape (maintain_happens shape p m event) (maintain_happens shape p m event).step done part;
+    }

@@ -56,6 +56,10 @@ pub record Maintainer : Type 0 where
 abbrev pub maintain_begun : MaintainState → MaintainState
 maintain_begun s = record s { scanning = scan.LoadsEpoch; is_drain_full = false; step = Scans }
 
+-- A turn that only serves begins with the first mailbox. Each store has a session.
+abbrev pub maintain_serving : MaintainState → MaintainState
+maintain_serving s = record s { serving = serving.LoadsState 0; is_drain_full = false; step = Serves }
+
 -- what a flush and a serving ask for is passed on, and their calls of the device are the turn's
 unfoldable pub device_asked : Ask DeviceAnswer → Ask MaintainAnswer
 device_asked (Done device.Device) = Done answer.Device

@@ -1,6 +1,6 @@
 -- The parts of a turn come in their order, each once and none left out: the scan, the claims, the flush, the shift, the page and the
 -- mailboxes.
-use Rattle.std.specs.Prelude.{◌≡◌, ◌⊎◌, ◌<◌, ℕ, List, [], ◌∷◌, Bool, true, false, ◌||◌, if◌then◌else◌, None}
+use Rattle.std.specs.Prelude.{◌≡◌, ⊤, ◌⊎◌, ◌<◌, ℕ, List, [], ◌∷◌, Bool, true, false, ◌||◌, if◌then◌else◌, None}
 use Rattle.fkv_base.specs.declared.numbers.Addr.{Addr}
 use Rattle.fkv_base.specs.declared.shapes.Shape.{Shape}
 use Rattle.fkv_plane.specs.declared.asks.Ask.{Ask}
@@ -192,3 +192,16 @@ has_lacked_slot shape p s (event ∷ before) =
 pub record CallsInItsParts (shape : Shape) (p : Places) (s : MaintainState) : Type 0 where
   pub made : 0 < maintain_made p s → (s.step ≡ Flushes) ⊎ (s.step ≡ Serves)
   pub writes : (done : Bool) → (maintain_calls shape s done ≡ [] → ⊥) → s.step ≡ Flushes
+
+-- the mailboxes are served, or were; or a read for one has failed
+abbrev pub IsServing : Maintaining → Type 0
+IsServing Serves = ⊤
+IsServing Through = ⊤
+IsServing Broken = ⊤
+IsServing step = ⊥
+
+-- Such a turn is in no other part. It leaves none out for want of a slot, and the device is read alone.
+pub record ServesAlone (shape : Shape) (s : MaintainState) : Type 0 where
+  pub part : IsServing s.step
+  pub full : s.is_drain_full ≡ false
+  pub reads : (done : Bool) → maintain_calls shape s done ≡ []

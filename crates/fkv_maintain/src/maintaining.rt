@@ -12,7 +12,7 @@ ghost use Rattle.fkv_maintain.specs.declared.maintaining.MaintainAnswer.TheVaria
 ghost use Rattle.fkv_maintain.specs.declared.maintaining.Maintaining.TheVariants.{Through, Broken, Flushes};
 ghost use Rattle.fkv_plane.specs.Passing.{is_done};
 ghost use Rattle.fkv_plane.specs.declared.asks.Ask.TheVariants.{Done};
-ghost use Rattle.fkv_maintain.specs.Maintaining.{maintain_begun, maintain_ask, maintain_next, maintain_given, maintain_called, maintain_asked, maintain_calls, maintain_calls_asked, maintain_made, device_asked, scan_ledto, claim_ledto, flush_ledto, shift_ledto, turn_ledto, serve_begun, serve_ledto, turn_form, maintain_word_due};
+ghost use Rattle.fkv_maintain.specs.Maintaining.{maintain_begun, maintain_serving, maintain_ask, maintain_next, maintain_given, maintain_called, maintain_asked, maintain_calls, maintain_calls_asked, maintain_made, device_asked, scan_ledto, claim_ledto, flush_ledto, shift_ledto, turn_ledto, serve_begun, serve_ledto, turn_form, maintain_word_due};
 
 use fkv_base::{Addr, Fault, Shape};
 use fkv_disk::{Device, DeviceAsk};
@@ -118,6 +118,19 @@ impl Maintain {
         self.ask()
     }
 
+    /// The first ask of a turn that only serves: it scans, flushes and moves nothing.
+    #[tactic(auto, using(crate::proofs::PartsFollow::serve_begins))]
+    pub fn start_serving(&mut self) -> Ask<MaintainAnswer>
+        ensures next { self.new ≡ record self.old { state = maintain_serving self.old.state } }
+        ensures ask { result ≡ maintain_ask self.old.shape self.old.places self.new.state }
+        ensures left { GoesOnWhereLeft (maintain_asks_left self.old.shape self.new.state) result }
+        ensures bounded { maintain_asks_left self.old.shape self.new.state ≤ most_maintain_asks self.old.shape }
+    {
+        self.is_drain_full = false;
+        self.serves();
+        self.ask()
+    }
+
     /// Goes on with the reply to its ask. At its end, and where it needs the device, it stays where it is.
     #[tactic(auto, unfolding(crate::specs::Maintaining::maintaining_next))]
     pub fn drive(&mut self, reply: u64) -> Ask<MaintainAnswer>
@@ -216,7 +229,7 @@ impl Maintain {
         ensures none { OnErr result (maintain_asks_left self.old.shape self.new.state ≡ 0) }
         ensures cause { HasCause (D.failed d.old) (D.failed d.new) result }
         ensures counted { MakesCalls (maintain_made self.old.places self.old.state) (D.refuses d.old) (D.refuses d.new) result }
-        ensures kind { D.expects d.new ≡ kinds_by (maintain_asked self.old.shape self.old.state) (D.expects d.old) }
+        ensures kind { D.expects d.new ≡ kinds_by (maintain_asked self.old.shape self.old.state) (is_ok result) (D.expects d.old) }
         ensures asked { maintain_made self.old.places self.old.state ≡ maintain_calls_asked (maintain_ask self.old.shape self.old.places self.old.state) }
         ensures honest { D.honest d.old ↔ D.honest d.new }
         ensures read { D.honest d.old → self.new ≡ record self.old { state = maintain_called self.old.shape self.old.places self.old.state (is_ok result) (bytes_at (D.seen d.old) (mail_place self.old.shape self.old.state.serving) 24) } }

@@ -3,6 +3,7 @@ mod Carried
 mod Elsewhere
 mod Following
 mod NewestSlot
+mod Noting
 mod Order
 mod Putting
 mod Settled

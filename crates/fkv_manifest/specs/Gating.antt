@@ -3,6 +3,7 @@ use Rattle.std.specs.Prelude.{ℕ, ◌+◌, List, [], ◌∷◌, drop, Bool, tru
 use Rattle.fkv_base.specs.declared.faults.Fault.TheVariants as fault
 use Rattle.fkv_disk.specs.Bytes.{written}
 use Rattle.fkv_disk.specs.Calls.{Call, Write, Sync}
+use Rattle.fkv_disk.specs.Kinds.{Kind, Writing, Syncing}
 use Rattle.fkv_manifest.specs.declared.answers.WriteAnswer.{WriteAnswer}
 use Rattle.fkv_manifest.specs.declared.answers.WriteAnswer.TheVariants as answer
 use Rattle.fkv_manifest.specs.declared.gates.Gating.{Gating}
@@ -68,6 +69,17 @@ gate_calls_left Opens = 2
 gate_calls_left SyncsOpen = 1
 gate_calls_left Written = 0
 gate_calls_left (Broken why) = 0
+
+-- the calls that it makes from a state on, where each succeeds
+unfoldable pub gate_kinds : ℕ → ℕ → List ℕ → Gating → List Kind
+gate_kinds place start slot Closes =
+    Writing place (closed_gate ∷ []) true ∷ Syncing true ∷ Writing (place + start) (drop start slot) true ∷ Syncing true ∷ Writing place (open_gate ∷ []) true ∷ Syncing true ∷ []
+gate_kinds place start slot SyncsClosed = Syncing true ∷ Writing (place + start) (drop start slot) true ∷ Syncing true ∷ Writing place (open_gate ∷ []) true ∷ Syncing true ∷ []
+gate_kinds place start slot WritesBody = Writing (place + start) (drop start slot) true ∷ Syncing true ∷ Writing place (open_gate ∷ []) true ∷ Syncing true ∷ []
+gate_kinds place start slot SyncsBody = Syncing true ∷ Writing place (open_gate ∷ []) true ∷ Syncing true ∷ []
+gate_kinds place start slot Opens = Writing place (open_gate ∷ []) true ∷ Syncing true ∷ []
+gate_kinds place start slot SyncsOpen = Syncing true ∷ []
+gate_kinds place start slot step = []
 
 -- what the device reads as at the end, from a state on, where each call succeeds
 unfoldable pub gate_leads : ℕ → ℕ → List ℕ → Gating → List ℕ → List ℕ

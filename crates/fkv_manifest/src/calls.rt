@@ -21,7 +21,7 @@ pub enum NextCall<'a> {
 pub(crate) fn make_call<D: Device>(next: Option<NextCall>, d: &mut D) -> Result<(), Fault>
     ensures cause { HasCause (D.failed d.old) (D.failed d.new) result }
     ensures counted { MakesCalls (calls_told next.entry) (D.refuses d.old) (D.refuses d.new) result }
-    ensures kind { D.expects d.new ≡ kinds_by (first_asked (with_call (next_made next.entry true) [])) (D.expects d.old) }
+    ensures kind { D.expects d.new ≡ kinds_by (first_asked (with_call (next_made next.entry true) [])) (is_ok result) (D.expects d.old) }
     ensures honest { D.honest d.old ↔ D.honest d.new }
     ensures does { D.honest d.old → DoesNext (next_made next.entry (is_ok result)) (D.seen d.old) (D.seen d.new) (D.may_leave d.old) (D.may_leave d.new) }
     ensures time { D.honest d.old → Elapses (D.moment d.old) (D.moment d.new) (D.left_since d.old) (D.left_since d.new) (D.may_leave d.new) }

@@ -115,7 +115,7 @@ impl GateWrites {
         ensures next { self.new ≡ record self.old { step = gate_next self.old.step (is_ok result) } }
         ensures cause { HasCause (D.failed d.old) (D.failed d.new) result }
         ensures counted { MakesCalls (calls_next (gate_answer self.old.step)) (D.refuses d.old) (D.refuses d.new) result }
-        ensures kind { D.expects d.new ≡ kinds_by (first_asked (with_call (gate_call self.old true) [])) (D.expects d.old) }
+        ensures kind { D.expects d.new ≡ kinds_by (first_asked (with_call (gate_call self.old true) [])) (is_ok result) (D.expects d.old) }
         ensures honest { D.honest d.old ↔ D.honest d.new }
         ensures does { D.honest d.old → DoesNext (gate_call self.old (is_ok result)) (D.seen d.old) (D.seen d.new) (D.may_leave d.old) (D.may_leave d.new) }
         ensures time { D.honest d.old → Elapses (D.moment d.old) (D.moment d.new) (D.left_since d.old) (D.left_since d.new) (D.may_leave d.new) }

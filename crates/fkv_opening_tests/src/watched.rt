@@ -1,8 +1,8 @@
 //! A device that keeps where its calls stand, and recovery over it: what the contract of `recover` says of the kinds of its
 //! calls, as a caller sees it.
-ghost use Rattle.std.specs.Prelude.{◌≡◌};
+ghost use Rattle.std.specs.Prelude.{◌≡◌, Bool};
 ghost use Rattle.fkv_disk.specs.Kinds.{Reading, Syncing};
-ghost use Rattle.fkv_opening_tests.specs.Watched.{stand_after, is_quiet_in_the_end};
+ghost use Rattle.fkv_opening_tests.specs.Watched.{stand_after, stand_foretold};
 
 use fkv_base::Fault;
 use fkv_disk::Device;
@@ -41,7 +41,7 @@ impl<D: Device> Watched<D> {
 
 /// Behind a sync.
 fn after_sync(stand: Stand) -> Stand
-    ensures { result ≡ stand_after Syncing stand }
+    ensures { (done : Bool) → result ≡ stand_after (Syncing done) stand }
 {
     match stand {
         Stand::NoCall => Stand::OneSyncThenReads,
@@ -74,7 +74,7 @@ impl<D: Device> Device for Watched<D> {
 
     ghost refuses = { λ watched. D.Device.refuses watched.device };
 
-    ghost expects = { λ watched. is_quiet_in_the_end watched.stand };
+    ghost expects = { λ watched. stand_foretold watched.stand };
 
     ghost counts_now = { λ watched. D.Device.counts_now watched.device };
 

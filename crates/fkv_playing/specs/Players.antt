@@ -5,6 +5,7 @@ use Rattle.fkv_core.specs.declared.events.Event.{Event}
 use Rattle.fkv_core.specs.declared.events.Told.{Told}
 use Rattle.fkv_disk.specs.Fuse.{armed}
 use Rattle.fkv_disk.specs.Fuses.{fuse_device, fuse_refused, fuse_state}
+use Rattle.fkv_disk.specs.Kinds.{Foretold, Kind}
 use Rattle.fkv_disk.specs.declared.fuses.Fuse.{Fuse}
 use Rattle.fkv_map.specs.declared.history.HistoryEntry.{HistoryEntry}
 use Rattle.fkv_playing.specs.Seats.{SeatState}
@@ -20,9 +21,9 @@ pub record PlayerState (D : Type 0) : Type 0 where
   pub waits : Waits
 
 -- What a step of the engine is, by its contract: the event, the worlds before and after it, what was told, and whether the device has failed for good then.
-abbrev pub EngineStep : {D : Type 0} → (D → Type 0) → (D → List ℕ) → (D → List ℕ → Type 0) → (D → ℕ) → (D → ℕ → Bool) → (D → Bool) → Event → WorldModel D → WorldModel D → Option Told → Bool → Type 0
-EngineStep honest seen may_leave failed refuses broken event world after told is_broken =
-    IsStep event world.now after.now told (failed world.device) (failed after.device) (refuses world.device) (refuses after.device) (honest world.device) (seen world.device) (seen after.device) (may_leave world.device) (may_leave after.device)
+abbrev pub EngineStep : {D : Type 0} → (D → Type 0) → (D → List ℕ) → (D → List ℕ → Type 0) → (D → ℕ) → (D → ℕ → Bool) → (D → List Kind → Foretold) → (D → Bool) → Event → WorldModel D → WorldModel D → Option Told → Bool → Type 0
+EngineStep honest seen may_leave failed refuses expects broken event world after told is_broken =
+    IsStep event world.now after.now told (failed world.device) (failed after.device) (refuses world.device) (refuses after.device) (expects world.device) (expects after.device) (honest world.device) (seen world.device) (seen after.device) (may_leave world.device) (may_leave after.device)
     × (is_broken ≡ broken after.device)
 
 -- A crash that was waited for has struck: the device has come to its call, and has failed for good.

@@ -17,7 +17,7 @@ impl<D: Breaks> Player<D> {
         telling: Telling,
         call: ActorCall,
     ) -> io::Result<Outcome>
-        ensures { IfOk result (λ outcome. Writes (IsPlayedAlone (EngineStep D.honest D.seen D.may_leave D.failed D.refuses D.broken) telling call self.old self.new outcome) (W.contents output.old) (W.contents output.new)) }
+        ensures { IfOk result (λ outcome. Writes (IsPlayedAlone (EngineStep D.honest D.seen D.may_leave D.failed D.refuses D.expects D.broken) telling call self.old self.new outcome) (W.contents output.old) (W.contents output.new)) }
     {
         let mut outcome = self.beat(output, telling, call, Stage::Begins)?;
         for _ in 0..u64::MAX {
@@ -38,7 +38,7 @@ impl<D: Breaks> Player<D> {
         calls: &[ActorCall],
     ) -> io::Result<Outcome>
         ensures { IfOk result (λ outcome. (count : ℕ) × (outcome ≡ Outcome.Answered → length calls.now ≤ count)
-            × Writes (InTurn (IsPlayedAlone (EngineStep D.honest D.seen D.may_leave D.failed D.refuses D.broken) telling) Outcome.Answered (take count calls.now) self.old self.new outcome) (W.contents output.old) (W.contents output.new)) }
+            × Writes (InTurn (IsPlayedAlone (EngineStep D.honest D.seen D.may_leave D.failed D.refuses D.expects D.broken) telling) Outcome.Answered (take count calls.now) self.old self.new outcome) (W.contents output.old) (W.contents output.new)) }
     {
         for call in calls {
             let outcome = self.play_alone(output, telling, *call)?;

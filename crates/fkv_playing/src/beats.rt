@@ -29,7 +29,7 @@ impl<D: Breaks> Player<D> {
         call: ActorCall,
         stage: Stage,
     ) -> io::Result<Outcome>
-        ensures { IfOk result (λ outcome. Writes (IsBeat (EngineStep D.honest D.seen D.may_leave D.failed D.refuses D.broken) telling call stage self.old self.new outcome) (W.contents output.old) (W.contents output.new)) }
+        ensures { IfOk result (λ outcome. Writes (IsBeat (EngineStep D.honest D.seen D.may_leave D.failed D.refuses D.expects D.broken) telling call stage self.old self.new outcome) (W.contents output.old) (W.contents output.new)) }
     {
         let event = call.event(stage);
         let has_ended = self.world.advance(event);

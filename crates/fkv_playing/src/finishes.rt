@@ -21,7 +21,7 @@ impl<D: Breaks> Player<D> {
     /// Finishes the commit that runs: rounds in which each session that is awake is refreshed and polled, and the keeper takes a
     /// turn, until a turn has finished the commit or is refused, or a crash strikes. It prints what is finished on the way.
     pub fn finish<W: Write>(&mut self, alloc: Global, output: &mut W) -> io::Result<Outcome>
-        ensures { IfOk result (λ outcome. Writes (IsFinish (EngineStep D.honest D.seen D.may_leave D.failed D.refuses D.broken) self.old self.new outcome) (W.contents output.old) (W.contents output.new)) }
+        ensures { IfOk result (λ outcome. Writes (IsFinish (EngineStep D.honest D.seen D.may_leave D.failed D.refuses D.expects D.broken) self.old self.new outcome) (W.contents output.old) (W.contents output.new)) }
     {
         if self.phase().0 == Phase::Rest {
             write_nothing_to_finish(output)?;
@@ -31,7 +31,7 @@ impl<D: Breaks> Player<D> {
     }
 
     fn play_rounds<W: Write>(&mut self, alloc: Global, output: &mut W) -> io::Result<Outcome>
-        ensures { IfOk result (λ outcome. Writes (AreRounds (EngineStep D.honest D.seen D.may_leave D.failed D.refuses D.broken) self.old self.new outcome) (W.contents output.old) (W.contents output.new)) }
+        ensures { IfOk result (λ outcome. Writes (AreRounds (EngineStep D.honest D.seen D.may_leave D.failed D.refuses D.expects D.broken) self.old self.new outcome) (W.contents output.old) (W.contents output.new)) }
     {
         let calls = calls_of_rounds(alloc, &self.seats)?;
         let outcome = self.play_calls(output, Telling::Finished, calls.as_slice())?;

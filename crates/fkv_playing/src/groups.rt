@@ -47,7 +47,7 @@ impl<D: Breaks> Player<D> {
         queues: &mut Vec<Queue>,
         picks: &mut Picks,
     ) -> io::Result<bool>
-        ensures { IfOk result (λ struck. Writes (IsGroup (EngineStep D.honest D.seen D.may_leave D.failed D.refuses D.broken) (record { player = self.old; queues = queues.old.items }) (record { player = self.new; queues = queues.new.items }) struck) (W.contents output.old) (W.contents output.new)) }
+        ensures { IfOk result (λ struck. Writes (IsGroup (EngineStep D.honest D.seen D.may_leave D.failed D.refuses D.expects D.broken) (record { player = self.old; queues = queues.old.items }) (record { player = self.new; queues = queues.new.items }) struck) (W.contents output.old) (W.contents output.new)) }
     {
         for _ in 0..u64::MAX {
             let nth = picks.next(count_steps(queues));
@@ -71,7 +71,7 @@ impl<D: Breaks> Player<D> {
         at: usize,
     ) -> io::Result<Outcome>
         requires { at < length queues.old.items }
-        ensures { (queue : QueueState) → slice_get queues.old.items at ≡ Some queue → HasSteps queue → IfOk result (λ outcome. Writes (IsPick (EngineStep D.honest D.seen D.may_leave D.failed D.refuses D.broken) at (record { player = self.old; queues = queues.old.items }) (record { player = self.new; queues = queues.new.items }) (is_struck_by outcome)) (W.contents output.old) (W.contents output.new)) }
+        ensures { (queue : QueueState) → slice_get queues.old.items at ≡ Some queue → HasSteps queue → IfOk result (λ outcome. Writes (IsPick (EngineStep D.honest D.seen D.may_leave D.failed D.refuses D.expects D.broken) at (record { player = self.old; queues = queues.old.items }) (record { player = self.new; queues = queues.new.items }) (is_struck_by outcome)) (W.contents output.old) (W.contents output.new)) }
     {
         self.pick(output, &mut queues[at])
     }
@@ -79,7 +79,7 @@ impl<D: Breaks> Player<D> {
     /// One step of the actor with this queue.
     fn pick<W: Write>(&mut self, output: &mut W, queue: &mut Queue) -> io::Result<Outcome>
         ensures { HasSteps queue.old → IfOk result (λ outcome. (call : ActorCall) × (stage : Stage) × (next_step queue.old ≡ Some (call, stage)) × (queue.new ≡ queue_behind outcome (held queue.old))
-            × Writes (λ text. IsBeatOf (EngineStep D.honest D.seen D.may_leave D.failed D.refuses D.broken) call stage self.old self.new outcome text (missing_session self.old.seats call)) (W.contents output.old) (W.contents output.new)) }
+            × Writes (λ text. IsBeatOf (EngineStep D.honest D.seen D.may_leave D.failed D.refuses D.expects D.broken) call stage self.old self.new outcome text (missing_session self.old.seats call)) (W.contents output.old) (W.contents output.new)) }
     {
         let Some((call, stage)) = queue.take_step() else {
             return Ok(Outcome::Answered);
@@ -96,7 +96,7 @@ impl<D: Breaks> Player<D> {
         call: ActorCall,
         stage: Stage,
     ) -> io::Result<Outcome>
-        ensures { IfOk result (λ outcome. Writes (λ text. IsBeatOf (EngineStep D.honest D.seen D.may_leave D.failed D.refuses D.broken) call stage self.old self.new outcome text (missing_session self.old.seats call)) (W.contents output.old) (W.contents output.new)) }
+        ensures { IfOk result (λ outcome. Writes (λ text. IsBeatOf (EngineStep D.honest D.seen D.may_leave D.failed D.refuses D.expects D.broken) call stage self.old self.new outcome text (missing_session self.old.seats call)) (W.contents output.old) (W.contents output.new)) }
     {
         match self.missing_session(call) {
             Some(number) => {

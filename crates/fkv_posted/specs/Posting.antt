@@ -1,7 +1,7 @@
 -- What a caller has told of the call that comes next.
 use Rattle.std.specs.Prelude.{ℕ, zero, List, [], ◌∷◌, Bool, true, false, nat_eq, ◌&&◌, Option, Some, None}
 use Rattle.std.specs.Borrow.{Bor}
-use Rattle.fkv_disk.specs.Kinds.{Kind, Writing}
+use Rattle.fkv_disk.specs.Kinds.{Foretold, Kind, Writing, nothing}
 use Rattle.fkv_posted.specs.Outcomes.{Outcome, Gave}
 use Rattle.fkv_posted.specs.declared.outcomes.Told.{Told}
 use Rattle.fkv_posted.specs.declared.outcomes.Told.TheVariants.{Read, Written, Synced}
@@ -40,10 +40,14 @@ shown_or None seen = seen
 -- none of these is a write
 abbrev pub writes_none : List Kind → Bool
 writes_none [] = true
-writes_none (Writing ∷ later) = false
+writes_none (Writing at bytes done ∷ later) = false
 writes_none (kind ∷ later) = writes_none later
 
 -- No call has failed while bytes are shown, and none will that isn't a write.
 abbrev pub stays_shown : Option (Bor (List ℕ)) → ℕ → List Kind → Bool
 stays_shown (Some bytes) zero later = writes_none later
 stays_shown shown failures later = false
+
+-- what a medium foretells: whether it stays shown, and nothing else
+abbrev pub shown_foretold : Option (Bor (List ℕ)) → ℕ → List Kind → Foretold
+shown_foretold shown failures later = record nothing { holds = stays_shown shown failures later }

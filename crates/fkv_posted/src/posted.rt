@@ -5,7 +5,7 @@ ghost use Rattle.fkv_disk.specs.Calls.{Sync, Write, reads_as};
 ghost use Rattle.fkv_disk.specs.Device.{Elapses, HasCause, LeavesNoMore, LeavesOnly, LeavesTorn, MakesCalls, Writes};
 ghost use Rattle.fkv_disk.specs.Kinds.{Reading, Syncing, Writing, after_kind};
 ghost use Rattle.fkv_posted.specs.Outcomes.{AlwaysBytes, AreOutcomes, Made, MayRemain, RemainsSince, calls_in};
-ghost use Rattle.fkv_posted.specs.Posting.{has_read, has_synced, has_written, shown_or, stays_shown, told_now, with_told};
+ghost use Rattle.fkv_posted.specs.Posting.{has_read, has_synced, has_written, shown_foretold, shown_or, told_now, with_told};
 ghost use Rattle.fkv_posted.specs.Remains.{counts_now, only_now, reads_remain, remains_bytes};
 
 use crate::log::{Log, Note, Shown};
@@ -160,7 +160,7 @@ impl<'a> Device for Posted<'a> {
 
     ghost refuses = { λ _ _. false };
 
-    ghost expects = { λ p. stays_shown p.shown p.failures };
+    ghost expects = { λ p. shown_foretold p.shown p.failures };
 
     ghost counts_now = { λ p t image claim le left. counts_now p.log.opened (calls_in p.log.outcomes) t image le left };
 
@@ -204,7 +204,7 @@ impl<'a> Device for Posted<'a> {
         ensures time { ⟦<Posted<'a> as Device>⟧.honest self.old → Elapses (⟦<Posted<'a> as Device>⟧.moment self.old) (⟦<Posted<'a> as Device>⟧.moment self.new) (⟦<Posted<'a> as Device>⟧.left_since self.old) (⟦<Posted<'a> as Device>⟧.left_since self.new) (⟦<Posted<'a> as Device>⟧.may_leave self.new) }
         ensures cause { HasCause (⟦<Posted<'a> as Device>⟧.failed self.old) (⟦<Posted<'a> as Device>⟧.failed self.new) result }
         ensures counted { MakesCalls 1 (⟦<Posted<'a> as Device>⟧.refuses self.old) (⟦<Posted<'a> as Device>⟧.refuses self.new) result }
-        ensures kind { ⟦<Posted<'a> as Device>⟧.expects self.new ≡ after_kind Writing (⟦<Posted<'a> as Device>⟧.expects self.old) }
+        ensures kind { ⟦<Posted<'a> as Device>⟧.expects self.new ≡ after_kind (Writing at bytes.now (is_ok result)) (⟦<Posted<'a> as Device>⟧.expects self.old) }
 
         ensures told { is_ok result ≡ has_written (told_now (posted_failures self.old) (posted_told self.old)) }
         ensures outcomes { posted_outcomes self.new ≡ Made (Write at bytes.now (is_ok result)) ∷ with_told (posted_failures self.old) (posted_told self.old) (posted_outcomes self.old) }
@@ -227,7 +227,7 @@ impl<'a> Device for Posted<'a> {
         ensures time { ⟦<Posted<'a> as Device>⟧.honest self.old → Elapses (⟦<Posted<'a> as Device>⟧.moment self.old) (⟦<Posted<'a> as Device>⟧.moment self.new) (⟦<Posted<'a> as Device>⟧.left_since self.old) (⟦<Posted<'a> as Device>⟧.left_since self.new) (⟦<Posted<'a> as Device>⟧.may_leave self.new) }
         ensures cause { HasCause (⟦<Posted<'a> as Device>⟧.failed self.old) (⟦<Posted<'a> as Device>⟧.failed self.new) result }
         ensures counted { MakesCalls 1 (⟦<Posted<'a> as Device>⟧.refuses self.old) (⟦<Posted<'a> as Device>⟧.refuses self.new) result }
-        ensures kind { ⟦<Posted<'a> as Device>⟧.expects self.new ≡ after_kind Syncing (⟦<Posted<'a> as Device>⟧.expects self.old) }
+        ensures kind { ⟦<Posted<'a> as Device>⟧.expects self.new ≡ after_kind (Syncing (is_ok result)) (⟦<Posted<'a> as Device>⟧.expects self.old) }
 
         ensures told { is_ok result ≡ (has_synced (told_now (posted_failures self.old) (posted_told self.old)) || is_some (posted_shown self.old)) }
         ensures outcomes { posted_outcomes self.new ≡ Made (Sync (is_ok result)) ∷ with_told (posted_failures self.old) (posted_told self.old) (posted_outcomes self.old) }

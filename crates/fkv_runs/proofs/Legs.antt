@@ -24,19 +24,21 @@ use Rattle.fkv_runs.proofs.Turning.{next_taken}
 -- the next life begins behind a report
 pub crash_taken : {D : Type 0} (medium : Medium D) (settings : Settings) (before : RunState D) (player : PlayerState D) (agrees both : Bool) (a b : Option (List ℕ))
     → both ≡ (before.agrees && agrees) → medium.may_leave before.player.world.device (medium.image before.player.world.device settings.torn)
+    → medium.crashes (medium.image before.player.world.device settings.torn) player.world.device
     → Writes (IsCrash medium.holds (medium.image before.player.world.device settings.torn) settings.checks before.player player agrees) a b
     → Writes (IsCrashed medium settings before (record { player = player; agrees = both }) false) a b
-crash_taken medium settings before player agrees both a b is left h =
-    (h.0, record { left = left; crash = λ on. (agrees, h.1, is); refusal = λ (over : false ≡ true). absurd (cc) }, h.2)
+crash_taken medium settings before player agrees both a b is left from h =
+    (h.0, record { left = left; crash = λ on. (agrees, h.1, is); goes_from = λ on. from; refusal = λ (over : false ≡ true). absurd (cc) }, h.2)
 
 -- so of a run beside its settings
 pub run_crashed : {D : Type 0} (medium : Medium D) (run : RunModel D) (settings : Settings) (before : RunState D) (player : PlayerState D) (agrees both : Bool) (a b : Option (List ℕ))
     → record { state = before; settings = settings } ≡ run → both ≡ (before.agrees && agrees) → medium.may_leave before.player.world.device (medium.image before.player.world.device settings.torn)
+    → medium.crashes (medium.image before.player.world.device settings.torn) player.world.device
     → Writes (IsCrash medium.holds (medium.image before.player.world.device settings.torn) settings.checks before.player player agrees) a b
     → (settings ≡ run.settings) × Writes (IsCrashed medium run.settings run.state (record { player = player; agrees = both }) false) a b
-run_crashed {D} medium run settings before player agrees both a b is joined left h =
+run_crashed {D} medium run settings before player agrees both a b is joined left from h =
     subst (λ (its : RunModel D). (settings ≡ its.settings) × Writes (IsCrashed medium its.settings its.state (record { player = player; agrees = both }) false) a b) is
-    (refl, crash_taken medium settings before player agrees both a b joined left h)
+    (refl, crash_taken medium settings before player agrees both a b joined left from h)
 
 -- nobody has a step left: nothing is played
 pub nothing_left : {D : Type 0} (engine : Event → WorldModel D → WorldModel D → Option Told → Bool → Type 0) (player : PlayerState D) (queues : List QueueState)
@@ -127,7 +129,7 @@ pub finish_struck : {D : Type 0} (medium : Medium D) (settings : Settings) (befo
     → Writes (IsCrashed medium settings (record { player = player; agrees = before.agrees }) (state_behind (record { player = player; agrees = before.agrees }) next) (is_none next)) b c
     → Writes (IsLegOf (IsFinishStruck medium) medium settings before (state_behind before next) (is_none next)) a c
 finish_struck medium settings before player outcome None a b c is h k =
-    let crashed : IsCrashed medium settings (record { player = player; agrees = before.agrees }) before true k.0 = record { left = k.1.left; crash = λ (on : true ≡ false). absurd (cc); refusal = k.1.refusal } in
+    let crashed : IsCrashed medium settings (record { player = player; agrees = before.agrees }) before true k.0 = record { left = k.1.left; crash = λ (on : true ≡ false). absurd (cc); goes_from = λ (on : true ≡ false). absurd (cc); refusal = k.1.refusal } in
     (h.0 ++ k.0, record { player = player; struck = true; said = h.0; reported = k.0; part = (outcome, h.1, sym is); crashed = crashed; says = refl }, appends_both a b c h.0 k.0 h.2 k.2)
 finish_struck medium settings before player outcome (Some run) a b c is h k =
     (h.0 ++ k.0, record { player = player; struck = true; said = h.0; reported = k.0; part = (outcome, h.1, sym is); crashed = k.1; says = refl }, appends_both a b c h.0 k.0 h.2 k.2)

@@ -1,4 +1,5 @@
 mod Breaking
+mod Foretelling
 pub mod Joining
 mod Legs
 pub mod Recovery

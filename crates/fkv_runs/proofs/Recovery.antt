@@ -5,7 +5,7 @@ use Rattle.fkv_base.specs.declared.faults.Fault.TheVariants.{NotAStore, Damaged,
 use Rattle.fkv_base.specs.declared.numbers.Key.{Key}
 use Rattle.fkv_base.specs.declared.numbers.Value.{Value}
 use Rattle.fkv_disk.specs.Device.{MakesCalls, after}
-use Rattle.fkv_disk.specs.Kinds.{Kind, OneSyncThenReads, OnlyReads}
+use Rattle.fkv_disk.specs.Kinds.{Foretold, Kind, OneSyncThenReads, OnlyReads}
 use Rattle.fkv_disk.proofs.Shown.{after_is}
 use Rattle.fkv_opening.specs.Faults.{IsFaultOf, IsRefused}
 use Rattle.fkv_opening.specs.Opened.{IsStoreOf}
@@ -29,10 +29,10 @@ refuses_none_later count before now counted none call = ap (λ (refuses : ℕ �
 pub none_behind_calls : {T : Type 0} (count : ℕ) (before now : ℕ → Bool) (result : Result T Fault) → MakesCalls count before now result → ((call : ℕ) → before call ≡ false) → (call : ℕ) → now call ≡ false
 none_behind_calls count before now result made none = refuses_none_later count before now made.counted none
 
-pub none_behind_reads : {D : Type 0} (refuses : D → ℕ → Bool) (expects : D → List Kind → Bool) (old new : D) → OnlyReads refuses expects old new → RefusesNoCall refuses old → RefusesNoCall refuses new
+pub none_behind_reads : {D : Type 0} (refuses : D → ℕ → Bool) (expects : D → List Kind → Foretold) (old new : D) → OnlyReads refuses expects old new → RefusesNoCall refuses old → RefusesNoCall refuses new
 none_behind_reads refuses expects old new made none = refuses_none_later made.reads (refuses old) (refuses new) made.counted none
 
-pub none_behind_sync : {D : Type 0} (refuses : D → ℕ → Bool) (expects : D → List Kind → Bool) (old new : D) → OneSyncThenReads refuses expects old new → RefusesNoCall refuses old → RefusesNoCall refuses new
+pub none_behind_sync : {D : Type 0} (refuses : D → ℕ → Bool) (expects : D → List Kind → Foretold) (old new : D) → OneSyncThenReads refuses expects old new → RefusesNoCall refuses old → RefusesNoCall refuses new
 none_behind_sync refuses expects old new made none = refuses_none_later (1 + made.reads) (refuses old) (refuses new) made.counted none
 
 -- the pairs are of the image that the device read as before, where it still reads as it did

@@ -35,10 +35,11 @@ abbrev pub KeepsSettings : {D : Type 0} → Settings → Option (RunModel D) →
 KeepsSettings settings None = Unit {0}
 KeepsSettings settings (Some run) = run.settings ≡ settings
 
--- A crash is taken, of an image that it may leave: the run goes on with the next life behind the report, or ends with a refusal.
+-- A crash is taken, of an image that it may leave: the run goes on with the next life behind the report, or ends with a refusal. Crashes of the next life go from that image on.
 pub record IsCrashed {D : Type 0} (medium : Medium D) (settings : Settings) (before after : RunState D) (over : Bool) (text : List ℕ) : Type 0 where
   pub left : medium.may_leave before.player.world.device (medium.image before.player.world.device settings.torn)
   pub crash : over ≡ false → (agrees : Bool) × IsCrash medium.holds (medium.image before.player.world.device settings.torn) settings.checks before.player after.player agrees text × (after.agrees ≡ (before.agrees && agrees))
+  pub goes_from : over ≡ false → medium.crashes (medium.image before.player.world.device settings.torn) after.player.world.device
   pub refusal : over ≡ true → IsRefusal (medium.image before.player.world.device settings.torn) text
 
 -- A crash that has struck is taken; where none has, all stays.

@@ -1,10 +1,10 @@
 //! A crash: its image, the store that is recovered from it, and the report.
-ghost use Rattle.std.specs.Prelude.{IfOk, IfErr, MatchOption};
+ghost use Rattle.std.specs.Prelude.{ℕ, List, IfOk, IfErr, MatchOption};
 ghost use Rattle.std.specs.Io.KnownBytes.{Appends};
 ghost use Rattle.fkv_playing.specs.InTurn.{Writes};
 ghost use Rattle.fkv_map.specs.History as histories;
 ghost use Rattle.fkv_runs.specs.Crashes.{Agrees, IsCause, IsCrash, IsRefusal, IsReplay, crash_text, kept_behind};
-ghost use Rattle.fkv_runs.specs.Openings.{Begins, Holds, IsRecovered, RefusesNoCall};
+ghost use Rattle.fkv_runs.specs.Openings.{Begins, CrashesFrom, Holds, IsRecovered, RefusesNoCall, crash_image};
 
 use crate::crashing::Crashes;
 use crate::openings::{begin, granted};
@@ -41,9 +41,10 @@ pub(crate) fn take_crash<D: Crashes, W: Write>(
     player: Player<D>,
     settings: Settings,
 ) -> io::Result<Option<NextLife<D>>>
-    ensures { IfOk result (λ next. D.may_leave player.world.device (D.image player.world.device settings.torn) × MatchOption next
-        (Writes (IsRefusal (D.image player.world.device settings.torn)) (W.contents output.old) (W.contents output.new))
-        (λ life. Writes (IsCrash (Holds D.honest D.seen D.may_leave D.refuses) (D.image player.world.device settings.torn) settings.checks player life.player life.agrees) (W.contents output.old) (W.contents output.new))) }
+    ensures { IfOk result (λ next. D.may_leave player.world.device (crash_image D.expects player.world.device settings.torn) × MatchOption next
+        (Writes (IsRefusal (crash_image D.expects player.world.device settings.torn)) (W.contents output.old) (W.contents output.new))
+        (λ life. CrashesFrom D.expects (crash_image D.expects player.world.device settings.torn) life.player.world.device
+        × Writes (IsCrash (Holds D.honest D.seen D.may_leave D.refuses) (crash_image D.expects player.world.device settings.torn) settings.checks player life.player life.agrees) (W.contents output.old) (W.contents output.new))) }
 {
     let (device, history) = player.end();
     let image = granted(device.crash(settings.torn))?;
@@ -61,6 +62,7 @@ pub(crate) fn take_crash<D: Crashes, W: Write>(
 fn recover_image<D: Crashes>(alloc: Global, device: D) -> Result<Recovered<D>, Fault>
     ensures store { D.honest device → IfOk result (λ its. IsRecovered (D.seen device) its.opened its.pairs.items) }
     ensures reads { D.honest device → RefusesNoCall D.refuses device → IfOk result (λ its. Holds D.honest D.seen D.may_leave D.refuses (D.seen device) its.device) }
+    ensures crashes { (image : List ℕ) → CrashesFrom D.expects image device → IfOk result (λ its. CrashesFrom D.expects image its.device) }
     ensures cause { D.honest device → IfErr result (IsCause (D.seen device)) }
 {
     let mut device = device;

@@ -1,12 +1,8 @@
 //! Devices that can be crashed.
-ghost use Rattle.std.specs.Prelude.{◌≡◌, ℕ, List, IfOk};
-ghost use Rattle.fkv_disk.specs.Calls.{torn_image};
-ghost use Rattle.fkv_disk.specs.Fuse.{with_refused};
-ghost use Rattle.fkv_disk.specs.Fuses.{fuse_device, fuse_state};
-ghost use Rattle.fkv_disk.specs.Memory.{disk_calls, disk_opening};
+ghost use Rattle.std.specs.Prelude.{◌≡◌, ℕ, IfOk};
 ghost use Rattle.fkv_playing.specs.Players.{IsArmed, PlayerState, waits_for_crash};
 ghost use Rattle.fkv_playing.specs.declared.players.Waits.{Waits};
-ghost use Rattle.fkv_runs.specs.Openings.{RefusesNoCall};
+ghost use Rattle.fkv_runs.specs.Openings.{CrashesFrom, RefusesNoCall, crash_image};
 
 use fkv_base::Fault;
 use fkv_disk::{Fuse, MemDisk};
@@ -14,18 +10,17 @@ use fkv_playing::{Breaks, Player};
 
 /// A device that can be made to fail, and crashed.
 pub trait Crashes: Breaks + Drop {
-    /// The image that a crash leaves: each byte that isn't synced is set to this one.
-    ghost image: { Self → ℕ → List ℕ };
-
     /// It is made to fail behind so many calls.
     ghost armed: { ℕ → Waits → PlayerState Self → PlayerState Self → Type 0 };
 
-    /// An honest device with the image of a crash here, which refuses no call.
+    /// An honest device with the image of a crash here, which refuses no call. Of the new one crashes go from that image on. The image is the one that this
+    /// device foretells: each byte that isn't synced is set to this one. So it is taken of the calls that the device has met, and of no others.
     fn crash(self, torn: u8) -> Result<Self, Fault>
         ensures honest { IfOk result (λ next. Self.honest next) }
-        ensures image { IfOk result (λ next. Self.seen next ≡ image self torn) }
-        ensures allowed { IfOk result (λ next. Self.may_leave self (image self torn)) }
-        ensures sound { IfOk result (RefusesNoCall Self.refuses) };
+        ensures image { IfOk result (λ next. Self.seen next ≡ crash_image Self.expects self torn) }
+        ensures allowed { IfOk result (λ next. Self.may_leave self (crash_image Self.expects self torn)) }
+        ensures sound { IfOk result (RefusesNoCall Self.refuses) }
+        ensures crashes { IfOk result (CrashesFrom Self.expects (crash_image Self.expects self torn)) };
 
     /// So many calls of the device pass from now on, and then each fails.
     fn fail_behind(player: &mut Player<Self>, count: u64)
@@ -37,8 +32,6 @@ pub trait Crashes: Breaks + Drop {
 }
 
 impl Crashes for Fuse<MemDisk> {
-    ghost image = { λ fuse torn. torn_image (disk_opening (fuse_device fuse)) (with_refused (fuse_state fuse) (disk_calls (fuse_device fuse))) torn };
-
     ghost armed = { λ count waits before after. IsArmed count waits before after };
 
     fn crash(self, torn: u8) -> Result<Fuse<MemDisk>, Fault> {

@@ -25,9 +25,9 @@ pub fn play_life<D: Breaks + Drop, W: Write>(
     picks: &mut Picks,
 ) -> io::Result<()>
     ensures whole { OnOk result ((player : PlayerState D) × Begins opened device [] false player
-        × Writes (IsRunOfLife (EngineStep D.honest D.seen D.may_leave D.failed D.refuses D.broken) pieces.now player) (W.contents output.old) (W.contents output.new)) }
+        × Writes (IsRunOfLife (EngineStep D.honest D.seen D.may_leave D.failed D.refuses D.expects D.broken) pieces.now player) (W.contents output.old) (W.contents output.new)) }
     ensures part { OnErr result (BreaksOff (λ text. (player : PlayerState D) × Begins opened device [] false player
-        × IsPartOfLife (EngineStep D.honest D.seen D.may_leave D.failed D.refuses D.broken) pieces.now player text) (W.contents output.old) (W.contents output.new)) }
+        × IsPartOfLife (EngineStep D.honest D.seen D.may_leave D.failed D.refuses D.expects D.broken) pieces.now player text) (W.contents output.old) (W.contents output.new)) }
 {
     let mut player = begin(alloc, opened, device, Vec::new(alloc), false)?;
     for piece in pieces {
@@ -44,8 +44,8 @@ fn tell_piece<D: Breaks + Drop, W: Write>(
     piece: &Piece,
     picks: &mut Picks,
 ) -> io::Result<()>
-    ensures whole { OnOk result (Writes (IsPieceOfLife (EngineStep D.honest D.seen D.may_leave D.failed D.refuses D.broken) piece.now player.old player.new false) (W.contents output.old) (W.contents output.new)) }
-    ensures part { OnErr result (BreaksOff (λ text. (after : PlayerState D) × IsPieceOfLife (EngineStep D.honest D.seen D.may_leave D.failed D.refuses D.broken) piece.now player.old after false text) (W.contents output.old) (W.contents output.new)) }
+    ensures whole { OnOk result (Writes (IsPieceOfLife (EngineStep D.honest D.seen D.may_leave D.failed D.refuses D.expects D.broken) piece.now player.old player.new false) (W.contents output.old) (W.contents output.new)) }
+    ensures part { OnErr result (BreaksOff (λ text. (after : PlayerState D) × IsPieceOfLife (EngineStep D.honest D.seen D.may_leave D.failed D.refuses D.expects D.broken) piece.now player.old after false text) (W.contents output.old) (W.contents output.new)) }
 {
     let mut said = Vec::new(alloc);
     play_piece(alloc, &mut said, player, piece, picks)?;
@@ -59,7 +59,7 @@ fn play_piece<D: Breaks + Drop, W: Write>(
     piece: &Piece,
     picks: &mut Picks,
 ) -> io::Result<()>
-    ensures { OnOk result (Writes (IsPieceOfLife (EngineStep D.honest D.seen D.may_leave D.failed D.refuses D.broken) piece.now player.old player.new false) (W.contents output.old) (W.contents output.new)) }
+    ensures { OnOk result (Writes (IsPieceOfLife (EngineStep D.honest D.seen D.may_leave D.failed D.refuses D.expects D.broken) piece.now player.old player.new false) (W.contents output.old) (W.contents output.new)) }
 {
     match piece {
         Piece::Group(calls) => play_calls(alloc, output, player, calls, picks),
@@ -78,7 +78,7 @@ fn play_calls<D: Breaks + Drop, W: Write>(
     calls: &[ActorCall],
     picks: &mut Picks,
 ) -> io::Result<()>
-    ensures { OnOk result (Writes (IsGroupOfLife (EngineStep D.honest D.seen D.may_leave D.failed D.refuses D.broken) calls.now player.old player.new) (W.contents output.old) (W.contents output.new)) }
+    ensures { OnOk result (Writes (IsGroupOfLife (EngineStep D.honest D.seen D.may_leave D.failed D.refuses D.expects D.broken) calls.now player.old player.new) (W.contents output.old) (W.contents output.new)) }
 {
     let mut queues = queues_of(alloc, calls)?;
     if player.play_group(output, &mut queues, picks)? {

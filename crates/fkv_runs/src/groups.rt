@@ -18,7 +18,7 @@ impl<D: Crashes> Run<D> {
         calls: &[ActorCall],
         picks: &mut Picks,
     ) -> io::Result<Option<Run<D>>>
-        ensures { IfOk result (λ next. (KeepsSettings self.settings next) × Writes (IsGroupPlayed (medium_of D.honest D.seen D.may_leave D.failed D.refuses D.broken D.image D.armed) self.settings calls.now self.state (state_behind self.state next) (is_none next)) (W.contents output.old) (W.contents output.new)) }
+        ensures { IfOk result (λ next. (KeepsSettings self.settings next) × Writes (IsGroupPlayed (medium_of D.honest D.seen D.may_leave D.failed D.refuses D.expects D.broken D.armed) self.settings calls.now self.state (state_behind self.state next) (is_none next)) (W.contents output.old) (W.contents output.new)) }
     {
         let mut run = self;
         let mut queues = queues_of(run.alloc, calls)?;

@@ -48,9 +48,9 @@ pub fn play_lives<D: Crashes, W: Write>(
     settings: Settings,
 ) -> io::Result<u8>
     ensures whole { IfOk result (λ status. (player : PlayerState D) × Begins opened device [] settings.checks player
-        × Writes (IsRun (medium_of D.honest D.seen D.may_leave D.failed D.refuses D.broken D.image D.armed) settings pieces.now (record { player = player; agrees = true }) status) (W.contents output.old) (W.contents output.new)) }
+        × Writes (IsRun (medium_of D.honest D.seen D.may_leave D.failed D.refuses D.expects D.broken D.armed) settings pieces.now (record { player = player; agrees = true }) status) (W.contents output.old) (W.contents output.new)) }
     ensures part { OnErr result (BreaksOff (λ text. (player : PlayerState D) × Begins opened device [] settings.checks player
-        × IsPartOfRun (medium_of D.honest D.seen D.may_leave D.failed D.refuses D.broken D.image D.armed) settings pieces.now (record { player = player; agrees = true }) text) (W.contents output.old) (W.contents output.new)) }
+        × IsPartOfRun (medium_of D.honest D.seen D.may_leave D.failed D.refuses D.expects D.broken D.armed) settings pieces.now (record { player = player; agrees = true }) text) (W.contents output.old) (W.contents output.new)) }
 {
     let player = begin(alloc, opened, device, Vec::new(alloc), settings.checks)?;
     let run = Run {
@@ -70,8 +70,8 @@ impl<D: Crashes> Run<D> {
         pieces: &[Piece],
         picks: &mut Picks,
     ) -> io::Result<u8>
-        ensures whole { IfOk result (λ status. Writes (IsRun (medium_of D.honest D.seen D.may_leave D.failed D.refuses D.broken D.image D.armed) self.settings pieces.now self.state status) (W.contents output.old) (W.contents output.new)) }
-        ensures part { OnErr result (BreaksOff (IsPartOfRun (medium_of D.honest D.seen D.may_leave D.failed D.refuses D.broken D.image D.armed) self.settings pieces.now self.state) (W.contents output.old) (W.contents output.new)) }
+        ensures whole { IfOk result (λ status. Writes (IsRun (medium_of D.honest D.seen D.may_leave D.failed D.refuses D.expects D.broken D.armed) self.settings pieces.now self.state status) (W.contents output.old) (W.contents output.new)) }
+        ensures part { OnErr result (BreaksOff (IsPartOfRun (medium_of D.honest D.seen D.may_leave D.failed D.refuses D.expects D.broken D.armed) self.settings pieces.now self.state) (W.contents output.old) (W.contents output.new)) }
     {
         let mut run = self;
         for piece in pieces {
@@ -85,8 +85,8 @@ impl<D: Crashes> Run<D> {
 
     /// Takes the crash that still is to come, where there is one.
     fn end<W: Write>(self, output: &mut W) -> io::Result<u8>
-        ensures whole { IfOk result (λ status. (over : Bool) × (after : RunState D) × (status ≡ status_of over after.agrees) × Writes (IsCrashedWhere (is_due self.state.player.waits) (medium_of D.honest D.seen D.may_leave D.failed D.refuses D.broken D.image D.armed) self.settings self.state after over) (W.contents output.old) (W.contents output.new)) }
-        ensures part { OnErr result (BreaksOff (λ text. (over : Bool) × (after : RunState D) × IsCrashedWhere (is_due self.state.player.waits) (medium_of D.honest D.seen D.may_leave D.failed D.refuses D.broken D.image D.armed) self.settings self.state after over text) (W.contents output.old) (W.contents output.new)) }
+        ensures whole { IfOk result (λ status. (over : Bool) × (after : RunState D) × (status ≡ status_of over after.agrees) × Writes (IsCrashedWhere (is_due self.state.player.waits) (medium_of D.honest D.seen D.may_leave D.failed D.refuses D.expects D.broken D.armed) self.settings self.state after over) (W.contents output.old) (W.contents output.new)) }
+        ensures part { OnErr result (BreaksOff (λ text. (over : Bool) × (after : RunState D) × IsCrashedWhere (is_due self.state.player.waits) (medium_of D.honest D.seen D.may_leave D.failed D.refuses D.expects D.broken D.armed) self.settings self.state after over text) (W.contents output.old) (W.contents output.new)) }
     {
         if !is_due(self.player.waits()) {
             return Ok(status_of(self.agrees));
@@ -99,8 +99,8 @@ impl<D: Crashes> Run<D> {
 
     /// Takes a crash, and then writes what is printed of it. None where its image was refused.
     fn tell_crash<W: Write>(self, output: &mut W) -> io::Result<Option<Run<D>>>
-        ensures whole { IfOk result (λ next. (KeepsSettings self.settings next) × Writes (IsCrashed (medium_of D.honest D.seen D.may_leave D.failed D.refuses D.broken D.image D.armed) self.settings self.state (state_behind self.state next) (is_none next)) (W.contents output.old) (W.contents output.new)) }
-        ensures part { OnErr result (BreaksOff (λ text. (over : Bool) × (after : RunState D) × IsCrashed (medium_of D.honest D.seen D.may_leave D.failed D.refuses D.broken D.image D.armed) self.settings self.state after over text) (W.contents output.old) (W.contents output.new)) }
+        ensures whole { IfOk result (λ next. (KeepsSettings self.settings next) × Writes (IsCrashed (medium_of D.honest D.seen D.may_leave D.failed D.refuses D.expects D.broken D.armed) self.settings self.state (state_behind self.state next) (is_none next)) (W.contents output.old) (W.contents output.new)) }
+        ensures part { OnErr result (BreaksOff (λ text. (over : Bool) × (after : RunState D) × IsCrashed (medium_of D.honest D.seen D.may_leave D.failed D.refuses D.expects D.broken D.armed) self.settings self.state after over text) (W.contents output.old) (W.contents output.new)) }
     {
         let mut said = Vec::new(self.alloc);
         let next = self.crash(&mut said)?;
@@ -115,8 +115,8 @@ impl<D: Crashes> Run<D> {
         piece: &Piece,
         picks: &mut Picks,
     ) -> io::Result<Option<Run<D>>>
-        ensures whole { IfOk result (λ next. (KeepsSettings self.settings next) × Writes (IsPiece (medium_of D.honest D.seen D.may_leave D.failed D.refuses D.broken D.image D.armed) self.settings piece.now self.state (state_behind self.state next) (is_none next)) (W.contents output.old) (W.contents output.new)) }
-        ensures part { OnErr result (BreaksOff (λ text. (over : Bool) × (after : RunState D) × IsPiece (medium_of D.honest D.seen D.may_leave D.failed D.refuses D.broken D.image D.armed) self.settings piece.now self.state after over text) (W.contents output.old) (W.contents output.new)) }
+        ensures whole { IfOk result (λ next. (KeepsSettings self.settings next) × Writes (IsPiece (medium_of D.honest D.seen D.may_leave D.failed D.refuses D.expects D.broken D.armed) self.settings piece.now self.state (state_behind self.state next) (is_none next)) (W.contents output.old) (W.contents output.new)) }
+        ensures part { OnErr result (BreaksOff (λ text. (over : Bool) × (after : RunState D) × IsPiece (medium_of D.honest D.seen D.may_leave D.failed D.refuses D.expects D.broken D.armed) self.settings piece.now self.state after over text) (W.contents output.old) (W.contents output.new)) }
     {
         let mut said = Vec::new(self.alloc);
         let next = self.piece(&mut said, piece, picks)?;
@@ -131,7 +131,7 @@ impl<D: Crashes> Run<D> {
         piece: &Piece,
         picks: &mut Picks,
     ) -> io::Result<Option<Run<D>>>
-        ensures { IfOk result (λ next. (KeepsSettings self.settings next) × Writes (IsPiece (medium_of D.honest D.seen D.may_leave D.failed D.refuses D.broken D.image D.armed) self.settings piece.now self.state (state_behind self.state next) (is_none next)) (W.contents output.old) (W.contents output.new)) }
+        ensures { IfOk result (λ next. (KeepsSettings self.settings next) × Writes (IsPiece (medium_of D.honest D.seen D.may_leave D.failed D.refuses D.expects D.broken D.armed) self.settings piece.now self.state (state_behind self.state next) (is_none next)) (W.contents output.old) (W.contents output.new)) }
     {
         match piece {
             Piece::Group(calls) => self.group(output, calls, picks),
@@ -144,7 +144,7 @@ impl<D: Crashes> Run<D> {
 
     /// A crash is to strike at the device's call of this number, counted from 1.
     fn prepare_crash(self, call: u64) -> Run<D>
-        ensures run { Prepares (medium_of D.honest D.seen D.may_leave D.failed D.refuses D.broken D.image D.armed) (call - 1) (waits_for_crash (D.broken self.state.player.world.device)) self.state result.state false [] }
+        ensures run { Prepares (medium_of D.honest D.seen D.may_leave D.failed D.refuses D.expects D.broken D.armed) (call - 1) (waits_for_crash (D.broken self.state.player.world.device)) self.state result.state false [] }
         ensures settings { result.settings ≡ self.settings }
     {
         let mut run = self;
@@ -154,7 +154,7 @@ impl<D: Crashes> Run<D> {
 
     /// The device's call of this number is to fail, counted from 1, and each later one.
     fn prepare_failure(self, call: u64) -> Run<D>
-        ensures run { Prepares (medium_of D.honest D.seen D.may_leave D.failed D.refuses D.broken D.image D.armed) (call - 1) Waits.Failure self.state result.state false [] }
+        ensures run { Prepares (medium_of D.honest D.seen D.may_leave D.failed D.refuses D.expects D.broken D.armed) (call - 1) Waits.Failure self.state result.state false [] }
         ensures settings { result.settings ≡ self.settings }
     {
         let mut run = self;
@@ -164,7 +164,7 @@ impl<D: Crashes> Run<D> {
 
     /// Finishes the commit that runs, and takes a crash that strikes in it.
     fn finish<W: Write>(self, output: &mut W) -> io::Result<Option<Run<D>>>
-        ensures { IfOk result (λ next. (KeepsSettings self.settings next) × Writes (IsLegOf (IsFinishStruck (medium_of D.honest D.seen D.may_leave D.failed D.refuses D.broken D.image D.armed)) (medium_of D.honest D.seen D.may_leave D.failed D.refuses D.broken D.image D.armed) self.settings self.state (state_behind self.state next) (is_none next)) (W.contents output.old) (W.contents output.new)) }
+        ensures { IfOk result (λ next. (KeepsSettings self.settings next) × Writes (IsLegOf (IsFinishStruck (medium_of D.honest D.seen D.may_leave D.failed D.refuses D.expects D.broken D.armed)) (medium_of D.honest D.seen D.may_leave D.failed D.refuses D.expects D.broken D.armed) self.settings self.state (state_behind self.state next) (is_none next)) (W.contents output.old) (W.contents output.new)) }
     {
         let mut run = self;
         if has_struck(run.player.finish(run.alloc, output)?) {
@@ -175,7 +175,7 @@ impl<D: Crashes> Run<D> {
 
     /// Takes a crash, and goes on with the next life. None where its image was refused, and that is printed.
     pub(crate) fn crash<W: Write>(self, output: &mut W) -> io::Result<Option<Run<D>>>
-        ensures { IfOk result (λ next. (KeepsSettings self.settings next) × Writes (IsCrashed (medium_of D.honest D.seen D.may_leave D.failed D.refuses D.broken D.image D.armed) self.settings self.state (state_behind self.state next) (is_none next)) (W.contents output.old) (W.contents output.new)) }
+        ensures { IfOk result (λ next. (KeepsSettings self.settings next) × Writes (IsCrashed (medium_of D.honest D.seen D.may_leave D.failed D.refuses D.expects D.broken D.armed) self.settings self.state (state_behind self.state next) (is_none next)) (W.contents output.old) (W.contents output.new)) }
     {
         let Run {
             alloc,

@@ -1,12 +1,14 @@
 -- The keeper ends a turn with `Device` at a call of the device that has failed, and nowhere else.
-use Rattle.std.proofs.Common.{◌≡◌, ℕ, ◌+◌, refl, sym, ap, subst, ◌∙◌, Bool, true, false, arith}
+use Rattle.std.proofs.Common.{◌≡◌, ℕ, ◌+◌, refl, sym, ap, subst, ◌∙◌, Bool, true, false, not, arith}
 use Rattle.std.specs.Prelude.{List, Option, Some, None, Result, Ok, Err, IsErr, ◌||◌, if◌then◌else◌}
 use Rattle.atomic_table.specs.Table.{Me}
 use Rattle.fkv_base.specs.declared.faults.Fault.{Fault}
 use Rattle.fkv_base.specs.declared.faults.Fault.TheVariants as fault
 use Rattle.fkv_base.specs.declared.phases.Phase.TheVariants as phase
 use Rattle.fkv_base.specs.declared.shapes.Shape.{Shape}
+use Rattle.fkv_disk.specs.Asks.{AskedCall, kinds_by}
 use Rattle.fkv_disk.specs.Device.{HasCause, MakesCalls}
+use Rattle.fkv_disk.specs.Kinds.{Foretold, Kind}
 use Rattle.fkv_disk.proofs.Shown.{more_calls, no_call}
 use Rattle.law_world.specs.Below.fkv_words.PhaseSaid.{PhaseSaid}
 use Rattle.law_world.specs.Below.fkv_words.PhaseSaid.TheVariants.{Says}
@@ -60,7 +62,7 @@ use Rattle.fkv_keeper.specs.declared.keepers.Keeping.{Keeping}
 use Rattle.fkv_keeper.specs.declared.keepers.Keeping.TheVariants.{Copies, Ended, Enters, Finishes, LoadsPhase, Maintains, Seeks, Starts, Waits, Writes}
 use Rattle.fkv_keeper.specs.KeeperAsks.{keeper_calls_asked}
 use Rattle.fkv_keeper.specs.KeeperRun.{is_in_hand}
-use Rattle.fkv_keeper.specs.Keeping.{Finality, KeeperModel, KeeperState, copies, copies_next, copy_driven, copy_ledto, copy_taken, copy_told, device_passed, ended, enter_ledto, finish_ledto, finished, is_copy_resting, keeper_ask, keeper_called, keeper_next, keeper_word_due, keeping_ask, keeping_called, keeping_given, keeping_next, maintain_ledto, part_begun, phase_ledto, seek_ledto, start_ledto, turn_asked, turn_over, turned, wait_ledto, write_ledto, writes_begun}
+use Rattle.fkv_keeper.specs.Keeping.{Finality, KeeperModel, KeeperState, copies, copies_next, copy_driven, copy_ledto, copy_taken, copy_told, device_passed, ended, enter_ledto, finish_ledto, finished, is_copy_resting, keeper_ask, keeper_called, keeper_next, keeper_word_due, keeping_ask, keeping_called, keeping_given, keeping_next, maintain_ledto, must_rest, part_begun, phase_ledto, seek_ledto, start_ledto, turn_asked, turn_over, turned, wait_ledto, write_ledto, writes_begun, writes_taken_up}
 use Rattle.fkv_keeper.proofs.Shown.{due_asks}
 use Rattle.fkv_keeper.specs.Running.{IsTurnTold}
 use Rattle.fkv_keeper.specs.WholeCalls.{calls_told}
@@ -219,10 +221,13 @@ part_begins p s c (Says phase.WaitPending version) granted = copies_led p s c gr
 part_begins p s c (Says phase.WaitFlush version) granted = either s.has_points _ _ refl refl
 part_begins p s c said granted = refl
 
+taken_up_led : (s : KeeperState) (granted : Bool) → ended_by_device (writes_taken_up s granted).step ≡ false
+taken_up_led s granted = either granted (record s { rests = false; is_granted = true; step = Writes }) (turned (record s { is_granted = false })) refl refl
+
 phase_led : (p : Places) (s : KeeperState) (found : Option Commit) (said : PhaseSaid) (granted : Bool) → ended_by_device (phase_ledto p s found said granted).step ≡ false
 unfolding phase_ledto
 phase_led p s None said granted = refl
-phase_led p s (Some c) said granted = part_begins p s c said granted
+phase_led p s (Some c) said granted = either s.rests (writes_taken_up s granted) (part_begun p s c said granted) (taken_up_led s granted) (part_begins p s c said granted)
 
 enter_led : (t : KeeperState) (ask : Ask EnterAnswer) → t.step ≡ Enters → ended_by_device (enter_ledto t ask).step ≡ false
 unfolding enter_ledto
@@ -270,7 +275,7 @@ write_led : (t : KeeperState) (found : Option Commit) (its : WriteAnswer) → t.
 unfolding write_ledto
 write_led t None its e = refl
 write_led t (Some c) write.Written e = refl
-write_led t (Some c) write.Device e = rests t Writes e refl
+write_led t (Some c) write.Device e = either (must_rest t) (turned (record t { rests = true })) t refl (rests t Writes e refl)
 write_led t (Some c) (write.Broken why) e = rests t Writes e refl
 
 -- ---- the keeper's steps
@@ -432,3 +437,14 @@ counts_more n m false failed mid failed' refuses between refuses' early late = r
   cause = record { later = omega (arith, early.cause.later, late.cause.later); rose = tt; named = tt };
   counted = more_calls n m refuses between refuses' (calls_told false) (calls_told false) early.counted (λ err. err) late.counted;
 }
+
+-- ---- which call the device has met, and whether it came through
+pub met_done : (k k' : KeeperModel) (due : Option AskedCall) (expects expects' : List Kind → Foretold) → keeper_ask k.shape k.places k.state ≡ Done Device
+    → (bytes : List ℕ) × (k' ≡ record k { state = keeper_called k.shape k.places k.state true bytes }) → expects' ≡ kinds_by due true expects → expects' ≡ kinds_by due (not (ended_by_device k'.state.step)) expects
+met_done k k' due expects expects' asks went kind =
+    let none : ended_by_device k'.state.step ≡ false = ap (λ (x : KeeperModel). ended_by_device x.state.step) went.1 ∙ done_none k.shape k.places k.state went.0 asks in
+    subst (λ (by : Bool). expects' ≡ kinds_by due (not by) expects) (sym none) kind
+
+pub met_failed : (k' : KeeperModel) (due : Option AskedCall) (expects expects' : List Kind → Foretold) → k'.state.step ≡ Ended (TurnRefused fault.Device)
+    → expects' ≡ kinds_by due false expects → expects' ≡ kinds_by due (not (ended_by_device k'.state.step)) expects
+met_failed k' due expects expects' ends kind = subst (λ (by : Bool). expects' ≡ kinds_by due (not by) expects) (sym (ap ended_by_device ends)) kind

@@ -102,12 +102,14 @@ commit_over k (TurnRefused why) b e = ap is_busy e
 commit_over k (Begun number) b e = ap is_busy e
 commit_over k (CommitRefused why) b e = ap is_busy e
 
-begun_by : (s : KeeperState) (kind : CommitKind) (broken : Bool) → IsBeginning (if broken then ended s (CommitRefused Broken) else record s { start = start_begun s.start (asked_for s kind); step = Starts }).step
-begun_by s kind true = tt
-begun_by s kind false = tt
+begun_by : (s : KeeperState) (kind : CommitKind) (broken rests : Bool)
+    → IsBeginning (if broken then ended s (CommitRefused Broken) else (if rests then ended s (CommitRefused CommitRunning) else record s { start = start_begun s.start (asked_for s kind); step = Starts })).step
+begun_by s kind true rests = tt
+begun_by s kind false true = tt
+begun_by s kind false false = tt
 
 pub commit_begins : (k k' : KeeperModel) (kind : CommitKind) → k' ≡ record k { state = commit_asked k.state kind } → IsBeginning k'.state.step
-commit_begins k k' kind is = subst (λ (x : KeeperModel). IsBeginning x.state.step) (sym is) (begun_by k.state kind k.state.is_broken)
+commit_begins k k' kind is = subst (λ (x : KeeperModel). IsBeginning x.state.step) (sym is) (begun_by k.state kind k.state.is_broken k.state.rests)
 
 module _ {K : Type 0} (at : K → World) (key : K) where
   settled_begins : (me me' : Me Slot (Knows K)) (k k' : KeeperModel) (next : Ask KeeperTold) → KeeperSettled at next me k me' k' → IsBeginning k.state.step → IsBeginning k'.state.step

@@ -1,5 +1,5 @@
 //! The keeper's calls at the table.
-ghost use Rattle.std.specs.Prelude.{◌≡◌, ◌<◌, ◌≤◌, ◌↔◌, ℕ, Bool, Some, None, [], true, false, is_some, is_ok};
+ghost use Rattle.std.specs.Prelude.{◌≡◌, ◌<◌, ◌≤◌, ◌↔◌, ℕ, Bool, Some, None, [], true, false, not, is_some, is_ok};
 ghost use Rattle.fkv_table.specs.Said as said;
 
 use crate::performing::perform;
@@ -59,7 +59,7 @@ impl OfKeeper for LogCommit {
     ghost its = { said.Commits said.Log };
 }
 
-/// A step of the keeper's, with memory for a copy. A call of the device that has succeeded is one too.
+/// A step of the keeper's, with memory for a copy, or with which writes that rest go on. A call of the device that has succeeded is one too.
 pub(crate) struct Granted;
 
 impl OfKeeper for Granted {
@@ -160,28 +160,42 @@ fn ask_word<D: Device, E: OfKeeper>(
     machine: &mut fkv_keeper::Keeper,
     ask: &Ask<KeeperTold>,
     room: Option<CopyRoom>,
+    goes_on: bool,
 ) -> Ask<KeeperTold>
     requires table { (seat.old.table_id ≡ words.now.table_id) × said.IsTableOf (said.opening_of D.seen words.now.key) words.now.table_id }
-    requires event { E.its ≡ said.KeeperMoves (is_some room) true }
+    requires event { E.its ≡ said.KeeperMoves (said.granted_for machine.old.state (is_some room) goes_on) true }
     requires room { said.IsRoomFor machine.old.places room }
     requires keeping { said.IsKeeping (said.opening_of D.seen) words.now.key seat.old.me machine.old }
     requires ask { ask.now ≡ said.keeper_ask machine.old.shape machine.old.places machine.old.state }
     requires word { (place : ℕ) × (said.asked_place ask.now ≡ Some place) }
     ensures seat { (seat.new.table_id ≡ seat.old.table_id) × (seat.new.id ≡ seat.old.id) }
-    ensures replied { said.KeeperReplied (said.opening_of D.seen) words.now.key seat.old.me (is_some room) machine.old seat.new.me machine.new }
+    ensures replied { said.KeeperReplied (said.opening_of D.seen) words.now.key seat.old.me (said.granted_for machine.old.state (is_some room) goes_on) machine.old
+        seat.new.me machine.new }
     ensures ask { result ≡ said.keeper_ask machine.new.shape machine.new.places machine.new.state }
 {
     let reply = perform::<D, Adding<E>, KeeperTold>(words, seat, ask);
-    machine.go_on_with(reply, room)
+    machine.go_on_with(reply, room, goes_on)
 }
 
-/// The same, where the event is by what memory was got.
-fn ask_by_room<D: Device>(
+/// Whether the step is granted what it may need: that writes that rest go on, and elsewhere memory for a copy.
+fn is_granted(machine: &fkv_keeper::Keeper, room: &Option<CopyRoom>, goes_on: bool) -> bool
+    ensures { result ≡ said.granted_for machine.now.state (is_some room.now) goes_on }
+{
+    if machine.rests() {
+        goes_on
+    } else {
+        room.is_some()
+    }
+}
+
+/// The same, where the event is by what is granted: memory that was got, or that writes that rest go on.
+fn ask_by_grant<D: Device>(
     words: &Words<D>,
     seat: &mut Place<D>,
     machine: &mut fkv_keeper::Keeper,
     ask: &Ask<KeeperTold>,
     room: Option<CopyRoom>,
+    goes_on: bool,
 ) -> Ask<KeeperTold>
     requires table { (seat.old.table_id ≡ words.now.table_id) × said.IsTableOf (said.opening_of D.seen words.now.key) words.now.table_id }
     requires room { said.IsRoomFor machine.old.places room }
@@ -189,13 +203,14 @@ fn ask_by_room<D: Device>(
     requires ask { ask.now ≡ said.keeper_ask machine.old.shape machine.old.places machine.old.state }
     requires word { (place : ℕ) × (said.asked_place ask.now ≡ Some place) }
     ensures seat { (seat.new.table_id ≡ seat.old.table_id) × (seat.new.id ≡ seat.old.id) }
-    ensures replied { said.KeeperReplied (said.opening_of D.seen) words.now.key seat.old.me (is_some room) machine.old seat.new.me machine.new }
+    ensures replied { said.KeeperReplied (said.opening_of D.seen) words.now.key seat.old.me (said.granted_for machine.old.state (is_some room) goes_on) machine.old
+        seat.new.me machine.new }
     ensures ask { result ≡ said.keeper_ask machine.new.shape machine.new.places machine.new.state }
 {
-    if room.is_some() {
-        ask_word::<D, Granted>(words, seat, machine, ask, room)
+    if is_granted(machine, &room, goes_on) {
+        ask_word::<D, Granted>(words, seat, machine, ask, room, goes_on)
     } else {
-        ask_word::<D, Ungranted>(words, seat, machine, ask, room)
+        ask_word::<D, Ungranted>(words, seat, machine, ask, room, goes_on)
     }
 }
 
@@ -216,7 +231,7 @@ fn settle<D: Device>(
     match next {
         Ask::Put(slot, action) => {
             let _ = words.exchange(seat, slot, Held::Drain(Some(action)));
-            machine.go_on_with(0, None)
+            machine.go_on_with(0, None, false)
         }
         Ask::Take(slot) => match words.exchange(seat, slot, Held::Drain(None)) {
             Held::Drain(Some(action)) => machine.take(action),
@@ -233,6 +248,7 @@ fn step<D: Device>(
     seat: &mut Place<D>,
     machine: &mut fkv_keeper::Keeper,
     ask: &Ask<KeeperTold>,
+    goes_on: bool,
 ) -> Ask<KeeperTold>
     requires table { (seat.old.table_id ≡ words.now.table_id) × said.IsTableOf (said.opening_of D.seen words.now.key) words.now.table_id }
     requires keeping { said.IsKeeping (said.opening_of D.seen) words.now.key seat.old.me machine.old }
@@ -250,7 +266,7 @@ fn step<D: Device>(
     ensures ask { result ≡ said.keeper_ask machine.new.shape machine.new.places machine.new.state }
 {
     let room = machine.room();
-    let next = ask_by_room(words, seat, machine, ask, room);
+    let next = ask_by_grant(words, seat, machine, ask, room, goes_on);
     settle(words, seat, machine, next)
 }
 
@@ -323,7 +339,7 @@ pub(crate) fn call_device<D: Device>(
     ensures after { said.IsAfterSeen (said.opening_of D.seen) words.now.key seat.new.me.0.seen (D.seen d.new) (D.may_leave d.new) }
     ensures moments { said.AtEachMoment D.moment D.left_since d.old d.new (said.IsLeftWithin (said.opening_of D.seen) words.now.key seat.old.me.0.seen
         seat.new.me.0.seen) }
-    ensures due { D.expects d.new ≡ said.kinds_by (said.keeper_due machine.old) (D.expects d.old) }
+    ensures due { D.expects d.new ≡ said.kinds_by (said.keeper_due machine.old) (not (said.ended_by_device machine.new.state.step)) (D.expects d.old) }
     ensures counted { said.IsCounted 1 (said.ended_by_device machine.new.state.step) (D.failed d.old) (D.failed d.new) (D.refuses d.old) (D.refuses d.new) }
     ensures fewer { said.keeper_asks_left machine.new.shape machine.new.places machine.new.state < said.keeper_asks_left machine.old.shape machine.old.places
         machine.old.state }
@@ -340,6 +356,7 @@ pub(crate) fn word_steps<D: Device>(
     words: &Words<D>,
     seat: &mut Place<D>,
     machine: &mut fkv_keeper::Keeper,
+    goes_on: bool,
 ) -> KeeperTold
     requires table { (seat.old.table_id ≡ words.now.table_id) × said.IsTableOf (said.opening_of D.seen words.now.key) words.now.table_id }
     requires keeping { said.IsKeeping (said.opening_of D.seen) words.now.key seat.old.me machine.old }
@@ -359,7 +376,7 @@ pub(crate) fn word_steps<D: Device>(
         if let Ask::Done(told) = ask {
             return told;
         }
-        ask = step(words, seat, machine, &ask);
+        ask = step(words, seat, machine, &ask, goes_on);
         if machine.word_due().is_some() {
             load_words(words, seat, machine);
             ask = machine.ask();
@@ -405,7 +422,7 @@ impl Keeper {
     {
         let words = &table.table.shared;
         begin_commit(words, &mut pass.seat, &mut self.machine, kind);
-        word_steps(words, &mut pass.seat, &mut self.machine);
+        word_steps(words, &mut pass.seat, &mut self.machine, false);
         begin_told(&mut self.machine)
     }
 }

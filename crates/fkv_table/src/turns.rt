@@ -1,5 +1,5 @@
 //! A turn of the keeper, whole or in pieces.
-ghost use Rattle.std.specs.Prelude.{◌≡◌, ◌<◌, ◌≤◌, ℕ, true, false};
+ghost use Rattle.std.specs.Prelude.{◌≡◌, ◌<◌, ◌≤◌, ℕ, true, false, not};
 ghost use Rattle.fkv_table.specs.Said as said;
 
 use crate::keepers::{Keeper, KeeperPass, begin_turn, call_device, word_steps};
@@ -33,7 +33,13 @@ impl Keeper {
     }
 
     /// Makes the turn's steps of words up to the next call of the device, or to the turn's end, and tells which. The device isn't called.
-    pub fn drive<D: Device>(&mut self, table: &Table<D>, pass: &mut KeeperPass<D>) -> TurnAsk
+    /// Where the writes of a commit rest they go on only if the caller says so.
+    pub fn drive<D: Device>(
+        &mut self,
+        table: &Table<D>,
+        pass: &mut KeeperPass<D>,
+        goes_on: bool,
+    ) -> TurnAsk
         requires at_work { said.IsKeeperAtWork (said.opening_of D.seen) table.now.table.shared.key table.now.table.shared.table_id pass.old.seat.table_id
             pass.old.seat.me self.old.machine }
         ensures at_work { said.IsKeeperAtWork (said.opening_of D.seen) table.now.table.shared.key table.now.table.shared.table_id pass.new.seat.table_id
@@ -45,10 +51,22 @@ impl Keeper {
         ensures left { said.keeper_asks_left self.new.machine.shape self.new.machine.places self.new.machine.state ≤ said.keeper_asks_left
             self.old.machine.shape self.old.machine.places self.old.machine.state }
     {
-        match word_steps(&table.table.shared, &mut pass.seat, &mut self.machine) {
+        match word_steps(
+            &table.table.shared,
+            &mut pass.seat,
+            &mut self.machine,
+            goes_on,
+        ) {
             KeeperTold::Device => TurnAsk::Device,
             _ => TurnAsk::Over(turn_told(&mut self.machine)),
         }
+    }
+
+    /// Whether the writes of the commit in hand rest, before a sync.
+    pub fn rests(&self) -> bool
+        ensures { result ≡ self.now.machine.state.rests }
+    {
+        self.machine.rests()
     }
 
     /// Whether the next piece is a call of the device.
@@ -86,7 +104,7 @@ impl Keeper {
         ensures after { said.IsAfterSeen (said.opening_of D.seen) table.now.table.shared.key pass.new.seat.me.0.seen (D.seen d.new) (D.may_leave d.new) }
         ensures moments { said.AtEachMoment D.moment D.left_since d.old d.new (said.IsLeftWithin (said.opening_of D.seen) table.now.table.shared.key
             pass.old.seat.me.0.seen pass.new.seat.me.0.seen) }
-        ensures due { D.expects d.new ≡ said.kinds_by (said.keeper_due self.old.machine) (D.expects d.old) }
+        ensures due { D.expects d.new ≡ said.kinds_by (said.keeper_due self.old.machine) (not (said.ended_by_device self.new.machine.state.step)) (D.expects d.old) }
         ensures counted { said.IsCounted 1 (said.ended_by_device self.new.machine.state.step) (D.failed d.old) (D.failed d.new) (D.refuses d.old)
             (D.refuses d.new) }
         ensures fewer { said.keeper_asks_left self.new.machine.shape self.new.machine.places self.new.machine.state < said.keeper_asks_left
@@ -150,7 +168,7 @@ impl Keeper {
     {
         self.start_turn(table, pass);
         'pieces: loop {
-            match self.drive(table, pass) {
+            match self.drive(table, pass, true) {
                 TurnAsk::Device => self.device_step(table, pass, d),
                 TurnAsk::Over(answer) => return answer,
             }

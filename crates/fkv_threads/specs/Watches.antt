@@ -1,5 +1,5 @@
 -- The calls of a keeper that watches over its table.
-use Rattle.std.specs.Prelude.{◌≡◌, ◌<◌, ◌≤◌, ℕ, Bool, true, false, List, Result, Some, Err}
+use Rattle.std.specs.Prelude.{◌≡◌, ◌<◌, ◌≤◌, ℕ, Bool, true, false, not, List, Result, Some, Err}
 use Rattle.fkv_base.specs.declared.commits.CommitKind.{CommitKind}
 use Rattle.fkv_base.specs.declared.faults.Fault.{Fault}
 use Rattle.fkv_base.specs.declared.faults.Fault.TheVariants.{CommitRunning}
@@ -89,7 +89,7 @@ module _ {D : Type 0} (device : Ghosts D) where
     pub same : IsSame w w'
     pub called : List Happening
     pub went : HasGoneOn w.seen called
-    pub due : device.expects w'.device ≡ kinds_by (keeper_due w.machine) (device.expects medium)
+    pub due : device.expects w'.device ≡ kinds_by (keeper_due w.machine) (not (over_by_device next)) (device.expects medium)
     pub counted : IsCounted 1 (over_by_device next) (device.failed medium) (device.failed w'.device) (device.refuses medium) (device.refuses w'.device)
     pub fewer : asks_left w'.machine < asks_left w.machine
     pub moments : AtEachMoment device.moment device.left_since medium w'.device (IsLeftWithin (opening device) w.key w.seen called)

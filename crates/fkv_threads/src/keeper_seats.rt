@@ -22,6 +22,8 @@ pub struct KeeperSeat<D: Device + Drop> {
     pass: KeeperPass<D>,
     device: D,
     in_turn: bool,
+    /// In this turn writes that rest go on.
+    goes_on: bool,
 }
 
 impl<D: Device + Drop> Model for KeeperSeat<D> {
@@ -55,6 +57,7 @@ impl<D: Device + Drop> KeeperSeat<D> {
             pass,
             device,
             in_turn: false,
+            goes_on: false,
         }
     }
 
@@ -75,18 +78,25 @@ impl<D: Device + Drop> KeeperSeat<D> {
     }
 
     /// Begins a turn, and carries it on up to its next call of the device, which isn't made, or to its end. So it ends with any of the turn's faults but
-    /// `Device`. Where a call of the device is due nothing changes, and `Device` is answered again.
-    pub fn drive(&mut self) -> TurnAsk
+    /// `Device`. Where a call of the device is due nothing changes, and `Device` is answered again. While the writes of a commit rest a turn serves and
+    /// does nothing else, but that they go on behind that if the caller says so.
+    pub fn drive(&mut self, goes_on: bool) -> TurnAsk
         ensures driven { said.IsDriven D.Device self.old result self.new }
     {
         if self.in_turn {
             return TurnAsk::Device;
         }
         law_threads::<Snapshot<World<D>>>();
+        self.goes_on = goes_on;
         self.keeper.start_turn(&self.table, &mut self.pass);
-        let next = self.keeper.drive(&self.table, &mut self.pass);
+        let next = self.keeper.drive(&self.table, &mut self.pass, goes_on);
         self.in_turn = is_due(&next);
         next
+    }
+
+    /// Whether the writes of the commit in hand rest: behind a turn that came to a sync. (A hint: no clause speaks of it.)
+    pub fn rests(&self) -> bool {
+        self.keeper.rests()
     }
 
     /// The call of the device that is due, in the middle of a turn.
@@ -105,7 +115,7 @@ impl<D: Device + Drop> KeeperSeat<D> {
         law_threads::<Snapshot<World<D>>>();
         self.keeper
             .device_step(&self.table, &mut self.pass, &mut self.device);
-        let next = self.keeper.drive(&self.table, &mut self.pass);
+        let next = self.keeper.drive(&self.table, &mut self.pass, self.goes_on);
         self.in_turn = is_due(&next);
         next
     }
@@ -141,7 +151,7 @@ impl KeeperSeat<Posted<'static>> {
         ensures told { said.IsTold ⟦<Posted<'static> as Device>⟧ told self.old result self.new }
     {
         if !self.in_turn {
-            return self.drive();
+            return self.drive(true);
         }
         self.device.tell(told);
         self.step()

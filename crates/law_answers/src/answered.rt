@@ -16,7 +16,7 @@ pub fn law_calls_answered()
 /// A step that begins a call tells its answer at once, or leaves its actor with the call in hand: where there is such an actor, it has no call in
 /// hand, and the life goes on.
 pub fn law_calls_begin<D: Device>(world: &World<D>)
-    ensures { calls.CallsAreAnsweredOrInHand D.honest D.seen D.may_leave D.failed D.refuses world.now }
+    ensures { calls.CallsAreAnsweredOrInHand D.honest D.seen D.may_leave D.failed D.refuses D.expects world.now }
 {}
 
 /// In a life of a store that was just opened, over an honest device, `World::finish` tells the answer of an actor that has a call in hand: its
@@ -32,7 +32,7 @@ pub fn law_finish_tells<D: Device>(world: &World<D>)
 /// Behind a step, and behind `World::finish`, the same life goes on, with the event that took place, and with the actor's moves: as long as the
 /// device is honest, which each of them leaves as it was.
 pub fn law_life_goes_on<D: Device>(world: &World<D>)
-    ensures step { calls.LifeGoesOnByAStep D.honest D.seen D.may_leave D.failed D.refuses world.now }
+    ensures step { calls.LifeGoesOnByAStep D.honest D.seen D.may_leave D.failed D.refuses D.expects world.now }
     ensures finish { calls.LifeGoesOnByAFinish D.honest D.seen D.may_leave D.failed D.refuses world.now }
 {}
 

@@ -17,8 +17,8 @@ pub fn law_effects_told()
 /// So it is behind each step of the engine, by what `World::is_in_hand` says of the session before it, and `World::effect` behind it; and for
 /// who keeps the oldest first.
 pub fn law_step_tells_effect<D: Device>(world: &World<D>)
-    ensures newest_first { effects.StepsTellTheirEffects D.honest D.seen D.may_leave D.failed D.refuses world.now }
-    ensures oldest_first { effects.StepsTellOldestFirst D.honest D.seen D.may_leave D.failed D.refuses world.now }
+    ensures newest_first { effects.StepsTellTheirEffects D.honest D.seen D.may_leave D.failed D.refuses D.expects world.now }
+    ensures oldest_first { effects.StepsTellOldestFirst D.honest D.seen D.may_leave D.failed D.refuses D.expects world.now }
 {
     law_effects_told();
 }

@@ -1,5 +1,5 @@
 -- What a device has met, by what the keeper asks for.
-use Rattle.std.proofs.Common.{◌≡◌, ◌⊎◌, inl, inr, ℕ, Bool, true, false, List, [], ◌∷◌, refl, ap, ◌∙◌}
+use Rattle.std.proofs.Common.{◌≡◌, ◌⊎◌, inl, inr, ℕ, Bool, true, false, List, [], ◌∷◌, ap, ◌∙◌}
 use Rattle.std.specs.Prelude.{◌++◌, if◌then◌else◌}
 use Rattle.fkv_disk.specs.Calls.{Call}
 use Rattle.fkv_disk.specs.Device.{after}

@@ -24,5 +24,5 @@ HasMet (call ∷ other ∷ more) refuses refuses' = ⊥
 -- so it is of each step of the engine, whatever its device
 abbrev pub StepsMakeOneCall : {D : Type 0} → Ghosts D → Type 0
 StepsMakeOneCall {D} device = (its : Event) (n after : Now) (told : Option Told) (was is : D)
-    → (step : IsStep its n after told (device.failed was) (device.failed is) (device.refuses was) (device.refuses is) (device.honest was) (device.seen was) (device.seen is) (device.may_leave was) (device.may_leave is))
+    → (step : IsStep its n after told (device.failed was) (device.failed is) (device.refuses was) (device.refuses is) (device.expects was) (device.expects is) (device.honest was) (device.seen was) (device.seen is) (device.may_leave was) (device.may_leave is))
     → HasMet (calls_made n (took_place its step.granted step.done)) (device.refuses was) (device.refuses is)

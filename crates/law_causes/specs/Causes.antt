@@ -1,8 +1,9 @@
 -- Why the keeper refuses a commit, and why it ends a turn early.
-use Rattle.std.specs.Prelude.{◌≡◌, ℕ, List, [], ◌∷◌, length, Bool, false, Option, Some, None}
+use Rattle.std.specs.Prelude.{◌≡◌, ◌⊎◌, ℕ, List, [], ◌∷◌, length, Bool, true, false, Option, Some, None}
 use Rattle.fkv_base.specs.declared.commits.CommitKind.{CommitKind}
 use Rattle.fkv_base.specs.declared.faults.Fault.{Fault}
 use Rattle.fkv_base.specs.declared.faults.Fault.TheVariants as fault
+use Rattle.fkv_base.specs.Limits.{is_specified}
 use Rattle.fkv_base.specs.declared.shapes.Shape.{Shape}
 use Rattle.fkv_plane.specs.declared.places.Places.{Places}
 use Rattle.fkv_commit.specs.Exchanges.{AreIdle, Exchange, WasEpochLast}
@@ -40,9 +41,19 @@ pub record IsShown (asked : Option CommitKind) (so : CommitKind → StartAsked) 
 abbrev pub refused_by : KeeperState → CommitKind → StartAsked
 refused_by s kind = record { class = s.start.asked.class; kind = kind; lost = length s.lost; checkpoint = s.last.checkpoint.number }
 
--- It is refused as broken only if a call of the device has failed before. Any other cause is shown by what this call has asked and was replied.
+-- The call has asked nothing. A commit of a living store is in hand, and its writes rest.
+pub record HasRestingWrites (s : KeeperState) (told : List Exchange) : Type 0 where
+  pub none_asked : told ≡ []
+  pub living : is_specified s.start.asked.class ≡ false
+  pub commit : Commit
+  pub in_hand : s.commit ≡ Some commit
+  pub rests : s.rests ≡ true
+
+-- It is refused as broken only if a call of the device has failed before. Any other cause is shown by what this call has asked and was replied, or a commit
+-- is running whose writes rest.
 abbrev pub HasCommitCause : List KeeperEvent → Option CommitKind → KeeperState → List Exchange → Fault → Type 0
 HasCommitCause before asked s told fault.Broken = HasFailed before
+HasCommitCause before asked s told fault.CommitRunning = IsShown asked (refused_by s) fault.CommitRunning told ⊎ HasRestingWrites s told
 HasCommitCause before asked s told why = IsShown asked (refused_by s) why told
 
 -- ---- a turn that ends early

@@ -19,9 +19,10 @@ ghost use Rattle.law_causes.specs.Lives.{keeper_before, kind_of_life, told_in_li
 
 /// Whatever is begun, replied, given and called: a commit that is refused has its cause, and so has a turn that ends early. A commit is refused as broken
 /// only if a call of the device has failed before. Else the call has changed no word, and the words that it has loaded show why: a commit is running,
-/// versions or epochs are spent, a log commit has too many lost ranges or lies past the window of its checkpoint, or no drain slot is free. A turn ends
-/// as broken only if a call of the device has failed before, and for the device only at its own call that fails. It ends for the epochs only if it has
-/// loaded the last epoch, and for memory only where none is granted for a copy of the index.
+/// versions or epochs are spent, a log commit has too many lost ranges or lies past the window of its checkpoint, or no drain slot is free. While the
+/// writes of a living store's commit rest, another is refused as running, and has asked nothing. A turn ends as broken only if a call of the device has
+/// failed before, and for the device only at its own call that fails. It ends for the epochs only if it has loaded the last epoch, and for memory only
+/// where none is granted for a copy of the index.
 pub fn law_of_refusals()
     ensures commits { (shape : Shape) (p : Places) (opening : KeeperState) (before : List KeeperEvent) (event : KeeperEvent) (why : Fault) → IsOpened opening
         → is_calling (keeper_run shape p opening before).step event ≡ true

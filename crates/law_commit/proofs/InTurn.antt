@@ -14,12 +14,14 @@ use Rattle.law_refine.specs.Below.fkv_keeper.TheKeeping.{Keeping}
 use Rattle.law_refine.specs.Below.fkv_keeper.TheKeeping.TheVariants.{Ended, Starts, Maintains, LoadsPhase, Enters, Copies, Seeks, Waits, Writes, Finishes}
 use Rattle.law_refine.specs.Below.fkv_keeper.CheckpointLaws.{GoesOn, IsBegun, IsCommitAfter, IsFinished}
 use Rattle.law_refine.specs.Below.fkv_keeper.Keeping.{KeeperState}
+use Rattle.law_refine.specs.Below.fkv_keeper.KeeperLaws.{MayRest}
 use Rattle.law_refine.specs.Below.fkv_keeper.KeeperRun.{KeeperEvent, BeginsTurn, BeginsCommit, Replies, Gets, Calls, IsOpened, keeper_happens, keeper_run}
 use Rattle.law_refine.proofs.Below.fkv_keeper.Shown.{each_move}
 use Rattle.law_refine.specs.Below.law_world.Standing.Opening.{AreNumbersInTurn, IsNumberInTurn}
 use Rattle.law_commit.specs.BegunCommits.{BegunCommit, AreInTurn, ComesNext, begun_at_end, begun_at_gate, begun_at_writes, begun_by, commit_opening, commits_begun, with_finished, with_sealed}
 use Rattle.law_commit.specs.HeldCommits.{HaveFinished}
-use Rattle.law_commit.proofs.BegunStands.{AtGate, AtWrites, StandsAt, run_stands}
+use Rattle.law_commit.proofs.BegunStands.{AtGate, AtWrites, Stands, StandsAt, run_stands}
+use Rattle.law_commit.proofs.InRest.{come_awake, rest_begun, rests_there}
 
 -- the commit in hand has the next number
 abbrev NextInHand : KeeperState → Type 0
@@ -122,10 +124,18 @@ event_turn s begun Copies event after next at its = its
 event_turn s begun Seeks event after next at its = its
 event_turn s begun Waits event after next at its = its
 
+-- where writes rest it stays as it is
+come_turn : (s : KeeperState) (begun : List BegunCommit) (event : KeeperEvent) (after : Keeping) → (s.rests ≡ true → MayRest s.step) → NextInHand s → Stands begun s → AreInTurn begun → AreInTurn (begun_by s s.step event after begun)
+come_turn s begun event after may next at its = by s.rests refl
+  where
+    by : (b : Bool) → s.rests ≡ b → AreInTurn (begun_by s s.step event after begun)
+    by true rests = subst (λ (x : List BegunCommit). AreInTurn x) (sym (rest_begun s s.step event after begun (may rests))) its
+    by false awake = event_turn s begun s.step event after next (subst (λ (x : Keeping). StandsAt begun s x) (come_awake s s.step awake refl) at) its
+
 pub run_turn : (shape : Shape) (p : Places) (opening : KeeperState) (first : List BegunCommit) (events : List KeeperEvent) → IsOpened opening → HaveFinished first opening.last → AreInTurn first → AreNumbersInTurn shape p opening events
     → AreInTurn (commits_begun shape p opening first events)
 unfolding commits_begun AreNumbersInTurn
 run_turn shape p opening first [] opened all its turn = its
 run_turn shape p opening first (event ∷ before) opened all its turn =
-    event_turn (keeper_run shape p opening before) (commits_begun shape p opening first before) (keeper_run shape p opening before).step event (keeper_run shape p opening (event ∷ before)).step (run_next shape p opening before opened turn.1)
+    come_turn (keeper_run shape p opening before) (commits_begun shape p opening first before) event (keeper_run shape p opening (event ∷ before)).step (rests_there shape p opening before opened) (run_next shape p opening before opened turn.1)
     (run_stands shape p opening first before opened all) (run_turn shape p opening first before opened all its turn.1)

@@ -3,6 +3,7 @@ mod BegunStands
 mod Catches
 mod Counted
 mod Goes
+mod InRest
 mod InTurn
 mod LifeBegun
 mod Measured

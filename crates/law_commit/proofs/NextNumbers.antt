@@ -1,5 +1,5 @@
 -- As long as rest is of the version behind the newest finished commit's number, each commit that begins has that number.
-use Rattle.std.proofs.Common.{◌≡◌, ℕ, ◌+◌, ◌<◌, ◌^◌, ◌∙◌, List, [], ◌∷◌, ◌++◌, refl, arith, sym, subst, Bool, true, false}
+use Rattle.std.proofs.Common.{◌≡◌, ◌⊎◌, inl, inr, ℕ, ◌+◌, ◌<◌, ◌^◌, ◌∙◌, List, [], ◌∷◌, ◌++◌, refl, arith, sym, subst, Bool, true, false}
 use Rattle.std.specs.Prelude.{⊤, Option, Some, None, if◌then◌else◌, nat_le}
 use Rattle.std.proofs.lemmas.Bool.Decides.{nat_tests}
 use Rattle.fkv_base.specs.Limits.{last_of}
@@ -43,9 +43,10 @@ use Rattle.law_refine.specs.Below.fkv_world.Opened.{IsOpenedWorld}
 use Rattle.law_refine.specs.Below.fkv_world.OwnEvents.{keeper_got, keeper_slots, keeper_steps, keeper_part, keeper_part_of, keeper_events}
 use Rattle.law_refine.specs.Below.fkv_world.Runs.{World, read_by_keeper, run}
 use Rattle.law_refine.specs.Below.fkv_world.World as world
-use Rattle.law_refine.specs.Below.fkv_world.World.{Event, Commits, KeeperMoves, Crashes, Now, near}
+use Rattle.law_refine.specs.Below.fkv_world.World.{Event, Commits, KeeperMoves, Crashes, near}
 use Rattle.law_refine.proofs.Below.fkv_world.Shown.{keeper_runs, keeper_runs_on, places_stay, shape_stays}
 use Rattle.law_commit.specs.PhaseVersions.{RestIsNext, RestsAreNext}
+use Rattle.law_commit.proofs.InRest.{follows_or_writes}
 
 -- a commit that starts has the next number, once it has one
 abbrev IsNext : ℕ → Version → Type 0
@@ -185,7 +186,11 @@ start_stays s e next = record { turn = rw e tt; starts = stays_so s Starts e nex
 other_turn : (shape : Shape) (p : Places) (s : KeeperState) (step : Keeping) (event : KeeperEvent) → s.step ≡ step → StartsNone step → IsTurn s.last.number step (keeper_happens shape p s event)
 other_turn shape p s step event e none =
     let a : KeeperState = keeper_happens shape p s event in
-    record { turn = no_turn s.last.number step a.step none; starts = none_starts a step a.step none (subst (λ (x : Keeping). MayFollow x a.step) e (each_move shape p s event).one.follows) }
+    record { turn = no_turn s.last.number step a.step none; starts = by a (follows_or_writes s.rests s.step a.step (each_move shape p s event).one.steps) }
+  where
+    by : (a : KeeperState) → MayFollow s.step a.step ⊎ (a.step ≡ Writes) → StartsNextAt a a.step
+    by a (inl follows) = none_starts a step a.step none (subst (λ (x : Keeping). MayFollow x a.step) e follows)
+    by a (inr writes) = stays_so a Writes writes tt
 
 turn_by : (shape : Shape) (p : Places) (s : KeeperState) (step : Keeping) (event : KeeperEvent) → s.step ≡ step → StartsNextAt s step → SaysAt s step event → IsTurn s.last.number step (keeper_happens shape p s event)
 unfolding keeper_happens keeping_next keeping_given keeping_called
@@ -198,7 +203,7 @@ turn_by shape p s (Ended its) (Replies reply granted) e next says = rw e (record
 turn_by shape p s (Ended its) (Gets action) e next says = rw e (record { turn = tt; starts = tt })
 turn_by shape p s (Ended its) (Calls done bytes) e next says = rw e (record { turn = tt; starts = tt })
 turn_by shape p s (Ended its) BeginsTurn e next says = rw e (record { turn = tt; starts = broken_starts s.is_broken _ _ tt tt })
-turn_by shape p s (Ended its) (BeginsCommit kind) e next says = rw e (record { turn = tt; starts = broken_starts s.is_broken _ _ tt tt })
+turn_by shape p s (Ended its) (BeginsCommit kind) e next says = rw e (record { turn = tt; starts = broken_starts s.is_broken _ _ tt (broken_starts s.rests _ _ tt tt) })
 turn_by shape p s Maintains event e next says = other_turn shape p s Maintains event e tt
 turn_by shape p s LoadsPhase event e next says = other_turn shape p s LoadsPhase event e tt
 turn_by shape p s Enters event e next says = other_turn shape p s Enters event e tt

@@ -37,6 +37,7 @@ use Rattle.law_commit.specs.BegunCommits.{BegunCommit, begun_at_end, begun_at_ga
 use Rattle.law_commit.specs.HeldCommits.{AtEnd, HaveFinished, IsAsLast, IsInHand, OneIsOpen}
 use Rattle.law_commit.specs.FinishedCommits.{ToldCommit, commits_finished, commits_told, told_of, with_told}
 use Rattle.law_commit.proofs.BegunStands.{StandsAt, run_stands}
+use Rattle.law_commit.proofs.InRest.{awake_at, come_awake, stays_awake}
 use Rattle.law_commit.proofs.LifeBegun.{opening_finished}
 
 -- a commit more where a turn ends that finishes a commit
@@ -115,22 +116,47 @@ not_more (Ended (Turned true full)) Finishes last before other = absurd other
 not_more (Ended (Turned true full)) step last before other = refl
 not_more after step last before other = refl
 
-event_commits : (begun : List BegunCommit) (s a : KeeperState) (step : Keeping) (event : KeeperEvent) (after : Keeping) → a.step ≡ after → StandsAt begun s step → StandsAt (begun_by s step event after begun) a after
+-- what is known where it finishes, before that and behind it
+abbrev FinishesSo : List BegunCommit → KeeperState → KeeperState → Keeping → Keeping → Type 0
+FinishesSo begun s a Finishes after = IsInHand begun s true × StandsAt (begun_at_end after begun) a after
+FinishesSo begun s a step after = Unit {0}
+
+event_commits : (begun : List BegunCommit) (s a : KeeperState) (step : Keeping) (event : KeeperEvent) (after : Keeping) → a.step ≡ after → FinishesSo begun s a step after
     → commits_finished (begun_by s step event after begun) ≡ with_commit after step a.last (commits_finished begun)
-event_commits begun s a Finishes event after e its stands = end_commits begun s a after e its stands
-event_commits begun s a Writes (Calls done bytes) after e its stands = writes_commits s begun s.writes.step done ∙ sym (not_more after Writes a.last (commits_finished begun) tt)
-event_commits begun s a Writes BeginsTurn after e its stands = sym (not_more after Writes a.last (commits_finished begun) tt)
-event_commits begun s a Writes (BeginsCommit kind) after e its stands = sym (not_more after Writes a.last (commits_finished begun) tt)
-event_commits begun s a Writes (Replies reply granted) after e its stands = sym (not_more after Writes a.last (commits_finished begun) tt)
-event_commits begun s a Writes (Gets action) after e its stands = sym (not_more after Writes a.last (commits_finished begun) tt)
-event_commits begun s a (Ended told) event after e its stands = sym (not_more after (Ended told) a.last (commits_finished begun) tt)
-event_commits begun s a Starts event after e its stands = sym (not_more after Starts a.last (commits_finished begun) tt)
-event_commits begun s a Maintains event after e its stands = sym (not_more after Maintains a.last (commits_finished begun) tt)
-event_commits begun s a LoadsPhase event after e its stands = sym (not_more after LoadsPhase a.last (commits_finished begun) tt)
-event_commits begun s a Enters event after e its stands = sym (not_more after Enters a.last (commits_finished begun) tt)
-event_commits begun s a Copies event after e its stands = sym (not_more after Copies a.last (commits_finished begun) tt)
-event_commits begun s a Seeks event after e its stands = sym (not_more after Seeks a.last (commits_finished begun) tt)
-event_commits begun s a Waits event after e its stands = sym (not_more after Waits a.last (commits_finished begun) tt)
+event_commits begun s a Finishes event after e so = end_commits begun s a after e so.0 so.1
+event_commits begun s a Writes (Calls done bytes) after e so = writes_commits s begun s.writes.step done ∙ sym (not_more after Writes a.last (commits_finished begun) tt)
+event_commits begun s a Writes BeginsTurn after e so = sym (not_more after Writes a.last (commits_finished begun) tt)
+event_commits begun s a Writes (BeginsCommit kind) after e so = sym (not_more after Writes a.last (commits_finished begun) tt)
+event_commits begun s a Writes (Replies reply granted) after e so = sym (not_more after Writes a.last (commits_finished begun) tt)
+event_commits begun s a Writes (Gets action) after e so = sym (not_more after Writes a.last (commits_finished begun) tt)
+event_commits begun s a (Ended told) event after e so = sym (not_more after (Ended told) a.last (commits_finished begun) tt)
+event_commits begun s a Starts event after e so = sym (not_more after Starts a.last (commits_finished begun) tt)
+event_commits begun s a Maintains event after e so = sym (not_more after Maintains a.last (commits_finished begun) tt)
+event_commits begun s a LoadsPhase event after e so = sym (not_more after LoadsPhase a.last (commits_finished begun) tt)
+event_commits begun s a Enters event after e so = sym (not_more after Enters a.last (commits_finished begun) tt)
+event_commits begun s a Copies event after e so = sym (not_more after Copies a.last (commits_finished begun) tt)
+event_commits begun s a Seeks event after e so = sym (not_more after Seeks a.last (commits_finished begun) tt)
+event_commits begun s a Waits event after e so = sym (not_more after Waits a.last (commits_finished begun) tt)
+
+-- it finishes where no writes rest
+module _ (shape : Shape) (p : Places) (opening : KeeperState) (first : List BegunCommit) (opened : IsOpened opening) (all : HaveFinished first opening.last) where
+  finishes_so : (event : KeeperEvent) (before : List KeeperEvent) (step : Keeping) → (keeper_run shape p opening before).step ≡ step
+      → FinishesSo (commits_begun shape p opening first before) (keeper_run shape p opening before) (keeper_run shape p opening (event ∷ before)) step (keeper_run shape p opening (event ∷ before)).step
+  unfolding keeper_run commits_begun
+  finishes_so event before Finishes e =
+      let s : KeeperState = keeper_run shape p opening before in
+      let a : KeeperState = keeper_happens shape p s event in
+      let begun : List BegunCommit = commits_begun shape p opening first before in
+      let awake : s.rests ≡ false = awake_at shape p opening before Finishes opened e (λ may. may) in
+      let still : a.rests ≡ false = stays_awake shape p s event awake (λ writes. apart (sym e ∙ writes)) in
+      let after : StandsAt (begun_by s s.step event a.step begun) a a.step = subst (λ (x : Keeping). StandsAt (begun_by s s.step event a.step begun) a x) (come_awake a a.step still refl) (run_stands shape p opening first (event ∷ before) opened all) in (
+        subst (λ (x : Keeping). StandsAt begun s x) (come_awake s Finishes awake e) (run_stands shape p opening first before opened all),
+        subst (λ (x : Keeping). StandsAt (begun_by s x event a.step begun) a a.step) e after,
+      )
+    where
+      apart : Finishes ≡ Writes → ⊥
+      apart both = cc
+  finishes_so event before step e = tt
 
 -- over a run of the keeper
 run_commits : (shape : Shape) (p : Places) (opening : KeeperState) (first : List BegunCommit) (events : List KeeperEvent) → IsOpened opening → HaveFinished first opening.last
@@ -140,7 +166,7 @@ run_commits shape p opening first [] opened all = refl
 run_commits shape p opening first (event ∷ before) opened all =
     let a : KeeperState = keeper_run shape p opening (event ∷ before) in
     let s : KeeperState = keeper_run shape p opening before in
-    event_commits (commits_begun shape p opening first before) s a s.step event a.step refl (run_stands shape p opening first before opened all) (run_stands shape p opening first (event ∷ before) opened all)
+    event_commits (commits_begun shape p opening first before) s a s.step event a.step refl (finishes_so shape p opening first opened all event before s.step refl)
     ∙ ap (λ (commits : List ToldCommit). with_commit a.step s.step a.last commits) (run_commits shape p opening first before opened all)
 
 -- ---- what callers see of it

@@ -1,4 +1,4 @@
--- How far the commits that have begun have come, by the step of the keeper.
+-- How far the commits that have begun have come, by the step to which the keeper has come.
 use Rattle.std.specs.Prelude.{◌≡◌, ⊤, ◌⊎◌, Bool, true, false, List, [], ◌∷◌, Some}
 use Rattle.law_refine.specs.Below.fkv_commit.Commit.{Commit}
 use Rattle.law_refine.specs.Below.fkv_keeper.TheKeeping.{Keeping}

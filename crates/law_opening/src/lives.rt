@@ -32,7 +32,7 @@ pub fn law_index_opens()
 pub fn law_device_opens<D: Device>(device: &D)
     ensures world { lives.WorldBeginsALife }
     ensures device { lives.DeviceBeginsALife D.seen D.may_leave device.now }
-    ensures made { lives.MadeStepsLeadOn D.honest D.seen D.may_leave D.failed D.refuses device.now }
+    ensures made { lives.MadeStepsLeadOn D.honest D.seen D.may_leave D.failed D.refuses D.expects device.now }
     ensures steps { lives.StepsAreOfTheLife D.seen D.may_leave device.now }
 {}
 

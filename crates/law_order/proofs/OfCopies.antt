@@ -8,6 +8,7 @@ use Rattle.law_commit.specs.Below.fkv_checkpoint.Copying.{Copier}
 use Rattle.law_commit.specs.Below.fkv_commit.Commit.{Commit}
 use Rattle.law_commit.specs.Below.fkv_keeper.CheckpointLaws.{IsBeforeWrites}
 use Rattle.law_commit.specs.Below.fkv_keeper.Keeping.{bytes_copied, triples_written}
+use Rattle.law_commit.specs.Below.fkv_keeper.TheKeeping.TheVariants.{Seeks}
 use Rattle.law_commit.specs.Below.fkv_world.Runs.{World, run}
 use Rattle.law_commit.specs.Below.fkv_world.World.{Event}
 use Rattle.law_commit.specs.BegunCommits.{BegunCommit, life_begun}
@@ -18,6 +19,7 @@ use Rattle.law_commit.specs.Quiet.{OpensQuiet}
 use Rattle.law_log.specs.Trace.{IsIn}
 use Rattle.law_commit.specs.Below.law_refine.Index.Shows as index
 use Rattle.law_order.specs.Opened.{HasWrittenCopy}
+use Rattle.law_order.proofs.OfImages.Resting.{life_comes}
 
 module _ (held : CopiesAreInHand) (begun : CopiesBeginForCommits) (opening : World) (lists : ℕ → List ℕ) (in_order : index.IsOpened opening lists) where
   written_at : (later moment : List Event) (c : BegunCommit) → LoadsEnd (span_of c) (run opening moment).now → c.parts.kind ≡ Full → HasWrittenCopy opening lists (later ++ moment) c
@@ -26,7 +28,7 @@ module _ (held : CopiesAreInHand) (begun : CopiesBeginForCommits) (opening : Wor
       let commit : Commit = its.commit in
       let kind : commit.kind ≡ Full = ap (λ (x : Span). x.kind) (sym its.its) ∙ full in
       let hand : HasInHand opening.now.places (run opening moment).now.keeper copy =
-      held opening lists moment in_order commit its.in_hand kind its.copied its.works (subst IsBeforeWrites (sym its.seeks) tt) in
+      held opening lists moment in_order commit its.in_hand kind its.copied its.works (subst IsBeforeWrites (sym (life_comes opening moment Seeks in_order.keeper its.seeks (λ may. may))) tt) in
       record {
         moment = moment;
         later = later;

@@ -19,6 +19,7 @@ pub mod NamedNow
 pub mod OpenedLong
 pub mod Ranges
 pub mod Reaching
+pub mod Resting
 pub mod SealedStands
 pub mod Shows
 pub mod SlotSaid

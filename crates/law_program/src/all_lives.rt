@@ -16,7 +16,7 @@ use law_order::{
 /// run has checks, each report ends in the line that says that the store equals the replay, since the player has noted all lives (`law_noted`).
 pub fn law_all_lives<M: Crashes>()
     ensures { ((device : M) → M.honest device) → said.ArmsShown M.seen M.may_leave M.armed → said.ArmsKeepSeats M.armed → said.ArmsKeepNotes M.armed → (settings : said.Settings)
-        → said.ReportsOverLives M.seen M.may_leave (said.medium_of M.honest M.seen M.may_leave M.failed M.refuses M.broken M.image M.armed) settings }
+        → said.ReportsOverLives M.seen M.may_leave (said.medium_of M.honest M.seen M.may_leave M.failed M.refuses M.expects M.broken M.armed) settings }
 {
     law_each_life::<M>();
     law_interleaved::<M>();

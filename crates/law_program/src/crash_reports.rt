@@ -9,7 +9,7 @@ use law_order::{law_images_recovered, law_log_opened, law_of_the_past};
 /// keeps of the life. The pairs are the map with which the life began, behind a replay of just the updates up to each session's point. The next life begins with
 /// that store, and with an image that reaches far. No image of a crash is refused for what stands in it: a refusal says that the device has failed.
 pub fn law_crash_reports<M: Crashes>()
-    ensures { said.CrashesTakeWhatIsKept M.seen (said.medium_of M.honest M.seen M.may_leave M.failed M.refuses M.broken M.image M.armed) }
+    ensures { said.CrashesTakeWhatIsKept M.seen (said.medium_of M.honest M.seen M.may_leave M.failed M.refuses M.expects M.broken M.armed) }
 {
     law_each_life::<M>();
     law_log_opened();

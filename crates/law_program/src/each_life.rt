@@ -26,7 +26,7 @@ pub fn law_arming<D: Device>()
 /// which the next life begins. The image of a crash is one that may be left of the life before. So it is of a crash that still is to come behind the last piece.
 pub fn law_lives_joined<M: Crashes>()
     ensures { ((device : M) → M.honest device) → said.ArmsInLife M.seen M.may_leave M.armed → said.ArmsKeepSeats M.armed → (settings : said.Settings)
-        → said.RunsGoOn M.seen M.may_leave (said.medium_of M.honest M.seen M.may_leave M.failed M.refuses M.broken M.image M.armed) settings }
+        → said.RunsGoOn M.seen M.may_leave (said.medium_of M.honest M.seen M.may_leave M.failed M.refuses M.expects M.broken M.armed) settings }
 {
     law_each_line::<M>();
     law_each_life::<M>();

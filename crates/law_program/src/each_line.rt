@@ -11,7 +11,7 @@ use law_order::{law_finished_is_told, law_order, law_waiting_reads};
 /// read. A turn and a begun commit leave the map. By such a call just the commit finishes that it tells as finished, with its number and its points. A call
 /// in which a crash strikes prints nothing of its own, and a finish in which one strikes has printed what its calls before that have finished.
 pub fn law_each_line<D: Breaks>()
-    ensures { ((device : D) → D.honest device) → said.EachLineGoesOn D.seen D.may_leave (said.EngineStep D.honest D.seen D.may_leave D.failed D.refuses D.broken) }
+    ensures { ((device : D) → D.honest device) → said.EachLineGoesOn D.seen D.may_leave (said.EngineStep D.honest D.seen D.may_leave D.failed D.refuses D.expects D.broken) }
 {
     law_order();
     law_waiting_reads();

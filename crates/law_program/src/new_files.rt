@@ -10,7 +10,7 @@ use law_order::{law_log_opened, law_new_stores};
 /// alone, of which none is interleaved with another, prints what a map says that begins empty.
 pub fn law_new_files<M: Crashes, F: Breaks>()
     ensures quiet { said.NewStoresBeginQuiet }
-    ensures plays { said.NewFilesPlayMap (said.EngineStep F.honest F.seen F.may_leave F.failed F.refuses F.broken) }
+    ensures plays { said.NewFilesPlayMap (said.EngineStep F.honest F.seen F.may_leave F.failed F.refuses F.expects F.broken) }
 {
     law_new_stores();
     law_log_opened();

@@ -10,8 +10,8 @@ use law_order::law_guard_opens;
 /// the session's call is in hand. So what it has noted is the life's own history, behind what was kept of the lives before. Over honest devices that is so
 /// behind each group of calls, interleaved or not, up to its end or to a crash, and behind each finish.
 pub fn law_noted<D: Breaks>()
-    ensures groups { ((device : D) → D.honest device) → said.GroupsAreNoted D.seen D.may_leave (said.EngineStep D.honest D.seen D.may_leave D.failed D.refuses D.broken) }
-    ensures finishes { ((device : D) → D.honest device) → said.FinishesAreNoted D.seen D.may_leave (said.EngineStep D.honest D.seen D.may_leave D.failed D.refuses D.broken) }
+    ensures groups { ((device : D) → D.honest device) → said.GroupsAreNoted D.seen D.may_leave (said.EngineStep D.honest D.seen D.may_leave D.failed D.refuses D.expects D.broken) }
+    ensures finishes { ((device : D) → D.honest device) → said.FinishesAreNoted D.seen D.may_leave (said.EngineStep D.honest D.seen D.may_leave D.failed D.refuses D.expects D.broken) }
     ensures queues { said.CallsMakeIdleQueues }
 {
     law_effects_told();

@@ -3,7 +3,7 @@ use Rattle.std.proofs.Common.{◌≡◌, ◌⊎◌, inl, inr, ◌∙◌, List, [
 use Rattle.std.specs.Prelude.{⊤, Option, Some, None}
 use Rattle.fkv_base.specs.declared.commits.CommitKind.{CommitKind}
 use Rattle.fkv_base.specs.declared.faults.Fault.{Fault}
-use Rattle.fkv_base.specs.declared.faults.Fault.TheVariants.{Broken}
+use Rattle.fkv_base.specs.declared.faults.Fault.TheVariants.{Broken, CommitRunning}
 use Rattle.fkv_base.specs.declared.numbers.Addr.{Addr}
 use Rattle.fkv_base.specs.declared.numbers.Version.{Version}
 use Rattle.fkv_base.specs.declared.shapes.Shape.{Shape}
@@ -14,11 +14,11 @@ use Rattle.law_order.specs.Below.fkv_commit.StartAnswer.{StartAnswer}
 use Rattle.law_order.specs.Below.fkv_commit.StartAnswer.TheVariants as start
 use Rattle.law_order.specs.Below.fkv_commit.Starting.{start_ask, start_next}
 use Rattle.law_order.specs.Below.fkv_keeper.CheckpointLaws as laws
-use Rattle.law_order.specs.Below.fkv_keeper.CheckpointLaws.{BegunWith, LastBegin, MayFollow, begun_of, last_begin, last_begin_after}
+use Rattle.law_order.specs.Below.fkv_keeper.CheckpointLaws.{BegunWith, LastBegin, MayFollow, MayStep, begun_of, last_begin, last_begin_after}
 use Rattle.law_order.specs.Below.fkv_keeper.KeeperTold.{KeeperTold}
 use Rattle.law_order.specs.Below.fkv_keeper.KeeperTold.TheVariants.{Begun, CommitRefused}
 use Rattle.law_order.specs.Below.fkv_keeper.TheKeeping.{Keeping}
-use Rattle.law_order.specs.Below.fkv_keeper.TheKeeping.TheVariants.{Ended, Starts}
+use Rattle.law_order.specs.Below.fkv_keeper.TheKeeping.TheVariants.{Ended, LoadsPhase, Starts, Writes}
 use Rattle.law_order.specs.Below.fkv_keeper.Keeping.{KeeperState, commit_asked, keeping_called, keeping_given, keeping_next, start_ledto, turn_asked}
 use Rattle.law_order.specs.Below.fkv_keeper.KeeperRun.{BeginsCommit, BeginsTurn, Calls, Gets, KeeperEvent, Replies, begins, is_in_hand, keeper_happens, keeper_run}
 use Rattle.law_order.proofs.Below.fkv_keeper.Shown.{each_move}
@@ -83,6 +83,11 @@ goes_so Starts after busy follows = follows
 goes_so step Starts busy follows = follows
 goes_so step after busy follows = tt
 
+-- and where the writes go on that rest
+steps_so : (rests : Bool) (step after : Keeping) → is_in_hand step ≡ true → MayStep rests step after → Goes step after
+steps_so true LoadsPhase Writes busy steps = tt
+steps_so rests step after busy steps = goes_so step after busy steps
+
 goes_not : (step after : Keeping) → NotStarts step → Goes step after → NotStarts after
 goes_not (Ended its) after not goes = subst NotStarts (sym goes) tt
 goes_not Starts after not goes = absurd not
@@ -133,7 +138,7 @@ module _ (shape : Shape) (p : Places) where
 
   goes_at : (s : KeeperState) (step : Keeping) (event : KeeperEvent) → s.step ≡ step → BeginsNothing event → Goes step (keeper_happens shape p s event).step
   goes_at s (Ended its) event e none = idle_same s its event e none
-  goes_at s step event e none = goes_so step _ refl (subst (λ (x : Keeping). MayFollow x (keeper_happens shape p s event).step) e (each_move shape p s event).one.follows)
+  goes_at s step event e none = steps_so s.rests step _ refl (subst (λ (x : Keeping). MayStep s.rests x (keeper_happens shape p s event).step) e (each_move shape p s event).one.steps)
 
   -- where a call is in hand none begins
   busy_same : (s begun : KeeperState) → s.step ≡ Starts → begins s (is_in_hand s.step) begun ≡ s
@@ -220,9 +225,10 @@ module _ (shape : Shape) (p : Places) where
         subst (λ (step : Keeping). Goes step (state (event ∷ its ++ own)).step) was (event_goes event (its ++ own) none.0)
 
     -- ---- a call of the keeper, where none was in hand
-    commit_from : (broken : Bool) (s : KeeperState) (kind : CommitKind) → s.is_broken ≡ broken → ((commit_asked s kind).step ≡ Starts) ⊎ ((why : Fault) × ((commit_asked s kind).step ≡ Ended (CommitRefused why)))
-    commit_from true s kind e = inr (Broken, rw e refl)
-    commit_from false s kind e = inl (rw e refl)
+    commit_from : (broken rests : Bool) (s : KeeperState) (kind : CommitKind) → s.is_broken ≡ broken → s.rests ≡ rests → ((commit_asked s kind).step ≡ Starts) ⊎ ((why : Fault) × ((commit_asked s kind).step ≡ Ended (CommitRefused why)))
+    commit_from true rests s kind e r = inr (Broken, rw e refl)
+    commit_from false true s kind e r = inr (CommitRunning, rw (e, r) refl)
+    commit_from false false s kind e r = inl (rw (e, r) refl)
 
     turn_from : (broken : Bool) (s : KeeperState) → s.is_broken ≡ broken → NotStarts (turn_asked s).step
     turn_from true s e = rw e tt
@@ -248,7 +254,7 @@ module _ (shape : Shape) (p : Places) where
 
     pub kind_begun : (kind : CommitKind) (number : Version) (its own : List KeeperEvent) (was : KeeperTold) → BeginNothing its → (state own).step ≡ Ended was → (state (its ++ BeginsCommit kind ∷ own)).step ≡ Ended (Begun number)
         → (told (its ++ BeginsCommit kind ∷ own)).begun ≡ Some kind
-    kind_begun kind number its own was none e ends = begun_kind kind number its own was none e ends (commit_from (state own).is_broken (state own) kind refl)
+    kind_begun kind number its own was none e ends = begun_kind kind number its own was none e ends (commit_from (state own).is_broken (state own).rests (state own) kind refl refl)
 
     pub kind_stays : (its own : List KeeperEvent) (was : KeeperTold) → BeginNothing its → (state own).step ≡ Ended was → (told (its ++ BeginsTurn ∷ own)).begun ≡ (told own).begun
     unfolding keeper_happens

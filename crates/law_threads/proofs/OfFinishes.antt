@@ -2,14 +2,15 @@
 use Rattle.std.proofs.Common.{◌≡◌, ◌⊎◌, inl, inr, ℕ, ◌∙◌, List, [], ◌∷◌, ◌++◌, refl, ap, sym, subst, Bool, true, false}
 use Rattle.std.specs.Prelude.{Option, Some, None, if◌then◌else◌}
 use Rattle.fkv_base.specs.declared.shapes.Shape.{Shape}
-use Rattle.law_order.specs.Below.fkv_keeper.CheckpointLaws.{MayFollow}
+use Rattle.law_order.specs.Below.fkv_keeper.CheckpointLaws.{MayFollow, MayStep}
 use Rattle.law_order.specs.Below.fkv_keeper.KeeperTold.{KeeperTold}
 use Rattle.law_order.specs.Below.fkv_keeper.KeeperTold.TheVariants.{Device, Turned}
 use Rattle.law_order.specs.Below.fkv_keeper.TheKeeping.{Keeping}
 use Rattle.law_order.specs.Below.fkv_keeper.TheKeeping.TheVariants.{Ended, Starts, Maintains, LoadsPhase, Enters, Copies, Seeks, Waits, Writes, Finishes}
-use Rattle.law_order.specs.Below.fkv_keeper.Keeping.{KeeperState, keeper_ask, keeper_next, keeping_called, keeping_given, keeping_next}
+use Rattle.law_order.specs.Below.fkv_keeper.Keeping.{KeeperState, come_to, keeper_ask, keeper_next, keeping_called, keeping_given, keeping_next}
 use Rattle.law_order.specs.Below.fkv_keeper.KeeperRun.{KeeperEvent, BeginsTurn, BeginsCommit, Replies, Gets, Calls, IsOpened, is_calling, keeper_happens, keeper_run}
-use Rattle.law_order.proofs.Below.fkv_keeper.Shown.{each_move, run_number}
+use Rattle.law_order.specs.Below.fkv_keeper.KeeperLaws.{MayRest}
+use Rattle.law_order.proofs.Below.fkv_keeper.Shown.{each_move, run_number, run_rests}
 use Rattle.fkv_plane.specs.Asked.{reply_to}
 use Rattle.fkv_plane.specs.Plane.{action_at}
 use Rattle.fkv_plane.specs.declared.actions.Action.{Action}
@@ -21,6 +22,7 @@ use Rattle.law_order.specs.Below.fkv_world.OwnEvents.{keeper_events, keeper_got,
 use Rattle.law_order.specs.Below.fkv_world.Runs.{World, read_by_keeper, run}
 use Rattle.law_order.specs.Below.fkv_world.World as world
 use Rattle.law_order.specs.Below.fkv_world.World.{Event, near}
+use Rattle.law_order.proofs.Below.fkv_world.Shown.{keeper_runs}
 use Rattle.law_order.proofs.Below.law_world.OfKeeper.OwnRun.{of_keeper, to_keeper}
 use Rattle.law_order.specs.Below.law_commit.BegunCommits.{BegunCommit, begun_by, commit_opened, commits_begun, life_begun, with_finished}
 use Rattle.law_order.specs.Below.law_commit.HeldCommits.{AtKeeping, IsInHand}
@@ -98,6 +100,11 @@ writes_stay shape p s (Replies reply granted) e quiet = rw e refl
 writes_stay shape p s (Gets action) e quiet = rw e refl
 writes_stay shape p s (Calls done bytes) e quiet = absurd quiet
 
+-- no writes that rest come to a finish at once
+steps_what : (rests : Bool) (step : Keeping) → MayStep rests step Finishes → MayFollow step Finishes
+steps_what true LoadsPhase steps = steps
+steps_what rests step steps = steps
+
 follows_what : (step : Keeping) → MayFollow step Finishes → (step ≡ Writes) ⊎ (step ≡ Finishes)
 follows_what Writes follows = inl refl
 follows_what Finishes follows = inr refl
@@ -115,7 +122,7 @@ not_writing e = cc
 
 -- so without one a finish was so before
 finishes_before : (shape : Shape) (p : Places) (s : KeeperState) (event : KeeperEvent) → IsQuiet event → (keeper_happens shape p s event).step ≡ Finishes → s.step ≡ Finishes
-finishes_before shape p s event quiet e = by_step (follows_what s.step (subst (λ (after : Keeping). MayFollow s.step after) e (each_move shape p s event).one.follows))
+finishes_before shape p s event quiet e = by_step (follows_what s.step (steps_what s.rests s.step (subst (λ (after : Keeping). MayStep s.rests s.step after) e (each_move shape p s event).one.steps)))
   where
     by_step : (s.step ≡ Writes) ⊎ (s.step ≡ Finishes) → s.step ≡ Finishes
     by_step (inl writes) = absurd (not_writing (sym writes ∙ (sym (ap (λ (x : KeeperState). x.step) (writes_stay shape p s event writes quiet)) ∙ e)))
@@ -202,6 +209,21 @@ pub record HasFinished (opening : World) (events : List Event) : Type 0 where
   pub unfinished : (let c = commit in c.is_finished ≡ false)
   pub now : life_begun opening events ≡ record commit { is_finished = true } ∷ older
 
+-- writes rest at no finish, so the keeper has come to it
+pub come_to_finish : (opening : World) (events : List Event) → IsOpenedWorld opening → (run opening events).now.keeper.step ≡ Finishes → come_to (run opening events).now.keeper ≡ Finishes
+come_to_finish opening events opened finishes = by s.rests refl
+  where
+    s : KeeperState
+    s = (run opening events).now.keeper
+
+    may : s.rests ≡ true → MayRest s.step
+    may = subst (λ (x : KeeperState). x.rests ≡ true → MayRest x.step) (sym (keeper_runs opening events))
+        (λ rests. (run_rests opening.now.shape opening.now.places opening.now.keeper (keeper_events opening events) opened.keeper rests).rests)
+
+    by : (rests : Bool) → s.rests ≡ rests → (if rests then Writes else s.step) ≡ Finishes
+    by true rests = absurd (subst MayRest finishes (may rests))
+    by false none = finishes
+
 not_yet : (full : Bool) → Ended (Turned false false) ≡ Ended (Turned true full) → ⊥
 not_yet full e = cc
 
@@ -238,7 +260,7 @@ module _ (opening : World) (full : Bool) (opened : IsOpenedWorld opening) (no_ca
   }
 
   finished_on : (event : Event) (before : List Event) → HasMadeHere event before → ((keeper_at before).step ≡ Ended (Turned true full) → HasFinished opening before) → HasFinished opening (event ∷ before)
-  finished_on event before (inl made) earlier = finished_now event before (subst (λ (step : Keeping). AtKeeping (life_begun opening before) (keeper_at before) step) made.0 (life_stands opening before opened)) made.1
+  finished_on event before (inl made) earlier = finished_now event before (subst (λ (step : Keeping). AtKeeping (life_begun opening before) (keeper_at before) step) (come_to_finish opening before opened made.0) (life_stands opening before opened)) made.1
   finished_on event before (inr none) earlier =
       let was = earlier none.0 in
       record {

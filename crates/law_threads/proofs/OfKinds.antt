@@ -19,7 +19,7 @@ use Rattle.law_order.specs.Below.fkv_keeper.TheKeeping.{Keeping}
 use Rattle.law_order.specs.Below.fkv_keeper.TheKeeping.TheVariants.{Ended, Finishes}
 use Rattle.law_order.specs.Below.fkv_keeper.Keeping.{Finality, KeeperState, keeper_ask, keeper_next}
 use Rattle.law_order.specs.Below.fkv_keeper.KeeperRun.{BeginsCommit, BeginsTurn, KeeperEvent, Replies, Writing, is_in_hand, keeper_run, writing}
-use Rattle.law_order.proofs.Below.fkv_keeper.Shown.{run_used}
+use Rattle.law_order.proofs.Below.fkv_keeper.Shown.{come_behind, run_used}
 use Rattle.law_order.specs.Below.fkv_world.Opened.{IsOpenedWorld}
 use Rattle.law_order.specs.Below.fkv_world.OwnEvents.{keeper_events, keeper_got, keeper_part, keeper_part_of, keeper_slots, keeper_steps}
 use Rattle.law_order.specs.Below.fkv_world.Runs.{World, read_by_keeper, run}
@@ -37,7 +37,7 @@ use Rattle.fkv_table.proofs.Lives.{alive, led_run}
 use Rattle.law_threads.specs.Calls.{events_of}
 use Rattle.law_threads.specs.Kinds.{IsOfKind, KeepsKinds, Kinds, TellsKinds, UsesTheirs, asked_by, begun_by, kinds_told}
 use Rattle.law_threads.proofs.KeeperKinds.{BeginNothing, NotStarts, asked_told, kind_begun, kind_in, kind_stays, kinds_of, not_same, quiet_told, same_step, turned_told, with_asked}
-use Rattle.law_threads.proofs.OfFinishes.{life_made}
+use Rattle.law_threads.proofs.OfFinishes.{come_to_finish, life_made}
 
 -- ---- what a happening is for the keeper
 both_nothing : (its before : List KeeperEvent) → BeginNothing its → BeginNothing before → BeginNothing (its ++ before)
@@ -271,10 +271,11 @@ module _ (w : World) (full : Bool) (opened : IsOpenedWorld w) (no_call : w.now.k
       let s : KeeperState = (run w (events_of es)).now.keeper in
       let mine : List KeeperEvent = keeper_events w (events_of es) in
       let runs : s ≡ keeper_run w.now.shape w.now.places w.now.keeper mine = keeper_runs w (events_of es) in
-      let hand : IsInHand (life_begun w (events_of es)) s true = subst (λ (step : Keeping). AtKeeping (life_begun w (events_of es)) s step) finishes (life_stands w (events_of es) opened) in
+      let hand : IsInHand (life_begun w (events_of es)) s true = subst (λ (step : Keeping). AtKeeping (life_begun w (events_of es)) s step) (come_to_finish w (events_of es) opened finishes) (life_stands w (events_of es) opened) in
       let used : IsBeingWritten w.now.places (copy_replies w.now.shape w.now.places w.now.keeper mine) (begun_with w.now.shape w.now.places w.now.keeper mine) (writing w.now.shape w.now.places w.now.keeper mine) s
       = subst (λ (x : KeeperState). IsBeingWritten w.now.places (copy_replies w.now.shape w.now.places w.now.keeper mine) (begun_with w.now.shape w.now.places w.now.keeper mine) (writing w.now.shape w.now.places w.now.keeper mine) x) (sym runs)
-      (run_used w.now.shape w.now.places w.now.keeper mine opened.keeper (subst IsBehindWait (sym (sym (ap (λ (x : KeeperState). x.step) runs) ∙ finishes)) tt)) in
+      (run_used w.now.shape w.now.places w.now.keeper mine opened.keeper
+      (come_behind (keeper_run w.now.shape w.now.places w.now.keeper mine) (subst IsBehindWait (sym (sym (ap (λ (x : KeeperState). x.step) runs) ∙ finishes)) tt))) in
       let same : hand.commit ≡ used.commit = same_hand hand.commit used.commit (sym hand.in_hand ∙ used.in_hand) in
       record {
         newest = record hand.newest { is_finished = true };

@@ -1,13 +1,13 @@
 -- What a turn tells as finished, by the law of prefixes.
 use Rattle.std.proofs.Common.{◌≡◌, ◌⊎◌, inl, inr, ℕ, ◌∙◌, List, ◌∷◌, refl, ap, sym, subst, Bool, true, false}
-use Rattle.std.specs.Prelude.{Option, Some, None, Result, Ok, Err}
+use Rattle.std.specs.Prelude.{Option, Some, None, Result, Ok, Err, if◌then◌else◌}
 use Rattle.fkv_base.specs.declared.commits.CommitKind.{CommitKind}
 use Rattle.fkv_base.specs.declared.faults.Fault.{Fault}
 use Rattle.fkv_base.specs.declared.numbers.Serial.{Serial}
 use Rattle.fkv_base.specs.declared.shapes.Shape.{Shape}
 use Rattle.law_order.specs.Below.fkv_core.Openings.{beginning}
 use Rattle.law_order.specs.Below.fkv_keeper.Answers.{IsFinishTold}
-use Rattle.law_order.specs.Below.fkv_keeper.Keeping.{Finality, KeeperState, keeping_ask}
+use Rattle.law_order.specs.Below.fkv_keeper.Keeping.{Finality, KeeperState, come_to, keeping_ask}
 use Rattle.law_order.specs.Below.fkv_keeper.KeeperRun.{is_in_hand}
 use Rattle.law_order.specs.Below.fkv_keeper.Running.{IsTurnTold}
 use Rattle.law_order.specs.Below.fkv_keeper.Finished.{Finished}
@@ -15,7 +15,7 @@ use Rattle.law_order.specs.Below.fkv_keeper.KeeperTold.{KeeperTold}
 use Rattle.law_order.specs.Below.fkv_keeper.KeeperTold.TheVariants.{Device, Turned, TurnRefused, Begun, CommitRefused}
 use Rattle.law_order.specs.Below.fkv_keeper.Turn.{Turn}
 use Rattle.law_order.specs.Below.fkv_keeper.TheKeeping.{Keeping}
-use Rattle.law_order.specs.Below.fkv_keeper.TheKeeping.TheVariants.{Ended}
+use Rattle.law_order.specs.Below.fkv_keeper.TheKeeping.TheVariants.{Ended, Writes}
 use Rattle.fkv_map.specs.History.{point_of}
 use Rattle.law_order.specs.Below.fkv_opening.TheOpened.{Opened}
 use Rattle.fkv_plane.specs.declared.asks.Ask.{Ask}
@@ -102,8 +102,12 @@ at_end : (begun : List BegunCommit) (s : KeeperState) (broken : Bool) → AtEnd 
 at_end begun s true its = its
 at_end begun s false its = inl its
 
-at_told : (begun : List BegunCommit) (s : KeeperState) (told : KeeperTold) → s.step ≡ Ended told → AtKeeping begun s s.step → HaveFinished begun s.last ⊎ OneIsOpen begun s.last
-at_told begun s told e stands = at_end begun s s.is_broken (subst (λ (step : Keeping). AtKeeping begun s step) e stands)
+at_told : (begun : List BegunCommit) (s : KeeperState) (told : KeeperTold) → s.step ≡ Ended told → AtKeeping begun s (come_to s) → HaveFinished begun s.last ⊎ OneIsOpen begun s.last
+at_told begun s told e stands = by s.rests stands
+  where
+    by : (rests : Bool) → AtKeeping begun s (if rests then Writes else s.step) → HaveFinished begun s.last ⊎ OneIsOpen begun s.last
+    by true its = its
+    by false its = at_end begun s s.is_broken (subst (λ (step : Keeping). AtKeeping begun s step) e its)
 
 tails_of : (a b : BegunCommit) (more rest : List BegunCommit) → (a ∷ more) ≡ (b ∷ rest) → more ≡ rest
 tails_of a b more rest same = cc

@@ -5,6 +5,7 @@ ghost use Rattle.fkv_disk.specs.Calls.{MayLeave};
 ghost use Rattle.fkv_keeper.specs.CheckpointLaws.{AreWritesBegun, ChangesItsWords, CopiesOnce, DoesOneThing, HoldsCopy, IsBehindWait, IsBeingWritten, KeepsLists, SparesDurable};
 ghost use Rattle.fkv_keeper.specs.KeeperLaws.{CopiesAgain, IsBrokenForGood, IsFinishOfBegun, IsMemoryRefused, IsWritten};
 ghost use Rattle.fkv_keeper.specs.KeeperRun.{KeeperEvent, has_failed, is_calling, number_open};
+ghost use Rattle.fkv_keeper.specs.Keeping.{come_to};
 ghost use Rattle.fkv_keeper.specs.LastCommits.{slot_place};
 ghost use Rattle.fkv_keeper.specs.declared.answers.KeeperTold.TheVariants.{TurnRefused, Turned};
 ghost use Rattle.fkv_keeper.specs.declared.keepers.Keeping.TheVariants.{Ended, Finishes, Waits, Writes};
@@ -56,7 +57,7 @@ pub fn law_world_checkpoints()
         → (run opening events).now.keeper.step ≡ Writes
         → AreWritesBegun opening.now.shape opening.now.places (replies_copied opening before) (begun_last opening before) (keeper_after opening before) (run opening events).now.keeper }
     ensures used { (opening : World) (events : List Event) → IsOpenedWorld opening
-        → IsBehindWait (run opening events).now.keeper.step
+        → IsBehindWait (come_to (run opening events).now.keeper)
         → IsBeingWritten opening.now.places (replies_copied opening (keeper_events opening events)) (begun_last opening (keeper_events opening events)) (life_writing opening events) (run opening events).now.keeper }
     ensures copies { (opening : World) (events : List Event) (event : KeeperEvent) (later before : List KeeperEvent) → keeper_events opening events ≡ later ++ event ∷ before
         → CopiesOnce opening.now.places (keeper_after opening before) event (keeper_after opening (event ∷ before)) }
@@ -91,7 +92,7 @@ pub fn law_world_one_commit_stands()
         → number_at (life_standing opening events).slot 8 ≡ (run opening events).now.keeper.last.number.0 }
     ensures writes { (opening : World) (events : List Event) → IsLifeTold opening events
         → (run opening events).now.keeper.is_broken ≡ false
-        → is_life_writing opening events ≡ is_at_writes (run opening events).now.keeper.step }
+        → is_life_writing opening events ≡ is_at_writes (come_to (run opening events).now.keeper) }
     ensures written { (opening : World) (events : List Event) (image : List ℕ) → IsLifeTold opening events
         → MayLeave opening.past.opened (run opening events).past.calls image
         → (run opening events).now.keeper.step ≡ Finishes

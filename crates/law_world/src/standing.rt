@@ -7,7 +7,7 @@ ghost use Rattle.fkv_disk.specs.Calls.{MayLeave};
 ghost use Rattle.fkv_plane.specs.declared.places.Places.{Places};
 ghost use Rattle.fkv_manifest.specs.Kept.{Begins, NewStands};
 ghost use Rattle.fkv_keeper.specs.declared.keepers.Keeping.TheVariants.{Waits, Writes, Finishes};
-ghost use Rattle.fkv_keeper.specs.Keeping.{KeeperState};
+ghost use Rattle.fkv_keeper.specs.Keeping.{KeeperState, come_to};
 ghost use Rattle.fkv_keeper.specs.KeeperRun.{KeeperEvent, keeper_run, writing};
 ghost use Rattle.fkv_keeper.specs.LastCommits.{slot_place};
 ghost use Rattle.law_world.specs.Standing.CallsMade.{calls_made};
@@ -34,7 +34,7 @@ pub fn law_one_commit_stands()
         → number_at (standing shape p opened opening events).slot 8 ≡ (keeper_run shape p opening events).last.number.0 }
     ensures writes { (shape : Shape) (p : Places) (opened : List ℕ) (opening : KeeperState) (events : List KeeperEvent)
         → IsToldBy shape p opened opening → AreNumbersInTurn shape p opening events → (keeper_run shape p opening events).is_broken ≡ false
-        → is_writing shape p opening events ≡ is_at_writes (keeper_run shape p opening events).step }
+        → is_writing shape p opening events ≡ is_at_writes (come_to (keeper_run shape p opening events)) }
     ensures written { (shape : Shape) (p : Places) (opened : List ℕ) (opening : KeeperState) (events : List KeeperEvent) (image : List ℕ)
         → IsToldBy shape p opened opening → AreNumbersInTurn shape p opening events → MayLeave opened (calls_made shape p opening events) image
         → (keeper_run shape p opening events).step ≡ Finishes → NewStands (writing shape p opening events).first image }

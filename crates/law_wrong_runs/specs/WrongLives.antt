@@ -55,7 +55,7 @@ LeavesOfKind its w = IsNewestOfKind its (answers_of 1 w.past.trace)
 
 -- ---- the beginning: a specified store of two sessions that was just opened, whose keeper has no call and no commit in hand, and finishes commits for both
 abbrev pub idle : KeeperState → KeeperState
-idle k = record k { start = record k.start { asked = record k.start.asked { class = Specified } }; commit = None; is_broken = false; finish = record k.finish { sessions = 2 }; step = keeping.Ended (Turned false false) }
+idle k = record k { start = record k.start { asked = record k.start.asked { class = Specified } }; commit = None; is_broken = false; rests = false; finish = record k.finish { sessions = 2 }; step = keeping.Ended (Turned false false) }
 
 abbrev pub opened_world : Shape → Places → KeeperState → SessionState → SessionState → World
 opened_world shape places keeper one other = first_world shape places (idle keeper) one other

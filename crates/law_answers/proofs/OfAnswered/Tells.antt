@@ -2,6 +2,7 @@
 use Rattle.std.proofs.Common.{◌≡◌, ℕ, ◌-◌, ◌^◌, ◌≤◌, ◌∙◌, sym, ap, subst, inl, inr, ◌⊎◌, List, ◌∷◌, ◌++◌, length, Bool, true, false}
 use Rattle.std.specs.Prelude.{Option, None}
 use Rattle.fkv_base.specs.Limits.{max_sessions}
+use Rattle.fkv_disk.specs.Kinds.{Foretold, Kind}
 use Rattle.law_opening.specs.Below.fkv_world.Past.{Answered, KeeperAnswered, TraceEvent}
 use Rattle.law_opening.specs.Below.fkv_world.Runs.{World, run}
 use Rattle.law_opening.specs.Below.fkv_world.World.{Event, Now}
@@ -68,9 +69,9 @@ module _ {D : Type 0} (honest : D → Type 0) (seen : D → List ℕ) (may_leave
       tells Keeper there its (λ moves still many. keeper_rests ends few small opening start events moves life.store seeks (alive_of (run opening events).now Keeper there) still many)
 
   -- the life goes on
-  pub goes_on : (event : asked.Event) → (its : IsStepped honest seen may_leave failed refuses event world after told) → honest after.device
+  pub goes_on : (expects : D → List Kind → Foretold) (event : asked.Event) → (its : IsStepped honest seen may_leave failed refuses expects event world after told) → honest after.device
       → IsOfLife honest seen may_leave opening start (took_place event its.granted its.done ∷ events) after
-  goes_on event its still =
+  goes_on expects event its still =
       let led = its.life life.is_honest opening events life.opened life.shows life.device in
       record { opened = life.opened; store = life.store; shows = led.shows; device = led.device; is_honest = still }
 

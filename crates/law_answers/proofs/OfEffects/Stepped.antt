@@ -2,6 +2,7 @@
 use Rattle.std.proofs.Common.{◌≡◌, ℕ, ◌∙◌, refl, sym, ap, Bool, List, [], ◌∷◌, ◌++◌}
 use Rattle.std.specs.Prelude.{Option, Some, None, reverse}
 use Rattle.std.proofs.lemmas.List.{append-nil, reverse-append}
+use Rattle.fkv_disk.specs.Kinds.{Foretold, Kind}
 use Rattle.law_opening.specs.Below.fkv_core.Worlds.{took_place}
 use Rattle.law_opening.specs.Below.fkv_core.Event as asked
 use Rattle.law_opening.specs.Below.fkv_core.Event.TheVariants as ask
@@ -30,10 +31,10 @@ as_asked ask.Turn granted done n after = refl
 as_asked ask.KeeperMove granted done n after = refl
 as_asked ask.Crash granted done n after = refl
 
-pub tells_effect : {D : Type 0} (honest : D → Type 0) (seen : D → List ℕ) (may_leave : D → List ℕ → Type 0) (failed : D → ℕ) (refuses : D → ℕ → Bool) → EffectsTold → (opening : World) (start : ℕ) (events : List Event) (its : asked.Event) (world after : WorldModel D) (told : Option Told)
-    → IsOfLife honest seen may_leave opening start events world → (step : IsStepped honest seen may_leave failed refuses its world after told)
+pub tells_effect : {D : Type 0} (honest : D → Type 0) (seen : D → List ℕ) (may_leave : D → List ℕ → Type 0) (failed : D → ℕ) (refuses : D → ℕ → Bool) (expects : D → List Kind → Foretold) → EffectsTold → (opening : World) (start : ℕ) (events : List Event) (its : asked.Event) (world after : WorldModel D) (told : Option Told)
+    → IsOfLife honest seen may_leave opening start events world → (step : IsStepped honest seen may_leave failed refuses expects its world after told)
     → updates (run opening (took_place its step.granted step.done ∷ events)).past.history ≡ with_effect (told_behind_step world.now after.now its) (updates (run opening events).past.history)
-tells_effect honest seen may_leave failed refuses law opening start events its world after told life step =
+tells_effect honest seen may_leave failed refuses expects law opening start events its world after told life step =
     let event : Event = took_place its step.granted step.done in
     let led = step.life life.is_honest opening events life.opened life.shows life.device in
     let tells : told_behind (run opening events).now (run opening (event ∷ events)).now event ≡ told_behind_step world.now after.now its =
@@ -45,9 +46,9 @@ appended : (found : Option HistoryEntry) (effects : List HistoryEntry) → rever
 appended None effects = sym (append-nil (reverse effects))
 appended (Some its) effects = reverse-append (its ∷ []) effects
 
-pub tells_last : {D : Type 0} (honest : D → Type 0) (seen : D → List ℕ) (may_leave : D → List ℕ → Type 0) (failed : D → ℕ) (refuses : D → ℕ → Bool) → EffectsTold → (opening : World) (start : ℕ) (events : List Event) (its : asked.Event) (world after : WorldModel D) (told : Option Told)
-    → IsOfLife honest seen may_leave opening start events world → (step : IsStepped honest seen may_leave failed refuses its world after told)
+pub tells_last : {D : Type 0} (honest : D → Type 0) (seen : D → List ℕ) (may_leave : D → List ℕ → Type 0) (failed : D → ℕ) (refuses : D → ℕ → Bool) (expects : D → List Kind → Foretold) → EffectsTold → (opening : World) (start : ℕ) (events : List Event) (its : asked.Event) (world after : WorldModel D) (told : Option Told)
+    → IsOfLife honest seen may_leave opening start events world → (step : IsStepped honest seen may_leave failed refuses expects its world after told)
     → reverse (updates (run opening (took_place its step.granted step.done ∷ events)).past.history) ≡ reverse (updates (run opening events).past.history) ++ listed (told_behind_step world.now after.now its)
-tells_last honest seen may_leave failed refuses law opening start events its world after told life step =
-    ap reverse (tells_effect honest seen may_leave failed refuses law opening start events its world after told life step)
+tells_last honest seen may_leave failed refuses expects law opening start events its world after told life step =
+    ap reverse (tells_effect honest seen may_leave failed refuses expects law opening start events its world after told life step)
     ∙ appended (told_behind_step world.now after.now its) (updates (run opening events).past.history)

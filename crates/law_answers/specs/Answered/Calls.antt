@@ -1,5 +1,6 @@
 -- How an actor's call is begun, and moved to its end.
 use Rattle.std.specs.Prelude.{◌≡◌, ◌<◌, ⊤, ℕ, Bool, List, length, Option}
+use Rattle.fkv_disk.specs.Kinds.{Foretold, Kind}
 use Rattle.law_opening.specs.Below.fkv_core.Actor.{Actor}
 use Rattle.law_opening.specs.Below.fkv_core.Actor.TheVariants.{Session, Keeper}
 use Rattle.law_opening.specs.Below.fkv_core.Event.{Event}
@@ -22,9 +23,9 @@ IsThere n (Session number) = number < length n.sessions
 IsThere n Keeper = ⊤
 
 -- What a call of the engine's step has made of a world, and what one of its `finish` has, each by its contract.
-abbrev pub IsStepped : {D : Type 0} → (D → Type 0) → (D → List ℕ) → (D → List ℕ → Type 0) → (D → ℕ) → (D → ℕ → Bool) → Event → WorldModel D → WorldModel D → Option Told → Type 0
-IsStepped honest seen may_leave failed refuses event world after told =
-    IsStep event world.now after.now told (failed world.device) (failed after.device) (refuses world.device) (refuses after.device) (honest world.device) (seen world.device) (seen after.device) (may_leave world.device) (may_leave after.device)
+abbrev pub IsStepped : {D : Type 0} → (D → Type 0) → (D → List ℕ) → (D → List ℕ → Type 0) → (D → ℕ) → (D → ℕ → Bool) → (D → List Kind → Foretold) → Event → WorldModel D → WorldModel D → Option Told → Type 0
+IsStepped honest seen may_leave failed refuses expects event world after told =
+    IsStep event world.now after.now told (failed world.device) (failed after.device) (refuses world.device) (refuses after.device) (expects world.device) (expects after.device) (honest world.device) (seen world.device) (seen after.device) (may_leave world.device) (may_leave after.device)
 
 abbrev pub IsFinished : {D : Type 0} → (D → Type 0) → (D → List ℕ) → (D → List ℕ → Type 0) → (D → ℕ) → (D → ℕ → Bool) → Actor → WorldModel D → WorldModel D → Option Told → Type 0
 IsFinished honest seen may_leave failed refuses actor world after told =

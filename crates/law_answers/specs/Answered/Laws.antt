@@ -1,6 +1,7 @@
 -- What the laws of `answered` say.
 use Rattle.std.specs.Prelude.{◌≡◌, ◌≤◌, ◌⊎◌, ◌∷◌, ◌++◌, ℕ, List, Option, None, false, true, Bool}
 use Rattle.fkv_base.specs.Limits.{max_sessions}
+use Rattle.fkv_disk.specs.Kinds.{Foretold, Kind}
 use Rattle.law_opening.specs.Below.fkv_core.Alone.{Move, in_hand, moves_of}
 use Rattle.law_opening.specs.Below.fkv_core.Lives.{answers_of}
 use Rattle.law_opening.specs.Below.fkv_core.Openings.{IsOpeningWorld}
@@ -36,9 +37,9 @@ MovesLeaveCallsInHand =
     → answers_of (run w (moves_of actor moves)).past.trace ≡ answers_of w.past.trace → in_hand (run w (moves_of actor moves)).now actor ≡ true
 
 -- a step that begins a call tells its answer or leaves it in hand
-abbrev pub CallsAreAnsweredOrInHand : {D : Type 0} → (D → Type 0) → (D → List ℕ) → (D → List ℕ → Type 0) → (D → ℕ) → (D → ℕ → Bool) → WorldModel D → Type 0
-CallsAreAnsweredOrInHand {D} honest seen may_leave failed refuses world =
-    (its : asked.Event) (actor : Actor) (after : WorldModel D) (told : Option Told) → IsStepped honest seen may_leave failed refuses its world after told
+abbrev pub CallsAreAnsweredOrInHand : {D : Type 0} → (D → Type 0) → (D → List ℕ) → (D → List ℕ → Type 0) → (D → ℕ) → (D → ℕ → Bool) → (D → List Kind → Foretold) → WorldModel D → Type 0
+CallsAreAnsweredOrInHand {D} honest seen may_leave failed refuses expects world =
+    (its : asked.Event) (actor : Actor) (after : WorldModel D) (told : Option Told) → IsStepped honest seen may_leave failed refuses expects its world after told
     → IsStartOf actor its → IsThere world.now actor → world.now.crashed ≡ false → in_hand world.now actor ≡ false
     → TellsAnswer actor told ⊎ ((told ≡ None) × (in_hand after.now actor ≡ true))
 
@@ -56,10 +57,10 @@ FinishTellsTheKeeper {D} honest seen may_leave failed refuses world =
     → in_hand world.now Keeper ≡ true → IsFinished honest seen may_leave failed refuses Keeper world after told → TellsAnswer Keeper told
 
 -- a life goes on behind a step
-abbrev pub LifeGoesOnByAStep : {D : Type 0} → (D → Type 0) → (D → List ℕ) → (D → List ℕ → Type 0) → (D → ℕ) → (D → ℕ → Bool) → WorldModel D → Type 0
-LifeGoesOnByAStep {D} honest seen may_leave failed refuses world =
+abbrev pub LifeGoesOnByAStep : {D : Type 0} → (D → Type 0) → (D → List ℕ) → (D → List ℕ → Type 0) → (D → ℕ) → (D → ℕ → Bool) → (D → List Kind → Foretold) → WorldModel D → Type 0
+LifeGoesOnByAStep {D} honest seen may_leave failed refuses expects world =
     (opening : runs.World) (start : ℕ) (events : List Event) (its : asked.Event) (after : WorldModel D) (told : Option Told) → IsOfLife honest seen may_leave opening start events world
-    → (step : IsStepped honest seen may_leave failed refuses its world after told) → honest after.device
+    → (step : IsStepped honest seen may_leave failed refuses expects its world after told) → honest after.device
     → IsOfLife honest seen may_leave opening start (took_place its step.granted step.done ∷ events) after
 
 -- and behind the moves that finish a call

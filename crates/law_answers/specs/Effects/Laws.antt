@@ -1,5 +1,6 @@
 -- What the laws of `effects` say.
 use Rattle.std.specs.Prelude.{◌≡◌, ◌∷◌, ◌++◌, ℕ, List, Option, reverse, Bool}
+use Rattle.fkv_disk.specs.Kinds.{Foretold, Kind}
 use Rattle.law_answers.specs.Answered.Calls.{IsStepped}
 use Rattle.law_answers.specs.Answered.Lives.{IsOfLife}
 use Rattle.law_opening.specs.Below.fkv_core.Worlds.{WorldModel, took_place}
@@ -26,15 +27,15 @@ KeptIsTheHistory =
     → effects_kept opening events ≡ updates (run opening events).past.history
 
 -- so it is behind each step of the engine
-abbrev pub StepsTellTheirEffects : {D : Type 0} → (D → Type 0) → (D → List ℕ) → (D → List ℕ → Type 0) → (D → ℕ) → (D → ℕ → Bool) → WorldModel D → Type 0
-StepsTellTheirEffects {D} honest seen may_leave failed refuses world =
+abbrev pub StepsTellTheirEffects : {D : Type 0} → (D → Type 0) → (D → List ℕ) → (D → List ℕ → Type 0) → (D → ℕ) → (D → ℕ → Bool) → (D → List Kind → Foretold) → WorldModel D → Type 0
+StepsTellTheirEffects {D} honest seen may_leave failed refuses expects world =
     (opening : runs.World) (start : ℕ) (events : List Event) (its : asked.Event) (after : WorldModel D) (told : Option Told) → IsOfLife honest seen may_leave opening start events world
-    → (step : IsStepped honest seen may_leave failed refuses its world after told)
+    → (step : IsStepped honest seen may_leave failed refuses expects its world after told)
     → updates (run opening (took_place its step.granted step.done ∷ events)).past.history ≡ with_effect (told_behind_step world.now after.now its) (updates (run opening events).past.history)
 
 -- and for who keeps the oldest first
-abbrev pub StepsTellOldestFirst : {D : Type 0} → (D → Type 0) → (D → List ℕ) → (D → List ℕ → Type 0) → (D → ℕ) → (D → ℕ → Bool) → WorldModel D → Type 0
-StepsTellOldestFirst {D} honest seen may_leave failed refuses world =
+abbrev pub StepsTellOldestFirst : {D : Type 0} → (D → Type 0) → (D → List ℕ) → (D → List ℕ → Type 0) → (D → ℕ) → (D → ℕ → Bool) → (D → List Kind → Foretold) → WorldModel D → Type 0
+StepsTellOldestFirst {D} honest seen may_leave failed refuses expects world =
     (opening : runs.World) (start : ℕ) (events : List Event) (its : asked.Event) (after : WorldModel D) (told : Option Told) → IsOfLife honest seen may_leave opening start events world
-    → (step : IsStepped honest seen may_leave failed refuses its world after told)
+    → (step : IsStepped honest seen may_leave failed refuses expects its world after told)
     → reverse (updates (run opening (took_place its step.granted step.done ∷ events)).past.history) ≡ reverse (updates (run opening events).past.history) ++ listed (told_behind_step world.now after.now its)

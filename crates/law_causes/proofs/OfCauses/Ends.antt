@@ -39,7 +39,7 @@ use Rattle.fkv_keeper.specs.declared.answers.Turn.{Turn}
 use Rattle.fkv_keeper.specs.declared.keepers.Keeping.{Keeping}
 use Rattle.fkv_keeper.specs.declared.keepers.Keeping.TheVariants.{Copies, Ended, Enters, Finishes, LoadsPhase, Maintains, Seeks, Starts, Waits, Writes}
 use Rattle.fkv_keeper.specs.DrainLaws.{call_told}
-use Rattle.fkv_keeper.specs.Keeping.{KeeperState, copies, copies_next, copy_driven, copy_ledto, copy_taken, copy_told, ended, enter_ledto, finish_ledto, finished, is_copy_resting, keeping_ask, keeping_called, keeping_given, keeping_next, maintain_ledto, part_begun, phase_ledto, seek_ledto, start_ledto, turned, wait_ledto, write_ledto, writes_begun, writes_called}
+use Rattle.fkv_keeper.specs.Keeping.{must_rest, KeeperState, copies, copies_next, copy_driven, copy_ledto, copy_taken, copy_told, ended, enter_ledto, finish_ledto, finished, is_copy_resting, keeping_ask, keeping_called, keeping_given, keeping_next, maintain_ledto, part_begun, phase_ledto, seek_ledto, start_ledto, turned, wait_ledto, write_ledto, writes_begun, writes_called}
 use Rattle.fkv_keeper.specs.KeeperRun.{BeginsCommit, BeginsTurn, Calls, Gets, IsOpened, KeeperEvent, Replies, is_calling, is_in_hand, keeper_run}
 use Rattle.fkv_keeper.specs.Running.{IsBeginTold, IsTurnTold}
 use Rattle.law_causes.specs.Causes.{HasCommitCause, kind_after, kind_asked}
@@ -102,7 +102,7 @@ part_on p s c said granted = tt
 phase_on : (p : Places) (s : KeeperState) (found : Option Commit) (said : PhaseSaid) (granted : Bool) → OnTurn (phase_ledto p s found said granted).step
 unfolding phase_ledto
 phase_on p s None said granted = tt
-phase_on p s (Some c) said granted = part_on p s c said granted
+phase_on p s (Some c) said granted = either s.rests _ _ (either granted _ _ tt tt) (part_on p s c said granted)
 
 enter_on : (t : KeeperState) (ask : Ask EnterAnswer) → t.step ≡ Enters → OnTurn (enter_ledto t ask).step
 unfolding enter_ledto
@@ -150,7 +150,7 @@ write_on : (t : KeeperState) (found : Option Commit) (its : WriteAnswer) → t.s
 unfolding write_ledto
 write_on t None its e = tt
 write_on t (Some c) write.Written e = tt
-write_on t (Some c) write.Device e = still t Writes e tt
+write_on t (Some c) write.Device e = either (must_rest t) _ _ tt (still t Writes e tt)
 write_on t (Some c) (write.Broken why) e = still t Writes e tt
 
 written_on : (s : KeeperState) (done : Bool) → s.step ≡ Writes → OnTurn (writes_called s done).step
@@ -201,7 +201,7 @@ module _ (shape : Shape) (p : Places) where
   event_at : (call : Option ends.Begun) (s : KeeperState) (step : Keeping) (event : KeeperEvent) → s.step ≡ step → On call step → On (begun_after (is_in_hand step) event call) (happens_at shape p s step event).step
   unfolding keeping_next keeping_given keeping_called
   event_at call s (Ended its) BeginsTurn e on = either s.is_broken _ _ tt tt
-  event_at call s (Ended its) (BeginsCommit kind) e on = pick s.is_broken _ _ tt tt
+  event_at call s (Ended its) (BeginsCommit kind) e on = pick s.is_broken _ _ tt (pick s.rests _ _ tt tt)
   event_at call s (Ended its) (Replies reply granted) e on = subst (On call) (sym e) on
   event_at call s (Ended its) (Gets action) e on = subst (On call) (sym e) on
   event_at call s (Ended its) (Calls done bytes) e on = subst (On call) (sym e) on

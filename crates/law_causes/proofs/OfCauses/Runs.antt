@@ -50,15 +50,16 @@ use Rattle.fkv_manifest.specs.declared.answers.WriteAnswer.TheVariants as write
 use Rattle.fkv_manifest.specs.Committing.{commit_answer, commit_next}
 use Rattle.fkv_maintain.specs.declared.maintaining.MaintainAnswer.{MaintainAnswer}
 use Rattle.fkv_maintain.specs.declared.maintaining.MaintainAnswer.TheVariants as maintain
-use Rattle.fkv_maintain.specs.Maintaining.{maintain_ask, maintain_begun, maintain_called, maintain_given, maintain_next}
+use Rattle.fkv_maintain.specs.Maintaining.{MaintainState, maintain_ask, maintain_called, maintain_given, maintain_next}
 use Rattle.fkv_keeper.specs.declared.answers.KeeperTold.{KeeperTold}
 use Rattle.fkv_keeper.specs.declared.answers.KeeperTold.TheVariants.{CommitRefused, TurnRefused}
 use Rattle.fkv_keeper.specs.declared.keepers.Keeping.{Keeping}
 use Rattle.fkv_keeper.specs.declared.keepers.Keeping.TheVariants.{Copies, Ended, Enters, Finishes, LoadsPhase, Maintains, Seeks, Starts, Waits, Writes}
 use Rattle.fkv_keeper.specs.DrainLaws.{call_told, told_after, told_anew}
-use Rattle.fkv_keeper.specs.Keeping.{asked_for, KeeperState, commit_asked, copies, copies_next, copy_driven, copy_ledto, device_passed, ended, enter_ledto, finish_ledto, finished, keeping_ask, keeping_called, keeping_given, keeping_next, maintain_ledto, part_begun, phase_ledto, seek_ledto, start_ledto, turn_asked, turn_over, turned, wait_ledto, write_ledto, writes_begun, writes_called, is_copy_resting, copy_taken, copy_told}
+use Rattle.fkv_keeper.specs.Keeping.{must_rest, parts_begun, asked_for, KeeperState, commit_asked, copies, copies_next, copy_driven, copy_ledto, device_passed, ended, enter_ledto, finish_ledto, finished, keeping_ask, keeping_called, keeping_given, keeping_next, maintain_ledto, part_begun, phase_ledto, seek_ledto, start_ledto, turn_asked, turn_over, turned, wait_ledto, write_ledto, writes_begun, writes_called, is_copy_resting, copy_taken, copy_told}
 use Rattle.fkv_keeper.specs.KeeperRun.{BeginsCommit, BeginsTurn, Calls, Gets, IsOpened, KeeperEvent, Replies, begins, is_calling, is_in_hand, keeper_happens, keeper_run}
-use Rattle.law_causes.specs.Causes.{HasCommitCause, HasFailed, HasTurnCause, IsFailure, IsMemoryRefusal, IsShown, kind_after, kind_asked}
+use Rattle.fkv_keeper.proofs.Shown.{run_rests}
+use Rattle.law_causes.specs.Causes.{HasCommitCause, HasFailed, HasRestingWrites, HasTurnCause, IsFailure, IsMemoryRefusal, IsShown, kind_after, kind_asked}
 use Rattle.law_causes.proofs.OfCauses.Asking.{among_first, passed_alone, passed_told, told_behind}
 use Rattle.law_causes.proofs.OfCauses.Maintaining.{HasComeTo, IsUnderWay, LoadsLast, by_broken, by_spent, goes_on, maintain_got, maintain_made_call, maintain_replied}
 use Rattle.law_causes.proofs.OfCauses.Starting.{StartKnows, start_begins, start_not_idle, start_refused, start_replied}
@@ -180,12 +181,13 @@ module _ (before : List KeeperEvent) (was : KeeperState) (event : KeeperEvent) (
 
   shown : (s : KeeperState) (why : Fault) → IsShown asked (asked_for s) why told → HasCommitCause before asked s told why
   shown s fault.Broken is = absurd is.shown
+  shown s fault.CommitRunning is = inl is
   shown s why is = is
 
   start_led : (t : KeeperState) (ask : Ask StartAnswer) → t.step ≡ Starts → start_ask t.start ≡ ask → Works t → StartKnows asked (asked_for t) t.start told → Outcome (start_ledto t ask)
   unfolding start_ledto
   start_led t (Done (start.Begun number first)) e asks works knows = record { broken = works; comes = tt }
-  start_led t (Done (start.Refused why)) e asks works knows = record { broken = works; comes = shown t why (start_refused asked (asked_for t) t.start told why knows asks) }
+  start_led t (Done (start.Refused why)) e asks works knows = record { broken = works; comes = shown (ended t (CommitRefused why)) why (start_refused asked (asked_for t) t.start told why knows asks) }
   start_led t (Done start.Idle) e asks works knows = absurd (start_not_idle asked (asked_for t) t.start told knows asks)
   start_led t ask e asks works knows = at t Starts e works knows
 
@@ -257,7 +259,7 @@ module _ (before : List KeeperEvent) (was : KeeperState) (event : KeeperEvent) (
   unfolding write_ledto
   write_led t None its e works = over t works
   write_led t (Some c) write.Written e works = record { broken = works; comes = tt }
-  write_led t (Some c) write.Device e works = at t Writes e works tt
+  write_led t (Some c) write.Device e works = either (must_rest t) _ _ (over (record t { rests = true }) works) (at t Writes e works tt)
   write_led t (Some c) (write.Broken why) e works = at t Writes e works tt
 
   next_led : (p : Places) (s : KeeperState) (c : Commit) (granted : Bool) (t : KeeperState) → Works s → Outcome t → (c.is_copied ≡ false → granted ≡ false → is_copy_resting s.copy ≡ false → IsMemoryRefusal was event) → Outcome (copies_next p s c granted t)
@@ -279,7 +281,8 @@ module _ (before : List KeeperEvent) (was : KeeperState) (event : KeeperEvent) (
       → Outcome (phase_ledto p s found said granted)
   unfolding phase_ledto
   phase_led p s None said granted works refused = over s works
-  phase_led p s (Some c) said granted works refused = part_led p s c said granted works (refused c refl)
+  phase_led p s (Some c) said granted works refused =
+      either s.rests _ _ (either granted _ _ (record { broken = works; comes = tt }) (over (record s { is_granted = false }) works)) (part_led p s c said granted works (refused c refl))
 
 -- ---- an event, from a state with a call in hand
 -- the keeper passes on what its parts ask
@@ -396,48 +399,62 @@ told_so shape p s (Replies reply granted) told = refl
 told_so shape p s (Gets action) told = refl
 told_so shape p s (Calls done bytes) told = refl
 
+still_rests : (s : KeeperState) → HasRestingWrites s [] → HasRestingWrites (ended s (CommitRefused fault.CommitRunning)) []
+still_rests s its = record { none_asked = refl; living = its.living; commit = its.commit; in_hand = its.in_hand; rests = its.rests }
+
 module _ (shape : Shape) (p : Places) (before : List KeeperEvent) where
-  commit_begun : (s : KeeperState) (kind : CommitKind) (b : Bool) → s.is_broken ≡ b → Broken shape p before (Some kind) s
-      → Outcome before s (BeginsCommit kind) (Some kind) [] (if b then ended s (CommitRefused fault.Broken) else record s { start = start_begun s.start (asked_for s kind); step = Starts })
-  commit_begun s kind true e works = record { broken = sooner shape p before (Some kind) (BeginsCommit kind) s works; comes = works e }
-  commit_begun s kind false e works = record { broken = sooner shape p before (Some kind) (BeginsCommit kind) s works; comes = start_begins s.start kind (asked_for s) }
+  commit_begun : (s : KeeperState) (kind : CommitKind) (b rests : Bool) → s.is_broken ≡ b → s.rests ≡ rests → Broken shape p before (Some kind) s → (s.rests ≡ true → HasRestingWrites s [])
+      → Outcome before s (BeginsCommit kind) (Some kind) [] (if b then ended s (CommitRefused fault.Broken) else (if rests then ended s (CommitRefused fault.CommitRunning) else record s { start = start_begun s.start (asked_for s kind); step = Starts }))
+  commit_begun s kind true rests e is works resting = record { broken = sooner shape p before (Some kind) (BeginsCommit kind) s works; comes = works e }
+  commit_begun s kind false true e is works resting = record { broken = sooner shape p before (Some kind) (BeginsCommit kind) s works; comes = inr (still_rests s (resting is)) }
+  commit_begun s kind false false e is works resting = record { broken = sooner shape p before (Some kind) (BeginsCommit kind) s works; comes = start_begins s.start kind (asked_for s) }
+
+  parts_under_way : (rests : Bool) (m : MaintainState) → IsUnderWay (parts_begun rests m).step
+  parts_under_way true m = tt
+  parts_under_way false m = tt
 
   turn_begun : (s : KeeperState) (asked : Option CommitKind) (b : Bool) → s.is_broken ≡ b → Broken shape p before asked s
-      → Outcome before s BeginsTurn asked [] (if b then ended s (TurnRefused fault.Broken) else record s { maintain = maintain_begun s.maintain; is_drain_full = false; step = Maintains })
+      → Outcome before s BeginsTurn asked [] (if b then ended s (TurnRefused fault.Broken) else record s { maintain = parts_begun s.rests s.maintain; is_drain_full = false; step = Maintains })
   turn_begun s asked true e works = record { broken = sooner shape p before asked BeginsTurn s works; comes = works e }
-  turn_begun s asked false e works = record { broken = sooner shape p before asked BeginsTurn s works; comes = tt }
+  turn_begun s asked false e works = record { broken = sooner shape p before asked BeginsTurn s works; comes = parts_under_way s.rests s.maintain }
 
   abbrev Follows : KeeperState → Keeping → KeeperEvent → Option CommitKind → List Exchange → Type 0
   Follows s step event asked told = Outcome before s event (kind_after (is_in_hand step) event asked) (told_at shape p s step event told) (happens_at shape p s step event)
 
   event_at : (s : KeeperState) (step : Keeping) (event : KeeperEvent) (asked : Option CommitKind) (told : List Exchange) → s.step ≡ step → is_calling step event ≡ true → Broken shape p before asked s
-      → (is_in_hand step ≡ true → During asked s step told) → Follows s step event asked told
-  event_at s (Ended its) BeginsTurn asked told e calling works knows = turn_begun s asked s.is_broken refl works
-  event_at s (Ended its) (BeginsCommit kind) asked told e calling works knows = commit_begun s kind s.is_broken refl works
-  event_at s (Ended its) (Replies reply granted) asked told e calling works knows = absurd (let clash : true ≡ false = sym calling in cc)
-  event_at s (Ended its) (Gets action) asked told e calling works knows = absurd (let clash : true ≡ false = sym calling in cc)
-  event_at s (Ended its) (Calls done bytes) asked told e calling works knows = absurd (let clash : true ≡ false = sym calling in cc)
-  event_at s step BeginsTurn asked told e calling works knows = still_at shape p before asked s BeginsTurn step told e refl works (knows refl)
-  event_at s step (BeginsCommit kind) asked told e calling works knows = still_at shape p before asked s (BeginsCommit kind) step told e refl works (knows refl)
-  event_at s step (Replies reply granted) asked told e calling works knows = reply_at shape p before asked s step reply granted told e refl works (knows refl)
-  event_at s step (Gets action) asked told e calling works knows = given_at shape p before asked s step action told e refl works (knows refl)
-  event_at s step (Calls done bytes) asked told e calling works knows = called_at shape p before asked s step done bytes told e refl works (knows refl)
+      → (is_in_hand step ≡ true → During asked s step told) → (s.rests ≡ true → HasRestingWrites s []) → Follows s step event asked told
+  event_at s (Ended its) BeginsTurn asked told e calling works knows resting = turn_begun s asked s.is_broken refl works
+  event_at s (Ended its) (BeginsCommit kind) asked told e calling works knows resting = commit_begun s kind s.is_broken s.rests refl refl works resting
+  event_at s (Ended its) (Replies reply granted) asked told e calling works knows resting = absurd (let clash : true ≡ false = sym calling in cc)
+  event_at s (Ended its) (Gets action) asked told e calling works knows resting = absurd (let clash : true ≡ false = sym calling in cc)
+  event_at s (Ended its) (Calls done bytes) asked told e calling works knows resting = absurd (let clash : true ≡ false = sym calling in cc)
+  event_at s step BeginsTurn asked told e calling works knows resting = still_at shape p before asked s BeginsTurn step told e refl works (knows refl)
+  event_at s step (BeginsCommit kind) asked told e calling works knows resting = still_at shape p before asked s (BeginsCommit kind) step told e refl works (knows refl)
+  event_at s step (Replies reply granted) asked told e calling works knows resting = reply_at shape p before asked s step reply granted told e refl works (knows refl)
+  event_at s step (Gets action) asked told e calling works knows resting = given_at shape p before asked s step action told e refl works (knows refl)
+  event_at s step (Calls done bytes) asked told e calling works knows resting = called_at shape p before asked s step done bytes told e refl works (knows refl)
 
 -- ---- what holds at every moment
 record Sound (shape : Shape) (p : Places) (opening : KeeperState) (events : List KeeperEvent) : Type 0 where
   works : (keeper_run shape p opening events).is_broken ≡ true → HasFailed events
   knows : is_in_hand (keeper_run shape p opening events).step ≡ true → During (kind_asked shape p opening events) (keeper_run shape p opening events) (keeper_run shape p opening events).step (call_told shape p opening events)
 
-follows : (shape : Shape) (p : Places) (opening : KeeperState) (before : List KeeperEvent) (event : KeeperEvent) → Sound shape p opening before → is_calling (keeper_run shape p opening before).step event ≡ true
+-- what is known where writes rest
+rests_in_hand : (shape : Shape) (p : Places) (opening : KeeperState) (events : List KeeperEvent) → IsOpened opening → (keeper_run shape p opening events).rests ≡ true → HasRestingWrites (keeper_run shape p opening events) []
+rests_in_hand shape p opening events opened is =
+    let its = run_rests shape p opening events opened is in
+    record { none_asked = refl; living = its.living; commit = its.commit; in_hand = its.in_hand; rests = is }
+
+follows : (shape : Shape) (p : Places) (opening : KeeperState) (before : List KeeperEvent) (event : KeeperEvent) → IsOpened opening → Sound shape p opening before → is_calling (keeper_run shape p opening before).step event ≡ true
     → Outcome before (keeper_run shape p opening before) event (kind_asked shape p opening (event ∷ before)) (call_told shape p opening (event ∷ before)) (keeper_run shape p opening (event ∷ before))
 unfolding keeper_run call_told kind_asked
-follows shape p opening before event sound calling =
+follows shape p opening before event opened sound calling =
     let s : KeeperState = keeper_run shape p opening before in
     let told : List Exchange = call_told shape p opening before in
     let asked : Option CommitKind = kind_asked shape p opening before in
     subst (λ (x : KeeperState). Outcome before s event (kind_after (is_in_hand s.step) event asked) (told_after shape p s event told) x) (happens_so shape p s event)
     (subst (λ (x : List Exchange). Outcome before s event (kind_after (is_in_hand s.step) event asked) x (happens_at shape p s s.step event)) (told_so shape p s event told)
-    (event_at shape p before s s.step event asked told refl calling sound.works sound.knows))
+    (event_at shape p before s s.step event asked told refl calling sound.works sound.knows (λ is. rests_in_hand shape p opening before opened is)))
 
 during : (before : List KeeperEvent) (was : KeeperState) (event : KeeperEvent) (asked : Option CommitKind) (told : List Exchange) (s : KeeperState) (step : Keeping) → is_in_hand step ≡ true → Comes before was event asked told s step → During asked s step told
 during before was event asked told s (Ended its) in_hand comes = absurd (let clash : true ≡ false = sym in_hand in cc)
@@ -474,7 +491,7 @@ run_sound shape p opening (event ∷ before) opened = by (is_calling (keeper_run
   where
     by : (b : Bool) → is_calling (keeper_run shape p opening before).step event ≡ b → Sound shape p opening before → Sound shape p opening (event ∷ before)
     by true calling sound =
-        let its = follows shape p opening before event sound calling in
+        let its = follows shape p opening before event opened sound calling in
         record { works = its.broken; knows = λ in_hand. during before (keeper_run shape p opening before) event _ _ (keeper_run shape p opening (event ∷ before)) (keeper_run shape p opening (event ∷ before)).step in_hand its.comes }
     by false idles sound = still_sound shape p opening before event sound idles
 
@@ -483,5 +500,5 @@ pub run_comes : (shape : Shape) (p : Places) (opening : KeeperState) (before : L
     → (keeper_run shape p opening (event ∷ before)).step ≡ step
     → Comes before (keeper_run shape p opening before) event (kind_asked shape p opening (event ∷ before)) (call_told shape p opening (event ∷ before)) (keeper_run shape p opening (event ∷ before)) step
 run_comes shape p opening before event step opened calling e =
-    let its = follows shape p opening before event (run_sound shape p opening before opened) calling in
+    let its = follows shape p opening before event opened (run_sound shape p opening before opened) calling in
     subst (λ (x : Keeping). Comes before (keeper_run shape p opening before) event (kind_asked shape p opening (event ∷ before)) (call_told shape p opening (event ∷ before)) (keeper_run shape p opening (event ∷ before)) x) e its.comes

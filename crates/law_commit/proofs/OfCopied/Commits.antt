@@ -37,7 +37,7 @@ use Rattle.law_refine.specs.Below.fkv_maintain.MaintainAnswer.TheVariants as mai
 use Rattle.law_refine.specs.Below.fkv_maintain.Maintaining.{maintain_ask, maintain_called, maintain_given, maintain_next}
 use Rattle.law_refine.specs.Below.fkv_keeper.TheKeeping.{Keeping}
 use Rattle.law_refine.specs.Below.fkv_keeper.TheKeeping.TheVariants.{Ended, Starts, Maintains, LoadsPhase, Enters, Copies, Seeks, Waits, Writes, Finishes}
-use Rattle.law_refine.specs.Below.fkv_keeper.Keeping.{KeeperState, commit_asked, copied, copies, copy_driven, copy_ledto, enter_ledto, finish_ledto, finished, keeping_called, keeping_given, keeping_next, maintain_ledto, part_begun, phase_ledto, points_known, seek_ledto, start_ledto, turn_asked, wait_ledto, write_ledto, writes_begun, is_copy_resting, copy_told}
+use Rattle.law_refine.specs.Below.fkv_keeper.Keeping.{KeeperState, commit_asked, copied, copies, copy_driven, copy_ledto, enter_ledto, finish_ledto, finished, keeping_called, keeping_given, keeping_next, maintain_ledto, must_rest, part_begun, phase_ledto, points_known, seek_ledto, start_ledto, turn_asked, wait_ledto, write_ledto, writes_begun, is_copy_resting, copy_told}
 use Rattle.law_refine.specs.Below.fkv_keeper.KeeperRun.{KeeperEvent, BeginsTurn, BeginsCommit, Replies, Gets, Calls, begins, is_in_hand, keeper_happens}
 
 -- a commit that was in hand before, as it was begun, and was copied then or is being copied
@@ -98,7 +98,7 @@ part_same p s c said granted = refl
 phase_same : (p : Places) (s : KeeperState) (found : Option Commit) (said : PhaseSaid) (granted : Bool) → (phase_ledto p s found said granted).commit ≡ s.commit
 unfolding phase_ledto
 phase_same p s None said granted = refl
-phase_same p s (Some c) said granted = part_same p s c said granted
+phase_same p s (Some c) said granted = either s.rests _ _ s.commit (either granted _ _ s.commit refl refl) (part_same p s c said granted)
 
 entered_same : (t : KeeperState) (ask : Ask EnterAnswer) → (enter_ledto t ask).commit ≡ t.commit
 unfolding enter_ledto
@@ -158,7 +158,7 @@ written_same : (t : KeeperState) (found : Option Commit) (answer : WriteAnswer) 
 unfolding write_ledto
 written_same t None answer = refl
 written_same t (Some c) write.Written = refl
-written_same t (Some c) write.Device = refl
+written_same t (Some c) write.Device = either (must_rest t) _ _ t.commit refl refl
 written_same t (Some c) (write.Broken why) = refl
 
 -- ---- each event
@@ -194,7 +194,7 @@ begins_same s begun false same = same
 pub event_copied : (shape : Shape) (p : Places) (s : KeeperState) (event : KeeperEvent) → IsCopiedFrom s (keeper_happens shape p s event).commit
 unfolding keeper_happens
 event_copied shape p s BeginsTurn = stays s _ (begins_same s (turn_asked s) (is_in_hand s.step) (either s.is_broken _ _ s.commit refl refl))
-event_copied shape p s (BeginsCommit kind) = stays s _ (begins_same s (commit_asked s kind) (is_in_hand s.step) (either s.is_broken _ _ s.commit refl refl))
+event_copied shape p s (BeginsCommit kind) = stays s _ (begins_same s (commit_asked s kind) (is_in_hand s.step) (either s.is_broken _ _ s.commit refl (either s.rests _ _ s.commit refl refl)))
 event_copied shape p s (Replies reply granted) = replied shape p s s.step reply granted refl
 event_copied shape p s (Gets action) = stays s _ (given_same shape p s s.step action)
 event_copied shape p s (Calls done bytes) = stays s _ (called_same shape p s s.step done bytes)
@@ -212,7 +212,7 @@ driven_same shape p s reply granted at = copying_same (record s { copy = copy_dr
 pub still_same : (shape : Shape) (p : Places) (s : KeeperState) (event : KeeperEvent) → s.step ≡ Copies → (keeper_happens shape p s event).step ≡ Copies → (keeper_happens shape p s event).commit ≡ s.commit
 unfolding keeper_happens
 still_same shape p s BeginsTurn was at = begins_same s (turn_asked s) (is_in_hand s.step) (either s.is_broken _ _ s.commit refl refl)
-still_same shape p s (BeginsCommit kind) was at = begins_same s (commit_asked s kind) (is_in_hand s.step) (either s.is_broken _ _ s.commit refl refl)
+still_same shape p s (BeginsCommit kind) was at = begins_same s (commit_asked s kind) (is_in_hand s.step) (either s.is_broken _ _ s.commit refl (either s.rests _ _ s.commit refl refl))
 still_same shape p s (Replies reply granted) was at =
     ap (λ (step : Keeping). (keeping_next shape p s step reply granted).commit) was
     ∙ driven_same shape p s reply granted (subst (λ (step : Keeping). (keeping_next shape p s step reply granted).step ≡ Copies) was at)

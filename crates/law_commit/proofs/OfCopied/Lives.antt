@@ -17,7 +17,7 @@ use Rattle.fkv_base.specs.declared.commits.CommitKind.TheVariants.{Full}
 use Rattle.fkv_index.specs.IndexWorld.{IndexEvent, IndexWorld, index_happens, index_run}
 use Rattle.law_refine.specs.Below.fkv_keeper.Checkpoint.{Checkpoint}
 use Rattle.law_refine.specs.Below.fkv_keeper.CheckpointLaws.{HasCopied, HoldsCopy, IsBehindWait, IsBeingWritten, UsesAs, UsesItsCopy, copy_replies}
-use Rattle.law_refine.specs.Below.fkv_keeper.Keeping.{KeeperState, keeper_ask}
+use Rattle.law_refine.specs.Below.fkv_keeper.Keeping.{KeeperState, come_to, keeper_ask}
 use Rattle.law_refine.specs.Below.fkv_keeper.KeeperRun.{IsOpened, KeeperEvent, keeper_run}
 use Rattle.law_refine.proofs.Below.fkv_keeper.Shown.{run_holds, run_used}
 use Rattle.law_refine.specs.Below.fkv_world.OwnEvents.{keeper_events, keeper_part, keeper_part_of}
@@ -149,6 +149,6 @@ pub life_writes : (opening : World) (lists : ℕ → List ℕ) (events : List Ev
 life_writes opening lists events opened c held full behind =
     let replies : List ℕ = replies_copied opening (keeper_events opening events) in
     let written = of_keeper (λ s. IsBeingWritten opening.now.places replies (begun_last opening (keeper_events opening events)) (life_writing opening events) s) opening events
-    (run_used opening.now.shape opening.now.places opening.now.keeper (keeper_events opening events) opened.keeper (to_keeper (λ s. IsBehindWait s.step) opening events behind)) in
+    (run_used opening.now.shape opening.now.places opening.now.keeper (keeper_events opening events) opened.keeper (to_keeper (λ s. IsBehindWait (come_to s)) opening events behind)) in
     let same : written.commit ≡ c = some_same written.commit c (sym written.in_hand ∙ held) in
     uses_so opening.now.places replies opening events (run opening events).now.keeper (seen_by_copy opening lists events) written.commit (life_copies opening lists events opened).told (ap (λ (x : Commit). x.kind) same ∙ full) written.uses

@@ -22,13 +22,15 @@ use Rattle.law_refine.specs.Below.fkv_keeper.KeeperTold.TheVariants.{Turned}
 use Rattle.law_refine.specs.Below.fkv_keeper.TheKeeping.{Keeping}
 use Rattle.law_refine.specs.Below.fkv_keeper.TheKeeping.TheVariants.{Ended, Starts, Maintains, LoadsPhase, Enters, Copies, Seeks, Waits, Writes, Finishes}
 use Rattle.law_refine.specs.Below.fkv_keeper.CheckpointLaws.{IsFinished, MayFollow, SparesDurable, SparesWord}
-use Rattle.law_refine.specs.Below.fkv_keeper.Keeping.{KeeperState, finish_ledto, finished, keeper_ask, keeping_ask, keeping_called, keeping_given, keeping_next, write_ledto}
+use Rattle.law_refine.specs.Below.fkv_keeper.Keeping.{KeeperState, finish_ledto, finished, keeper_ask, keeping_ask, keeping_called, keeping_given, keeping_next, must_rest, turned, write_ledto, come_to}
+use Rattle.law_refine.specs.Below.fkv_keeper.KeeperLaws.{MayRest}
 use Rattle.law_refine.specs.Below.fkv_keeper.KeeperRun.{KeeperEvent, BeginsTurn, BeginsCommit, Replies, Gets, Calls, IsOpened, is_in_hand, keeper_happens, keeper_run}
 use Rattle.law_refine.proofs.Below.fkv_keeper.Shown.{each_move, run_finished, run_spares}
 use Rattle.law_refine.proofs.Below.law_world.OfStanding.Runs.{happens_at}
 use Rattle.law_refine.proofs.Footprint.Keepers.{keeper_run_spares}
 use Rattle.law_commit.specs.Cuts.{durable_at, durable_in, stored_behind, stored_by, stored_last}
 use Rattle.law_commit.proofs.BegunStands.{there}
+use Rattle.law_commit.proofs.InRest.{follows_or_writes}
 
 abbrev shown : ℕ → KeeperState → ℕ
 shown number s = durable_at s s.step number
@@ -45,6 +47,14 @@ plain s Copies number other = refl
 plain s Seeks number other = refl
 plain s Waits number other = refl
 plain s Writes number other = refl
+
+-- so it is where writes rest
+pub durable_come : (s : KeeperState) (number : ℕ) → (s.rests ≡ true → MayRest s.step) → durable_at s s.step number ≡ durable_at s (come_to s) number
+durable_come s number may = by s.rests refl
+  where
+    by : (b : Bool) → s.rests ≡ b → durable_at s s.step number ≡ durable_at s (if b then Writes else s.step) number
+    by true rests = plain s s.step number (λ ends. subst MayRest ends (may rests))
+    by false awake = refl
 
 -- a finish follows on writes alone
 goes_not : (step : Keeping) → step ≢ Finishes → step ≢ Writes → MayFollow step Finishes → ⊥
@@ -117,9 +127,13 @@ module _ (shape : Shape) (p : Places) (number : ℕ) where
     calm_on finishes writes =
         let a : KeeperState = keeper_happens shape p s event in
         let move = each_move shape p s event in
-        let not : a.step ≢ Finishes = λ ends. goes_not s.step finishes writes (subst (λ (x : Keeping). MayFollow s.step x) ends move.one.follows) in
+        let not : a.step ≢ Finishes = λ ends. finishes_not a ends (follows_or_writes s.rests s.step a.step move.one.steps) in
         let last : a.last ≡ s.last = same_last s a finishes move.lists.lists in
         unstored s event word finishes spares ∙ (was ∙ (plain s s.step number finishes ∙ (ap (λ (x : _). point_of (slice_get x.points number)) (sym last) ∙ sym (plain a a.step number not))))
+      where
+        finishes_not : (a : KeeperState) → a.step ≡ Finishes → MayFollow s.step a.step ⊎ (a.step ≡ Writes) → ⊥
+        finishes_not a ends (inl follows) = goes_not s.step finishes writes (subst (λ (x : Keeping). MayFollow s.step x) ends follows)
+        finishes_not a ends (inr on) = let clash : Finishes ≡ Writes = sym ends ∙ on in cc
 
     -- ---- where a commit is written
     module _ (inside : number < s.finish.sessions) where
@@ -130,7 +144,11 @@ module _ (shape : Shape) (p : Places) (number : ℕ) where
           let some : nat_lt 0 t.finish.sessions ≡ true = grind (arith, nat_tests, few) in
           let none : nat_lt number 0 ≡ false = grind (arith, nat_tests) in
           rw (some, none) (ap (λ (x : _). point_of (slice_get x.points number)) (sym last))
-      written_on t (Some c) write.Device e last few = ap (λ (x : _). point_of (slice_get x.points number)) (sym last) ∙ sym (plain t t.step number (λ ends. let clash : Writes ≡ Finishes = sym e ∙ ends in cc))
+      written_on t (Some c) write.Device e last few = by (must_rest t)
+        where
+          by : (rests : Bool) → point_of (slice_get s.last.points number) ≡ shown number (if rests then turned (record t { rests = true }) else t)
+          by true = ap (λ (x : _). point_of (slice_get x.points number)) (sym last)
+          by false = ap (λ (x : _). point_of (slice_get x.points number)) (sym last) ∙ sym (plain t t.step number (λ ends. let clash : Writes ≡ Finishes = sym e ∙ ends in cc))
       written_on t (Some c) (write.Broken why) e last few = ap (λ (x : _). point_of (slice_get x.points number)) (sym last) ∙ sym (plain t t.step number (λ ends. let clash : Writes ≡ Finishes = sym e ∙ ends in cc))
 
       writes_led : (its : KeeperEvent) → s.step ≡ Writes → point_of (slice_get s.last.points number) ≡ shown number (happens_at shape p s Writes its)

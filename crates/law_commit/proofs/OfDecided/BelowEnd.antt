@@ -1,6 +1,7 @@
 -- From a commit's end on each record is of a later version; below it none is of a version past the next one, and all is settled. Below its first address none
 -- is of a later version, and from there on none of an earlier one.
-use Rattle.std.proofs.Common.{◌≡◌, inl, inr, ℕ, ◌+◌, ◌-◌, ◌≤◌, ◌∙◌, List, [], ◌∷◌, ◌++◌, refl, arith, ap, sym, subst}
+use Rattle.std.specs.Prelude.{if◌then◌else◌}
+use Rattle.std.proofs.Common.{◌≡◌, inl, inr, ℕ, ◌+◌, ◌-◌, ◌≤◌, ◌∙◌, List, [], ◌∷◌, ◌++◌, refl, arith, ap, sym, subst, Bool, true, false}
 use Rattle.std.proofs.lemmas.List.{append-nil}
 use Rattle.fkv_base.specs.declared.numbers.Version.{Version}
 use Rattle.law_refine.specs.Below.fkv_commit.TheSeeking.{Seeking}
@@ -8,8 +9,8 @@ use Rattle.law_refine.specs.Below.fkv_commit.TheSeeking.TheVariants as seeking
 use Rattle.law_refine.specs.Below.fkv_commit.TheStarting.{Starting}
 use Rattle.law_refine.specs.Below.fkv_commit.TheStarting.TheVariants as starting
 use Rattle.law_refine.specs.Below.fkv_keeper.TheKeeping.{Keeping}
-use Rattle.law_refine.specs.Below.fkv_keeper.TheKeeping.TheVariants.{Seeks, Starts}
-use Rattle.law_refine.specs.Below.fkv_keeper.Keeping.{KeeperState}
+use Rattle.law_refine.specs.Below.fkv_keeper.TheKeeping.TheVariants.{Seeks, Starts, Writes}
+use Rattle.law_refine.specs.Below.fkv_keeper.Keeping.{KeeperState, come_to}
 use Rattle.law_refine.specs.Below.fkv_world.Runs.{World, run}
 use Rattle.law_refine.specs.Below.fkv_world.World.{Event, Now}
 use Rattle.law_log.specs.Ghosts.{Ghosts, Log}
@@ -37,6 +38,14 @@ use Rattle.law_commit.proofs.OfVersions.Life.{cells_from, cells_upto, keeps_vers
 record FlushesIt (opening : World) (x : Span) (moment : List Event) : Type 0 where
   rank : flush_rank x.number.0 ≤ rank_now opening moment
   version : phase_version (run opening moment).now.words ≤ x.number.0 + 1
+
+-- a keeper that is at a commit's writes has come to them
+come_written : (s : KeeperState) → IsWritten s.step → IsWritten (come_to s)
+come_written s written = by s.rests
+  where
+    by : (rests : Bool) → IsWritten (if rests then Writes else s.step)
+    by true = tt
+    by false = written
 
 at_end : (number : Version) (stage : Stage) (s : KeeperState) → s.step ≡ Seeks → s.seek.step ≡ seeking.LoadsTail → StepAt number stage s s.step → stage ≡ Flushes
 at_end number stage s seeks loads at =
@@ -182,7 +191,7 @@ module _ (opening : World) (start : ℕ) (ghosts : Ghosts) (opens : OpensWhole o
   decided_there : FloorAlwaysStands → (x : Span) (moment : List Event) → IsWrittenNow x (run opening moment).now → DecidedBelow x.end.0 (log_at moment)
   decided_there floor x moment its =
       let quiet = opens.quiet in
-      let written : IsWritten (run opening moment).now.keeper.step = subst IsWritten (sym its.writes) tt in
+      let written : IsWritten (come_to (run opening moment).now.keeper) = come_written (run opening moment).now.keeper (subst IsWritten (sym its.writes) tt) in
       let same = ap (λ (y : Span). y.end.0) its.its in
       let decided = below_end floor opening start ghosts moment its.commit with_decided quiet.seen its.in_hand (inr written) in
       λ a entry cell low e. decided a entry cell (omega (arith, low, same)) e

@@ -147,7 +147,7 @@ module _ (opening : World) (start : ℕ) (opens : OpensQuiet opening start) wher
 
   knows : (events : List Event) → Knows events (run opening events).now.keeper
   unfolding run
-  knows [] = opened_ends (First []) (End []) opening.now.keeper opening.now.keeper.step refl opens.guarded.keeper.none_in_hand opens.guarded.keeper.no_commit
+  knows [] = opened_ends (First []) (End []) opening.now.keeper opening.now.keeper.step refl opens.guarded.keeper.none_in_hand opens.guarded.keeper.no_commit opens.guarded.keeper.none_rest
   knows (event ∷ before) = knows_on event before (knows before)
 
   -- ---- each that has begun was written
@@ -178,7 +178,7 @@ module _ (opening : World) (start : ℕ) (opens : OpensQuiet opening start) wher
   pub written_so : (x : Span) (moment : List Event) → IsWrittenNow x (run opening moment).now → WrittenSo x moment
   written_so x moment now =
       let s : KeeperState = (run opening moment).now.keeper in
-      let so : WritesSo (First moment) (End moment) s = subst (KeepingEnds (First moment) (End moment) s) now.writes (knows moment) in
+      let so : WritesSo (First moment) (End moment) s = (subst (KeepingEnds (First moment) (End moment) s) now.writes (knows moment)).0 in
       let y : Span = span_in now.commit now.commit.end s.writes.triples in
       subst (λ (z : Span). WrittenSo z moment) (sym now.its) (record { first = so.first now.commit now.in_hand; end = so.end now.commit now.in_hand })
 

@@ -1,10 +1,10 @@
 -- A commit's first address and its end lie at or below the tail; so what is decided below them is settled.
-use Rattle.std.proofs.Common.{◌≡◌, ◌⊎◌, ℕ, ◌<◌, ◌≤◌, inl, inr, List, refl, subst, arith, true}
-use Rattle.std.specs.Prelude.{Some}
+use Rattle.std.proofs.Common.{◌≡◌, ◌⊎◌, ℕ, ◌<◌, ◌≤◌, inl, inr, List, refl, subst, arith, Bool, true, false}
+use Rattle.std.specs.Prelude.{Some, if◌then◌else◌}
 use Rattle.law_refine.specs.Below.fkv_commit.Commit.{Commit}
 use Rattle.law_refine.specs.Below.fkv_keeper.TheKeeping.{Keeping}
 use Rattle.law_refine.specs.Below.fkv_keeper.TheKeeping.TheVariants.{Ended, Starts, Maintains, LoadsPhase, Enters, Copies, Seeks, Waits, Writes, Finishes}
-use Rattle.law_refine.specs.Below.fkv_keeper.Keeping.{KeeperState}
+use Rattle.law_refine.specs.Below.fkv_keeper.Keeping.{KeeperState, come_to}
 use Rattle.fkv_words.specs.PhaseWords.{phase_said}
 use Rattle.law_refine.specs.Below.fkv_world.Runs.{World, run}
 use Rattle.law_refine.specs.Below.fkv_world.World.{Event}
@@ -53,6 +53,13 @@ has_points g s Copies at fits written = absurd written
 has_points g s Seeks at fits written = absurd written
 has_points g s Waits at fits written = absurd written
 
+come_points : (g : Ground) (s : KeeperState) → KeeperFits g s → IsWritten (come_to s) → s.has_points ≡ true
+come_points g s fits written = by s.rests refl written
+  where
+    by : (rests : Bool) → s.rests ≡ rests → IsWritten (if rests then Writes else s.step) → s.has_points ≡ true
+    by true rests written = (fits.hand.rests rests).0
+    by false awake written = has_points g s s.step refl fits written
+
 module _ (paper_sound : PaperIsSound) (floor : FloorAlwaysStands) (opening : World) (start : ℕ) (ghosts : Ghosts) (events : List Event) (c : Commit) (opens : OpensDecided opening start ghosts) (seen : OpensSeen opening.now)
     (in_hand : (run opening events).now.keeper.commit ≡ Some c) where
   lived : LifeFloored opening start events
@@ -80,9 +87,9 @@ module _ (paper_sound : PaperIsSound) (floor : FloorAlwaysStands) (opening : Wor
   pub settled_first : IsFromProgress (phase_said (phase_at (run opening events).now)) → (c.first.0 ≤ tail_at (run opening events).now) × SettledFrom (tail_at opening.now) c.first.0 (life_ghosts opening ghosts events).log
   settled_first from = (first_below from, settles opening start ghosts events c.first.0 opens.guarded (first_below from) (below_first floor opening start ghosts events c opens seen in_hand from))
 
-  points_there : EndIsSafe (run opening events).now c ⊎ IsWritten (run opening events).now.keeper.step → (run opening events).now.keeper.has_points ≡ true
+  points_there : EndIsSafe (run opening events).now c ⊎ IsWritten (come_to (run opening events).now.keeper) → (run opening events).now.keeper.has_points ≡ true
   points_there (inl safe) = safe.0
-  points_there (inr written) = has_points (ground_of lived.p lived.p.epoch) (run opening events).now.keeper (run opening events).now.keeper.step refl lived.its.fits written
+  points_there (inr written) = come_points (ground_of lived.p lived.p.epoch) (run opening events).now.keeper lived.its.fits written
 
-  pub settled_end : EndIsSafe (run opening events).now c ⊎ IsWritten (run opening events).now.keeper.step → (c.end.0 ≤ tail_at (run opening events).now) × SettledFrom (tail_at opening.now) c.end.0 (life_ghosts opening ghosts events).log
+  pub settled_end : EndIsSafe (run opening events).now c ⊎ IsWritten (come_to (run opening events).now.keeper) → (c.end.0 ≤ tail_at (run opening events).now) × SettledFrom (tail_at opening.now) c.end.0 (life_ghosts opening ghosts events).log
   settled_end so = (end_below (points_there so), settles opening start ghosts events c.end.0 opens.guarded (end_below (points_there so)) (below_end floor opening start ghosts events c opens seen in_hand so))

@@ -1,5 +1,5 @@
 -- What the keeper knows of the moments at which a commit's first address and its end were the tail; and that each of its steps keeps it.
-use Rattle.std.proofs.Common.{◌≡◌, ℕ, ◌+◌, ◌∙◌, List, [], ◌∷◌, ◌++◌, length, refl, ap, sym, subst, Bool, true, false}
+use Rattle.std.proofs.Common.{◌≡◌, ℕ, ◌+◌, ◌∙◌, List, [], length, refl, ap, sym, subst, Bool, true, false}
 use Rattle.std.specs.Prelude.{⊤, nat_le, nat_lt, max, ◌==◌, if◌then◌else◌, Option, Some, None, ◌||◌, not}
 use Rattle.fkv_base.specs.Limits.{last_of}
 use Rattle.fkv_base.specs.declared.commits.CommitKind.{CommitKind}
@@ -45,12 +45,12 @@ use Rattle.law_refine.specs.Below.fkv_manifest.WriteAnswer.TheVariants as write
 use Rattle.law_refine.specs.Below.fkv_manifest.Committing.{commit_answer, commit_next}
 use Rattle.law_refine.specs.Below.fkv_maintain.MaintainAnswer.{MaintainAnswer}
 use Rattle.law_refine.specs.Below.fkv_maintain.MaintainAnswer.TheVariants as maintain
-use Rattle.law_refine.specs.Below.fkv_maintain.Maintaining.{maintain_ask, maintain_begun, maintain_called, maintain_given, maintain_next}
+use Rattle.law_refine.specs.Below.fkv_maintain.Maintaining.{maintain_ask, maintain_called, maintain_given, maintain_next}
 use Rattle.law_refine.specs.Below.fkv_keeper.KeeperTold.TheVariants.{CommitRefused, TurnRefused}
 use Rattle.law_refine.specs.Below.fkv_keeper.TheKeeping.{Keeping}
 use Rattle.law_refine.specs.Below.fkv_keeper.TheKeeping.TheVariants.{Ended, Starts, Maintains, LoadsPhase, Enters, Copies, Seeks, Waits, Writes, Finishes}
 use Rattle.law_refine.specs.Below.fkv_keeper.KeeperRun.{is_in_hand}
-use Rattle.law_refine.specs.Below.fkv_keeper.Keeping.{KeeperState, commit_asked, copied, copies, copies_next, copy_driven, copy_ledto, ended, enter_ledto, finish_ledto, finished, keeping_called, keeping_given, keeping_next, maintain_ledto, part_begun, phase_ledto, points_known, seek_ledto, start_ledto, triples_written, turn_asked, turned, wait_ledto, write_ledto, writes_begun, writes_called, copy_taken, is_copy_resting, copy_told, asked_for}
+use Rattle.law_refine.specs.Below.fkv_keeper.Keeping.{KeeperState, commit_asked, copied, copies, copies_next, copy_driven, copy_ledto, ended, enter_ledto, finish_ledto, finished, keeping_called, keeping_given, keeping_next, maintain_ledto, must_rest, part_begun, parts_begun, phase_ledto, points_known, seek_ledto, start_ledto, triples_written, turn_asked, turned, wait_ledto, write_ledto, writes_begun, writes_called, writes_taken_up, copy_taken, is_copy_resting, copy_told, asked_for}
 use Rattle.law_refine.specs.Below.fkv_world.World.{keeper_asked}
 use Rattle.law_commit.specs.Decided.Ended.{Span, span_in}
 
@@ -95,28 +95,46 @@ module _ (F : Version → Addr → Type 0) (E : Span → Type 0) where
 
   pub record SeeksSo (s : KeeperState) (step : Seeking) : Type 0 where
     pub works : s.is_broken ≡ false
+    pub awake : s.rests ≡ false
     pub none_yet : s.has_points ≡ false
     pub first : HandFirst s.commit
     pub copied : IsCopied s.commit
     pub ends : SeekEnds s.commit s.copy step
 
   -- as it is written its triples are those that are being written
-  pub record WritesSo (s : KeeperState) : Type 0 where
-    pub first : HandFirst s.commit
-    pub end : (c : Commit) → s.commit ≡ Some c → E (span_in c c.end s.writes.triples)
+  pub record WritesEnds (commit : Option Commit) (triples : List ℕ) : Type 0 where
+    pub first : HandFirst commit
+    pub end : (c : Commit) → commit ≡ Some c → E (span_in c c.end triples)
+
+  abbrev pub WritesSo : KeeperState → Type 0
+  WritesSo s = WritesEnds s.commit s.writes.triples
+
+  -- so it is while its writes rest
+  abbrev pub InHand : Bool → Option Commit → Bool → Option Copier → List ℕ → Type 0
+  InHand true commit has_points copy triples = WritesEnds commit triples
+  InHand false commit has_points copy triples = HandEnds commit has_points copy
+
+  abbrev pub IsHeld : KeeperState → Type 0
+  IsHeld s = InHand s.rests s.commit s.has_points s.copy s.writes.triples
+
+  held_awake : (s : KeeperState) → s.rests ≡ false → Hand s → IsHeld s
+  held_awake s awake hand = subst (λ (x : Bool). InHand x s.commit s.has_points s.copy s.writes.triples) (sym awake) hand
+
+  held_at : (s : KeeperState) (rests : Bool) → s.rests ≡ rests → IsHeld s → InHand rests s.commit s.has_points s.copy s.writes.triples
+  held_at s rests so held = subst (λ (x : Bool). InHand x s.commit s.has_points s.copy s.writes.triples) so held
 
   -- a device that has failed is never used again
   abbrev pub KeepingEnds : KeeperState → Keeping → Type 0
-  KeepingEnds s (Ended told) = s.is_broken ≡ false → Hand s
-  KeepingEnds s Starts = Hand s × StartEnds s.start.step
-  KeepingEnds s Maintains = (s.is_broken ≡ false) × Hand s
-  KeepingEnds s LoadsPhase = (s.is_broken ≡ false) × Hand s
-  KeepingEnds s Copies = HandFirst s.commit × (s.has_points ≡ true → ⊥)
+  KeepingEnds s (Ended told) = s.is_broken ≡ false → IsHeld s
+  KeepingEnds s Starts = IsHeld s × StartEnds s.start.step
+  KeepingEnds s Maintains = (s.is_broken ≡ false) × IsHeld s
+  KeepingEnds s LoadsPhase = (s.is_broken ≡ false) × IsHeld s
+  KeepingEnds s Copies = HandFirst s.commit × (s.has_points ≡ true → ⊥) × (s.rests ≡ false)
   KeepingEnds s Seeks = SeeksSo s s.seek.step
-  KeepingEnds s Waits = (s.has_points ≡ true) × Hand s
-  KeepingEnds s Writes = WritesSo s
-  KeepingEnds s Finishes = ⊤
-  KeepingEnds s Enters = Hand s
+  KeepingEnds s Waits = (s.has_points ≡ true) × Hand s × (s.rests ≡ false)
+  KeepingEnds s Writes = WritesSo s × (s.rests ≡ false)
+  KeepingEnds s Finishes = s.rests ≡ false
+  KeepingEnds s Enters = Hand s × (s.rests ≡ false)
 
   abbrev pub KeeperEnds : KeeperState → Type 0
   KeeperEnds s = KeepingEnds s s.step
@@ -203,7 +221,7 @@ module _ (F : Version → Addr → Type 0) (E : Span → Type 0) where
   start_tells s (start.LoadsTail number) ends = tt
   start_tells s (start.Defers number first) ends = passed_start (defer_ask s.defer)
 
-  started_ends : (s : KeeperState) (ask : Ask StartAnswer) → s.step ≡ Starts → Hand s → StartEnds s.start.step → StartTells ask → KeeperEnds (start_ledto s ask)
+  started_ends : (s : KeeperState) (ask : Ask StartAnswer) → s.step ≡ Starts → IsHeld s → StartEnds s.start.step → StartTells ask → KeeperEnds (start_ledto s ask)
   unfolding start_ledto
   started_ends s (Done (started.Begun number first)) at hand ends tells = λ works. record {
     first = λ c is. subst (λ (x : Commit). F x.number x.first) (some_same is) tells;
@@ -214,7 +232,7 @@ module _ (F : Version → Addr → Type 0) (E : Span → Type 0) where
   started_ends s ask at hand ends tells = stays s Starts at (hand, ends)
 
   -- ---- a turn
-  maintained_ends : (s : KeeperState) (ask : Ask MaintainAnswer) → s.step ≡ Maintains → (s.is_broken ≡ false) × Hand s → KeeperEnds (maintain_ledto s ask)
+  maintained_ends : (s : KeeperState) (ask : Ask MaintainAnswer) → s.step ≡ Maintains → (s.is_broken ≡ false) × IsHeld s → KeeperEnds (maintain_ledto s ask)
   unfolding maintain_ledto
   maintained_ends s (Done maintain.Through) at its = its
   maintained_ends s (Done maintain.Spent) at its = λ works. its.1
@@ -222,13 +240,13 @@ module _ (F : Version → Addr → Type 0) (E : Span → Type 0) where
   maintained_ends s (Done maintain.Device) at its = stays s Maintains at its
   maintained_ends s ask at its = stays s Maintains at its
 
-  copies_ends : (p : Places) (s : KeeperState) (c : Commit) (granted : Bool) → s.commit ≡ Some c → c.is_copied ≡ false → Hand s → KeeperEnds (copies p s granted)
-  copies_ends p s c granted in_hand not_copied hand =
+  copies_ends : (p : Places) (s : KeeperState) (c : Commit) (granted : Bool) → s.rests ≡ false → s.commit ≡ Some c → c.is_copied ≡ false → Hand s → KeeperEnds (copies p s granted)
+  copies_ends p s c granted awake in_hand not_copied hand =
       either_ends (granted || is_copy_resting s.copy) (record s { copy = copy_taken p s.copy; is_granted = true; step = Copies }) (ended (record s { is_granted = false }) (TurnRefused fault.Memory))
-      (λ yes. (hand.first, λ points. clash c.is_copied not_copied (hand.end c in_hand points).0)) (λ no. (λ works. hand))
+      (λ yes. (hand.first, λ points. clash c.is_copied not_copied (hand.end c in_hand points).0, awake)) (λ no. (λ works. held_awake s awake hand))
 
-  copies_next_ends : (p : Places) (s : KeeperState) (c : Commit) (granted : Bool) (other : KeeperState) → s.commit ≡ Some c → Hand s → (c.is_copied ≡ true → KeeperEnds other) → KeeperEnds (copies_next p s c granted other)
-  copies_next_ends p s c granted other in_hand hand its = either_ends c.is_copied other (copies p s granted) its (λ no. copies_ends p s c granted in_hand no hand)
+  copies_next_ends : (p : Places) (s : KeeperState) (c : Commit) (granted : Bool) (other : KeeperState) → s.rests ≡ false → s.commit ≡ Some c → Hand s → (c.is_copied ≡ true → KeeperEnds other) → KeeperEnds (copies_next p s c granted other)
+  copies_next_ends p s c granted other awake in_hand hand its = either_ends c.is_copied other (copies p s granted) its (λ no. copies_ends p s c granted awake in_hand no hand)
 
   -- as its points are about to be sought
   either_seek : (commit : Option Commit) (copy : Option Copier) (c : Bool) (a b : SeekState) → SeekEnds commit copy a.step → SeekEnds commit copy b.step → SeekEnds commit copy (if c then a else b).step
@@ -238,46 +256,53 @@ module _ (F : Version → Addr → Type 0) (E : Span → Type 0) where
   owing_ends : (commit : Option Commit) (copy : Option Copier) (s : SeekState) (session : ℕ) → SeekEnds commit copy (owing_from s session).step
   owing_ends commit copy s session = either_seek commit copy (nat_lt session s.sessions) (record s { step = seek.LoadsOwing session }) (record s { defer = defer_begun s.defer; step = seek.SeeksSlot }) tt tt
 
-  seeks_ends : (s : KeeperState) (c : Commit) → s.is_broken ≡ false → s.commit ≡ Some c → Hand s → c.is_copied ≡ true → KeeperEnds (record s { seek = seek_begun s.seek c.number s.last.points; has_points = false; step = Seeks })
-  seeks_ends s c works in_hand hand is_copied = record {
+  seeks_ends : (s : KeeperState) (c : Commit) → s.rests ≡ false → s.is_broken ≡ false → s.commit ≡ Some c → Hand s → c.is_copied ≡ true → KeeperEnds (record s { seek = seek_begun s.seek c.number s.last.points; has_points = false; step = Seeks })
+  seeks_ends s c awake works in_hand hand is_copied = record {
     works = works;
+    awake = awake;
     none_yet = refl;
     first = hand.first;
     copied = λ d is. subst (λ (x : Commit). x.is_copied ≡ true) (some_same (sym in_hand ∙ is)) is_copied;
     ends = owing_ends s.commit s.copy (record s.seek { number = c.number; floor = s.last.points; points = [] }) 0;
   }
 
-  part_ends : (p : Places) (s : KeeperState) (c : Commit) (said : PhaseSaid) (granted : Bool) → s.commit ≡ Some c → s.is_broken ≡ false → Hand s → KeeperEnds (part_begun p s c said granted)
-  part_ends p s c (Says phase.InProgress version) granted in_hand works hand =
-      either_ends s.has_entered (copies_next p s c granted (turned s)) (record s { enter = enter_begun s.enter c.number; step = Enters }) (λ yes. copies_next_ends p s c granted (turned s) in_hand hand (λ is_copied. (λ still. hand))) (λ no. hand)
-  part_ends p s c (Says phase.WaitPending version) granted in_hand works hand =
-      copies_next_ends p s c granted (record s { seek = seek_begun s.seek c.number s.last.points; has_points = false; step = Seeks }) in_hand hand (seeks_ends s c works in_hand hand)
-  part_ends p s c (Says phase.WaitFlush version) granted in_hand works hand =
-      either_ends s.has_points (record s { wait = wait_begun c.end c.epoch; step = Waits }) (turned s) (λ yes. (yes, hand)) (λ no. (λ still. hand))
-  part_ends p s c (Says phase.Rest version) granted in_hand works hand = λ still. hand
-  part_ends p s c (Says phase.Prepare version) granted in_hand works hand = λ still. hand
-  part_ends p s c Spoiled granted in_hand works hand = λ still. hand
+  part_ends : (p : Places) (s : KeeperState) (c : Commit) (said : PhaseSaid) (granted : Bool) → s.rests ≡ false → s.commit ≡ Some c → s.is_broken ≡ false → Hand s → KeeperEnds (part_begun p s c said granted)
+  part_ends p s c (Says phase.InProgress version) granted awake in_hand works hand =
+      either_ends s.has_entered (copies_next p s c granted (turned s)) (record s { enter = enter_begun s.enter c.number; step = Enters })
+      (λ yes. copies_next_ends p s c granted (turned s) awake in_hand hand (λ is_copied. (λ still. held_awake s awake hand))) (λ no. (hand, awake))
+  part_ends p s c (Says phase.WaitPending version) granted awake in_hand works hand =
+      copies_next_ends p s c granted (record s { seek = seek_begun s.seek c.number s.last.points; has_points = false; step = Seeks }) awake in_hand hand (seeks_ends s c awake works in_hand hand)
+  part_ends p s c (Says phase.WaitFlush version) granted awake in_hand works hand =
+      either_ends s.has_points (record s { wait = wait_begun c.end c.epoch; step = Waits }) (turned s) (λ yes. (yes, hand, awake)) (λ no. (λ still. held_awake s awake hand))
+  part_ends p s c (Says phase.Rest version) granted awake in_hand works hand = λ still. held_awake s awake hand
+  part_ends p s c (Says phase.Prepare version) granted awake in_hand works hand = λ still. held_awake s awake hand
+  part_ends p s c Spoiled granted awake in_hand works hand = λ still. held_awake s awake hand
 
-  phase_ends : (p : Places) (s : KeeperState) (found : Option Commit) (said : PhaseSaid) (granted : Bool) → s.commit ≡ found → (s.is_broken ≡ false) × Hand s → KeeperEnds (phase_ledto p s found said granted)
+  -- writes that rest go on, or rest still
+  taken_up_ends : (s : KeeperState) (granted : Bool) → IsHeld s → WritesSo s → KeeperEnds (writes_taken_up s granted)
+  taken_up_ends s granted held writes = either_ends granted (record s { rests = false; is_granted = true; step = Writes }) (turned (record s { is_granted = false })) (λ yes. (writes, refl)) (λ no. (λ works. held))
+
+  phase_ends : (p : Places) (s : KeeperState) (found : Option Commit) (said : PhaseSaid) (granted : Bool) → s.commit ≡ found → (s.is_broken ≡ false) × IsHeld s → KeeperEnds (phase_ledto p s found said granted)
   unfolding phase_ledto
   phase_ends p s None said granted is its = λ works. its.1
-  phase_ends p s (Some c) said granted is its = part_ends p s c said granted is its.0 its.1
+  phase_ends p s (Some c) said granted is its =
+      either_ends s.rests (writes_taken_up s granted) (part_begun p s c said granted) (λ rests. taken_up_ends s granted its.1 (held_at s true rests its.1)) (λ awake. part_ends p s c said granted awake is its.0 (held_at s false awake its.1))
 
-  entered_ends : (s : KeeperState) (ask : Ask EnterAnswer) → s.step ≡ Enters → Hand s → KeeperEnds (enter_ledto s ask)
+  entered_ends : (s : KeeperState) (ask : Ask EnterAnswer) → s.step ≡ Enters → Hand s × (s.rests ≡ false) → KeeperEnds (enter_ledto s ask)
   unfolding enter_ledto
-  entered_ends s (Done enter.Entered) at hand = λ works. hand
-  entered_ends s (Done enter.DrainFull) at hand = λ works. hand
-  entered_ends s (Done enter.EpochsSpent) at hand = λ works. hand
-  entered_ends s (Done enter.Idle) at hand = λ works. hand
-  entered_ends s ask at hand = stays s Enters at hand
+  entered_ends s (Done enter.Entered) at its = λ works. held_awake s its.1 its.0
+  entered_ends s (Done enter.DrainFull) at its = λ works. held_awake s its.1 its.0
+  entered_ends s (Done enter.EpochsSpent) at its = λ works. held_awake s its.1 its.0
+  entered_ends s (Done enter.Idle) at its = λ works. held_awake s its.1 its.0
+  entered_ends s ask at its = stays s Enters at its
 
   copied_first : (rests : Bool) (found : Option Commit) → HandFirst found → HandFirst (copied rests found)
   copied_first rests None first c is = cc
   copied_first rests (Some d) first c is = subst (λ (x : Commit). F x.number x.first) (some_same is) (first d refl)
 
-  copied_ends : (s : KeeperState) (ask : Ask (Unit {0})) → s.step ≡ Copies → HandFirst s.commit × (s.has_points ≡ true → ⊥) → KeeperEnds (copy_ledto s ask)
+  copied_ends : (s : KeeperState) (ask : Ask (Unit {0})) → s.step ≡ Copies → HandFirst s.commit × (s.has_points ≡ true → ⊥) × (s.rests ≡ false) → KeeperEnds (copy_ledto s ask)
   unfolding copy_ledto
-  copied_ends s (Done its) at known = λ works. record { first = copied_first (is_copy_resting s.copy) s.commit known.0; end = λ c is points. absurd (known.1 points) }
+  copied_ends s (Done its) at known = λ works. held_awake (record s { commit = copied (is_copy_resting s.copy) s.commit }) known.2 (record { first = copied_first (is_copy_resting s.copy) s.commit known.0; end = λ c is points. absurd (known.1 points) })
   copied_ends s ask at known = stays s Copies at known
 
   -- ---- as its points are sought
@@ -359,51 +384,54 @@ module _ (F : Version → Addr → Type 0) (E : Span → Type 0) where
 
   sought_ends : (s : KeeperState) (ask : Ask SeekAnswer) → s.step ≡ Seeks → SeeksSo s s.seek.step → SeekTells s.commit s.copy ask → KeeperEnds (seek_ledto s ask)
   unfolding seek_ledto
-  sought_ends s (Done (sought.Taken end epoch)) at its tells = λ works. known_ends s.commit s.copy end epoch its.first its.copied tells
-  sought_ends s (Done sought.DrainFull) at its tells = λ works. no_end s.commit s.has_points s.copy its.first its.none_yet
-  sought_ends s (Done sought.EpochsSpent) at its tells = λ works. no_end s.commit s.has_points s.copy its.first its.none_yet
-  sought_ends s (Done sought.Owing) at its tells = λ works. no_end s.commit s.has_points s.copy its.first its.none_yet
-  sought_ends s (Done sought.Idle) at its tells = λ works. no_end s.commit s.has_points s.copy its.first its.none_yet
+  sought_ends s (Done (sought.Taken end epoch)) at its tells = λ works. held_awake (record s { commit = points_known s.commit end epoch; has_points = true }) its.awake (known_ends s.commit s.copy end epoch its.first its.copied tells)
+  sought_ends s (Done sought.DrainFull) at its tells = λ works. held_awake s its.awake (no_end s.commit s.has_points s.copy its.first its.none_yet)
+  sought_ends s (Done sought.EpochsSpent) at its tells = λ works. held_awake s its.awake (no_end s.commit s.has_points s.copy its.first its.none_yet)
+  sought_ends s (Done sought.Owing) at its tells = λ works. held_awake s its.awake (no_end s.commit s.has_points s.copy its.first its.none_yet)
+  sought_ends s (Done sought.Idle) at its tells = λ works. held_awake s its.awake (no_end s.commit s.has_points s.copy its.first its.none_yet)
   sought_ends s ask at its tells = stays s Seeks at its
 
   -- ---- as it waits, and is written
-  begun_ends : (shape : Shape) (s : KeeperState) (found : Option Commit) → s.commit ≡ found → s.has_points ≡ true → Hand s → KeeperEnds (writes_begun shape s found)
-  begun_ends shape s None here points hand = λ works. hand
-  begun_ends shape s (Some c) here points hand = record {
-    first = hand.first;
-    end = λ d is. subst (λ (k : CommitKind). E (span_in d d.end (triples_written k s.copy))) (ap (λ (x : Commit). x.kind) (some_same (sym is ∙ here))) (hand.end d is points).1;
-  }
+  begun_ends : (shape : Shape) (s : KeeperState) (found : Option Commit) → s.commit ≡ found → s.has_points ≡ true → Hand s → s.rests ≡ false → KeeperEnds (writes_begun shape s found)
+  begun_ends shape s None here points hand awake = λ works. held_awake s awake hand
+  begun_ends shape s (Some c) here points hand awake = (
+    record {
+      first = hand.first;
+      end = λ d is. subst (λ (k : CommitKind). E (span_in d d.end (triples_written k s.copy))) (ap (λ (x : Commit). x.kind) (some_same (sym is ∙ here))) (hand.end d is points).1;
+    },
+    awake,
+  )
 
-  waited_ends : (shape : Shape) (s : KeeperState) (ask : Ask WaitAnswer) → s.step ≡ Waits → (s.has_points ≡ true) × Hand s → KeeperEnds (wait_ledto shape s ask)
+  waited_ends : (shape : Shape) (s : KeeperState) (ask : Ask WaitAnswer) → s.step ≡ Waits → (s.has_points ≡ true) × Hand s × (s.rests ≡ false) → KeeperEnds (wait_ledto shape s ask)
   unfolding wait_ledto
-  waited_ends shape s (Done wait.Flushed) at its = begun_ends shape s s.commit refl its.0 its.1
-  waited_ends shape s (Done wait.NotYet) at its = λ works. its.1
-  waited_ends shape s (Done wait.Idle) at its = λ works. its.1
+  waited_ends shape s (Done wait.Flushed) at its = begun_ends shape s s.commit refl its.0 its.1 its.2
+  waited_ends shape s (Done wait.NotYet) at its = λ works. held_awake s its.2 its.1
+  waited_ends shape s (Done wait.Idle) at its = λ works. held_awake s its.2 its.1
   waited_ends shape s ask at its = stays s Waits at its
 
-  finished_ends : (s : KeeperState) (found : Option Commit) → s.commit ≡ found → KeeperEnds (finished s found)
-  finished_ends s None here = λ works. none_hand s.commit s.has_points s.copy here
-  finished_ends s (Some c) here = λ works. none_hand None s.has_points s.copy refl
+  finished_ends : (s : KeeperState) (found : Option Commit) → s.commit ≡ found → s.rests ≡ false → KeeperEnds (finished s found)
+  finished_ends s None here awake = λ works. held_awake s awake (none_hand s.commit s.has_points s.copy here)
+  finished_ends s (Some c) here awake = λ works. held_awake (finished s (Some c)) awake (none_hand None s.has_points s.copy refl)
 
-  finish_ends : (s : KeeperState) (ask : Ask FinishAnswer) → s.step ≡ Finishes → KeeperEnds (finish_ledto s ask)
+  finish_ends : (s : KeeperState) (ask : Ask FinishAnswer) → s.step ≡ Finishes → s.rests ≡ false → KeeperEnds (finish_ledto s ask)
   unfolding finish_ledto
-  finish_ends s (Done told) at = finished_ends s s.commit refl
-  finish_ends s ask at = stays s Finishes at tt
+  finish_ends s (Done told) at awake = finished_ends s s.commit refl awake
+  finish_ends s ask at awake = stays s Finishes at awake
 
-  written_ends : (s : KeeperState) (found : Option Commit) (answer : WriteAnswer) → s.commit ≡ found → s.step ≡ Writes → WritesSo s → KeeperEnds (write_ledto s found answer)
+  written_ends : (s : KeeperState) (found : Option Commit) (answer : WriteAnswer) → s.commit ≡ found → s.step ≡ Writes → WritesSo s × (s.rests ≡ false) → KeeperEnds (write_ledto s found answer)
   unfolding write_ledto
-  written_ends s None answer here at its = λ works. none_hand s.commit s.has_points s.copy here
-  written_ends s (Some c) write.Written here at its = tt
-  written_ends s (Some c) write.Device here at its = stays s Writes at its
+  written_ends s None answer here at its = λ works. held_awake s its.1 (none_hand s.commit s.has_points s.copy here)
+  written_ends s (Some c) write.Written here at its = its.1
+  written_ends s (Some c) write.Device here at its = either_ends (must_rest s) (turned (record s { rests = true })) s (λ yes. (λ works. its.0)) (λ no. stays s Writes at its)
   written_ends s (Some c) (write.Broken why) here at its = stays s Writes at its
 
-  writes_ends : (s : KeeperState) (done : Bool) → s.step ≡ Writes → WritesSo s → KeeperEnds (writes_called s done)
-  writes_ends s true at its = written_ends (record s { writes = commit_next s.writes true }) s.commit (commit_answer (commit_next s.writes true)) refl at (record { first = its.first; end = its.end })
+  writes_ends : (s : KeeperState) (done : Bool) → s.step ≡ Writes → WritesSo s × (s.rests ≡ false) → KeeperEnds (writes_called s done)
+  writes_ends s true at its = written_ends (record s { writes = commit_next s.writes true }) s.commit (commit_answer (commit_next s.writes true)) refl at its
   writes_ends s false at its = λ works. cc
 
   -- ---- each event
   seeks_on : (s : KeeperState) (reply : ℕ) → SeeksSo s s.seek.step → (s.seek.step ≡ seek.LoadsTail → EndsAt s.commit s.copy (record { 0 = reply })) → SeeksSo (record s { seek = seek_next s.seek reply }) (seek_next s.seek reply).step
-  seeks_on s reply its tail = record { works = its.works; none_yet = its.none_yet; first = its.first; copied = its.copied; ends = seek_ends s.commit s.copy s.seek s.seek.step reply refl its.ends tail }
+  seeks_on s reply its tail = record { works = its.works; awake = its.awake; none_yet = its.none_yet; first = its.first; copied = its.copied; ends = seek_ends s.commit s.copy s.seek s.seek.step reply refl its.ends tail }
 
   pub replied_ends : (shape : Shape) (p : Places) (s : KeeperState) (step : Keeping) (reply : ℕ) (granted : Bool) → s.step ≡ step → KeepingEnds s step
       → ((number : Version) → step ≡ Starts → s.start.step ≡ start.LoadsTail number → F number (record { 0 = reply }))
@@ -424,7 +452,7 @@ module _ (F : Version → Addr → Type 0) (E : Span → Type 0) where
       sought_ends (record s { seek = after }) (seek_ask after) at ends (seek_tells s.commit s.copy after after.step ends.ends)
   replied_ends shape p s Waits reply granted at its first end = waited_ends shape (record s { wait = wait_next s.wait reply }) (wait_ask (wait_next s.wait reply)) at its
   replied_ends shape p s Writes reply granted at its first end = stays s Writes at its
-  replied_ends shape p s Finishes reply granted at its first end = finish_ends (record s { finish = finish_next s.finish reply }) (finish_ask s.seek.points (finish_next s.finish reply)) at
+  replied_ends shape p s Finishes reply granted at its first end = finish_ends (record s { finish = finish_next s.finish reply }) (finish_ask s.seek.points (finish_next s.finish reply)) at its
 
   pub given_ends : (shape : Shape) (p : Places) (s : KeeperState) (step : Keeping) (action : Action) → s.step ≡ step → KeepingEnds s step → KeeperEnds (keeping_given shape p s step action)
   unfolding keeping_given
@@ -438,19 +466,20 @@ module _ (F : Version → Addr → Type 0) (E : Span → Type 0) where
   called_ends shape p s step done bytes at its = stays s step at its
 
   -- what is begun where no call is in hand
-  turn_ends : (s : KeeperState) → (s.is_broken ≡ false → Hand s) → KeeperEnds (turn_asked s)
+  turn_ends : (s : KeeperState) → (s.is_broken ≡ false → IsHeld s) → KeeperEnds (turn_asked s)
   turn_ends s hand =
-      either_ends s.is_broken (ended s (TurnRefused fault.Broken)) (record s { maintain = maintain_begun s.maintain; is_drain_full = false; step = Maintains }) (λ yes. hand) (λ no. (no, hand no))
+      either_ends s.is_broken (ended s (TurnRefused fault.Broken)) (record s { maintain = parts_begun s.rests s.maintain; is_drain_full = false; step = Maintains }) (λ yes. hand) (λ no. (no, hand no))
 
-  commit_ends : (s : KeeperState) (kind : CommitKind) → (s.is_broken ≡ false → Hand s) → KeeperEnds (commit_asked s kind)
+  commit_ends : (s : KeeperState) (kind : CommitKind) → (s.is_broken ≡ false → IsHeld s) → KeeperEnds (commit_asked s kind)
   commit_ends s kind hand =
-      either_ends s.is_broken (ended s (CommitRefused fault.Broken)) (record s { start = start_begun s.start (asked_for s kind); step = Starts }) (λ yes. hand) (λ no. (hand no, tt))
+      either_ends s.is_broken (ended s (CommitRefused fault.Broken)) (if s.rests then ended s (CommitRefused fault.CommitRunning) else record s { start = start_begun s.start (asked_for s kind); step = Starts }) (λ yes. hand)
+      (λ no. either_ends s.rests (ended s (CommitRefused fault.CommitRunning)) (record s { start = start_begun s.start (asked_for s kind); step = Starts }) (λ rests. hand) (λ awake. (hand no, tt)))
 
-  idle_hand : (s : KeeperState) (step : Keeping) → is_in_hand step ≡ false → KeepingEnds s step → s.is_broken ≡ false → Hand s
+  idle_hand : (s : KeeperState) (step : Keeping) → is_in_hand step ≡ false → KeepingEnds s step → s.is_broken ≡ false → IsHeld s
   idle_hand s (Ended told) idle its = its
   idle_hand s step idle its = cc
 
-  asked_ends : (s begun : KeeperState) → KeeperEnds s → ((s.is_broken ≡ false → Hand s) → KeeperEnds begun) → KeeperEnds (keeper_asked s begun)
+  asked_ends : (s begun : KeeperState) → KeeperEnds s → ((s.is_broken ≡ false → IsHeld s) → KeeperEnds begun) → KeeperEnds (keeper_asked s begun)
   asked_ends s begun its next = by_hand (is_in_hand s.step) refl
     where
       by_hand : (b : Bool) → is_in_hand s.step ≡ b → KeeperEnds (if b then s else begun)
@@ -464,17 +493,28 @@ module _ (F : Version → Addr → Type 0) (E : Span → Type 0) where
   commit_asked_ends s kind its = asked_ends s (commit_asked s kind) its (commit_ends s kind)
 
   -- as a life begins
-  pub opened_ends : (s : KeeperState) (step : Keeping) → s.step ≡ step → is_in_hand step ≡ false → s.commit ≡ None → KeeperEnds s
-  opened_ends s (Ended told) at idle none = stays s (Ended told) at (λ works. none_hand s.commit s.has_points s.copy none)
-  opened_ends s step at idle none = cc
+  pub opened_ends : (s : KeeperState) (step : Keeping) → s.step ≡ step → is_in_hand step ≡ false → s.commit ≡ None → s.rests ≡ false → KeeperEnds s
+  opened_ends s (Ended told) at idle none awake = stays s (Ended told) at (λ works. held_awake s awake (none_hand s.commit s.has_points s.copy none))
+  opened_ends s step at idle none awake = cc
 
 -- ---- what is known at a moment is known at each later one
 module _ (F G : Version → Addr → Type 0) (E H : Span → Type 0) (firsts : (number : Version) (first : Addr) → F number first → G number first) (ends : (x : Span) → E x → H x) where
   first_map : (commit : Option Commit) → HandFirst F E commit → HandFirst G H commit
   first_map commit its c is = firsts c.number c.first (its c is)
 
-  hand_map : (s : KeeperState) → Hand F E s → Hand G H s
-  hand_map s its = record { first = first_map s.commit its.first; end = λ c is points. let known = its.end c is points in (known.0, ends (span_in c c.end (triples_written c.kind s.copy)) known.1) }
+  hand_map : (commit : Option Commit) (has_points : Bool) (copy : Option Copier) → HandEnds F E commit has_points copy → HandEnds G H commit has_points copy
+  hand_map commit has_points copy its =
+      record { first = first_map commit its.first; end = λ c is points. let known = its.end c is points in (known.0, ends (span_in c c.end (triples_written c.kind copy)) known.1) }
+
+  writes_map : (commit : Option Commit) (triples : List ℕ) → WritesEnds F E commit triples → WritesEnds G H commit triples
+  writes_map commit triples its = record { first = first_map commit its.first; end = λ c is. ends (span_in c c.end triples) (its.end c is) }
+
+  in_hand_map : (rests : Bool) (commit : Option Commit) (has_points : Bool) (copy : Option Copier) (triples : List ℕ) → InHand F E rests commit has_points copy triples → InHand G H rests commit has_points copy triples
+  in_hand_map true commit has_points copy triples its = writes_map commit triples its
+  in_hand_map false commit has_points copy triples its = hand_map commit has_points copy its
+
+  held_map : (s : KeeperState) → IsHeld F E s → IsHeld G H s
+  held_map s its = in_hand_map s.rests s.commit s.has_points s.copy s.writes.triples its
 
   at_map : (commit : Option Commit) (copy : Option Copier) (end : Addr) → EndsAt F E commit copy end → EndsAt G H commit copy end
   at_map commit copy end its c is = ends (span_in c end (triples_written c.kind copy)) (its c is)
@@ -506,13 +546,13 @@ module _ (F G : Version → Addr → Type 0) (E H : Span → Type 0) (firsts : (
   seek_map commit copy seek.LoadsTail its = tt
 
   pub keeping_map : (s : KeeperState) (step : Keeping) → KeepingEnds F E s step → KeepingEnds G H s step
-  keeping_map s (Ended told) its = λ works. hand_map s (its works)
-  keeping_map s Starts its = (hand_map s its.0, start_map s.start.step its.1)
-  keeping_map s Maintains its = (its.0, hand_map s its.1)
-  keeping_map s LoadsPhase its = (its.0, hand_map s its.1)
-  keeping_map s Copies its = (first_map s.commit its.0, its.1)
-  keeping_map s Seeks its = record { works = its.works; none_yet = its.none_yet; first = first_map s.commit its.first; copied = its.copied; ends = seek_map s.commit s.copy s.seek.step its.ends }
-  keeping_map s Waits its = (its.0, hand_map s its.1)
-  keeping_map s Writes its = record { first = first_map s.commit its.first; end = λ c is. ends (span_in c c.end s.writes.triples) (its.end c is) }
-  keeping_map s Finishes its = tt
-  keeping_map s Enters its = hand_map s its
+  keeping_map s (Ended told) its = λ works. held_map s (its works)
+  keeping_map s Starts its = (held_map s its.0, start_map s.start.step its.1)
+  keeping_map s Maintains its = (its.0, held_map s its.1)
+  keeping_map s LoadsPhase its = (its.0, held_map s its.1)
+  keeping_map s Copies its = (first_map s.commit its.0, its.1, its.2)
+  keeping_map s Seeks its = record { works = its.works; awake = its.awake; none_yet = its.none_yet; first = first_map s.commit its.first; copied = its.copied; ends = seek_map s.commit s.copy s.seek.step its.ends }
+  keeping_map s Waits its = (its.0, hand_map s.commit s.has_points s.copy its.1, its.2)
+  keeping_map s Writes its = (writes_map s.commit s.writes.triples its.0, its.1)
+  keeping_map s Finishes its = its
+  keeping_map s Enters its = (hand_map s.commit s.has_points s.copy its.0, its.1)

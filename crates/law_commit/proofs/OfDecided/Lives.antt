@@ -10,6 +10,7 @@ use Rattle.fkv_words.specs.declared.phase_words.PhaseSaid.{PhaseSaid}
 use Rattle.fkv_words.specs.declared.phase_words.PhaseSaid.TheVariants.{Says}
 use Rattle.law_refine.specs.Below.fkv_commit.Commit.{Commit}
 use Rattle.law_refine.specs.Below.fkv_keeper.CheckpointLaws.{IsCopyPhase}
+use Rattle.law_refine.specs.Below.fkv_keeper.Keeping.{come_to}
 use Rattle.fkv_map.specs.declared.history.HistoryEntry.{HistoryEntry}
 use Rattle.law_refine.specs.Below.fkv_session.Sitting.{Sitting}
 use Rattle.law_refine.specs.Below.fkv_session.Sitting.TheVariants.{Attempts, Polls}
@@ -128,7 +129,7 @@ module _ (floor : FloorAlwaysStands) (opening : World) (start : ℕ) (ghosts : G
       let high = from_stage stands.stage _ (subst IsFromProgress stands.staged.word from) in
       below_views opening start ghosts events c.first.0 opens (λ session first its became awake. (stands.commit session first its c became awake in_hand).first high)
 
-  pub below_end : EndIsSafe (run opening events).now c ⊎ IsWritten (run opening events).now.keeper.step → DecidedBelow c.end.0 (life_ghosts opening ghosts events).log
+  pub below_end : EndIsSafe (run opening events).now c ⊎ IsWritten (come_to (run opening events).now.keeper) → DecidedBelow c.end.0 (life_ghosts opening ghosts events).log
   below_end (inl safe) = below_views opening start ghosts events c.end.0 opens (λ session first its became awake. ((stands.commit session first its c became awake in_hand).ending safe.0 safe.1).tail)
   below_end (inr written) = below_views opening start ghosts events c.end.0 opens (λ session first its became awake. ((stands.commit session first its c became awake in_hand).written written).tail)
 

@@ -14,7 +14,8 @@ use Rattle.law_refine.proofs.Below.fkv_checkpoint.Shown.{sound_left_out}
 use Rattle.law_refine.specs.Below.fkv_commit.Commit.{Commit}
 use Rattle.fkv_index.specs.OneEntry.{IsHome}
 use Rattle.law_refine.specs.Below.fkv_keeper.CheckpointLaws.{IsBeforeWrites}
-use Rattle.law_refine.specs.Below.fkv_keeper.Keeping.{bytes_copied, triples_written}
+use Rattle.law_refine.specs.Below.fkv_keeper.TheKeeping.TheVariants.{Seeks}
+use Rattle.law_refine.specs.Below.fkv_keeper.Keeping.{KeeperState, bytes_copied, come_to, triples_written}
 use Rattle.fkv_plane.specs.declared.places.Places.{Places}
 use Rattle.fkv_words.specs.PhaseWords.{phase_said}
 use Rattle.law_refine.specs.Below.fkv_world.OwnEvents.{keeper_events}
@@ -39,6 +40,8 @@ use Rattle.law_commit.specs.Decided.Ended.{HadMoment, LoadsEnd, Span, span_of}
 use Rattle.law_commit.specs.Decided.Laws.{LieBelow}
 use Rattle.law_commit.specs.Floor.Stands.{FloorAlwaysStands, PaperIsSound}
 use Rattle.law_commit.specs.PhaseStores.{phase_at}
+use Rattle.law_commit.proofs.InRest.{awake_so, come_awake}
+use Rattle.law_commit.proofs.LifeBegun.{life_rests}
 use Rattle.law_commit.proofs.OfCopied.Began.{all_of, life_since, since_copy}
 use Rattle.law_commit.proofs.OfCopied.BegunFor.{life_begun_for}
 use Rattle.law_commit.proofs.OfCopied.Covers.{life_covers, life_grown, life_in_chains}
@@ -73,7 +76,13 @@ module _ (opening : World) (start : ℕ) (lists : ℕ → List ℕ) (ghosts : Gh
     kind_full = ap (λ (y : Span). y.kind) (sym its.its) ∙ full
 
     in_hand : HasInHand opening.now.places (run opening moment).now.keeper copy
-    in_hand = life_keeps opening lists moment in_order its.commit its.in_hand kind_full its.copied its.works (subst IsBeforeWrites (sym its.seeks) tt)
+    in_hand = life_keeps opening lists moment in_order its.commit its.in_hand kind_full its.copied its.works (subst IsBeforeWrites (sym come) tt)
+      where
+        s : KeeperState
+        s = (run opening moment).now.keeper
+
+        come : come_to s ≡ Seeks
+        come = come_awake s Seeks (awake_so s Seeks its.seeks (λ may. may) (life_rests opening moment opens.quiet.opened)) its.seeks
 
     bytes : x.triples ≡ all_bytes copy.triples
     bytes = its.triples ∙ (ap (λ (k : CommitKind). triples_written k (run opening moment).now.keeper.copy) full ∙ ap (λ (m : Option Copier). bytes_copied m) in_hand.in_hand)

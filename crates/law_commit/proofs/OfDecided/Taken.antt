@@ -21,7 +21,7 @@ use Rattle.law_refine.specs.Below.fkv_log.Shifting.{ShiftState}
 use Rattle.law_refine.specs.Below.fkv_log.Turning.{TurnState}
 use Rattle.law_refine.specs.Below.fkv_flush.GuardLevels.{levels_of}
 use Rattle.law_refine.specs.Below.fkv_flush.GuardSeen.{LastSeen}
-use Rattle.law_refine.specs.Below.fkv_flush.GuardWorld.{Actor, GuardEvent, GuardWorld, Work, guard_run, is_idle, shift_rests, turn_rests}
+use Rattle.law_refine.specs.Below.fkv_flush.GuardWorld.{Actor, GuardWorld, Work, guard_run, is_idle, shift_rests, turn_rests}
 use Rattle.law_refine.specs.Below.fkv_flush.GuardWorld as guard_world
 use Rattle.fkv_epoch.proofs.Shown.{some_same}
 use Rattle.law_refine.proofs.Below.fkv_flush.Shown.{Awake, FitsWork, IsSound, Knows}

@@ -92,11 +92,13 @@ KeepingFits g s Writes = (s.has_points ≡ true) × IsSafeEnding g
 KeepingFits g s Finishes = (s.has_points ≡ true) × IsSafeEnding g
 KeepingFits g s step = ⊤
 
--- the commit in hand has the first address of its raise, and, once its points are taken, the end and the epoch of the last one
-pub record HandFits (g : Ground) (commit : Option Commit) (has_points : Bool) : Type 0 where
+-- the commit in hand has the first address of its raise, and, once its points are taken, the end and the epoch of the last one; that is safe where its writes
+-- rest
+pub record HandFits (g : Ground) (commit : Option Commit) (has_points resting : Bool) : Type 0 where
   pub first : (c : Commit) → commit ≡ Some c → c.first.0 ≡ g.raises.first
   pub points : (c : Commit) → commit ≡ Some c → has_points ≡ true → IsEnding g.raises c.end.0 c.epoch
+  pub rests : resting ≡ true → (has_points ≡ true) × IsSafeEnding g
 
 pub record KeeperFits (g : Ground) (s : KeeperState) : Type 0 where
-  pub hand : HandFits g s.commit s.has_points
+  pub hand : HandFits g s.commit s.has_points s.rests
   pub step : KeepingFits g s s.step

@@ -44,13 +44,13 @@ use Rattle.law_refine.specs.Below.fkv_manifest.WriteAnswer.TheVariants as write
 use Rattle.law_refine.specs.Below.fkv_manifest.Committing.{commit_answer, commit_next}
 use Rattle.law_refine.specs.Below.fkv_maintain.MaintainAnswer.{MaintainAnswer}
 use Rattle.law_refine.specs.Below.fkv_maintain.MaintainAnswer.TheVariants as maintain
-use Rattle.law_refine.specs.Below.fkv_maintain.Maintaining.{maintain_ask, maintain_begun, maintain_called, maintain_given, maintain_next}
+use Rattle.law_refine.specs.Below.fkv_maintain.Maintaining.{maintain_ask, maintain_called, maintain_given, maintain_next}
 use Rattle.law_refine.specs.Below.fkv_keeper.KeeperTold.{KeeperTold}
 use Rattle.law_refine.specs.Below.fkv_keeper.KeeperTold.TheVariants.{CommitRefused, TurnRefused}
 use Rattle.law_refine.specs.Below.fkv_keeper.TheKeeping.{Keeping}
 use Rattle.law_refine.specs.Below.fkv_keeper.TheKeeping.TheVariants.{Ended, Starts, Maintains, LoadsPhase, Enters, Copies, Seeks, Waits, Writes, Finishes}
 use Rattle.law_refine.specs.Below.fkv_keeper.KeeperRun.{is_in_hand}
-use Rattle.law_refine.specs.Below.fkv_keeper.Keeping.{KeeperState, commit_asked, copied, copies, copies_next, copy_driven, copy_ledto, ended, enter_ledto, finish_ledto, finished, keeping_called, keeping_given, keeping_next, maintain_ledto, part_begun, phase_ledto, points_known, seek_ledto, start_ledto, turn_asked, turned, wait_ledto, write_ledto, writes_begun, writes_called, copy_taken, is_copy_resting, copy_told, asked_for}
+use Rattle.law_refine.specs.Below.fkv_keeper.Keeping.{KeeperState, commit_asked, copied, copies, copies_next, copy_driven, copy_ledto, ended, enter_ledto, finish_ledto, finished, keeping_called, keeping_given, keeping_next, maintain_ledto, must_rest, part_begun, parts_begun, phase_ledto, points_known, seek_ledto, start_ledto, turn_asked, turned, wait_ledto, write_ledto, writes_begun, writes_called, writes_taken_up, copy_taken, is_copy_resting, copy_told, asked_for}
 use Rattle.law_refine.specs.Below.fkv_world.World.{keeper_asked}
 use Rattle.law_refine.specs.Below.law_world.GuardKeeper.KeeperShown.{KeepingKnows}
 use Rattle.law_refine.proofs.Footprint.Commits.{finish_stores, seek_stores, start_stores}
@@ -62,59 +62,66 @@ use Rattle.law_commit.proofs.OfFloor.PartsFit.{EnterReply, SeekReply, SeekTells,
 some_same : {X : Type 0} {x y : X} → ◌≡◌ {A = Option X} (Some x) (Some y) → x ≡ y
 some_same e = cc
 
-ended_fits : (g : Ground) (s : KeeperState) (told : KeeperTold) → HandFits g s.commit s.has_points → KeeperFits g (ended s told)
+ended_fits : (g : Ground) (s : KeeperState) (told : KeeperTold) → HandFits g s.commit s.has_points s.rests → KeeperFits g (ended s told)
 ended_fits g s told hand = record { hand = hand; step = tt }
 
 either_fits : (g : Ground) (c : Bool) (a b : KeeperState) → (c ≡ true → KeeperFits g a) → (c ≡ false → KeeperFits g b) → KeeperFits g (if c then a else b)
 either_fits g true a b one other = one refl
 either_fits g false a b one other = other refl
 
-stays_fits : (g : Ground) (s : KeeperState) (step : Keeping) → s.step ≡ step → HandFits g s.commit s.has_points → KeepingFits g s step → KeeperFits g s
+stays_fits : (g : Ground) (s : KeeperState) (step : Keeping) → s.step ≡ step → HandFits g s.commit s.has_points s.rests → KeepingFits g s step → KeeperFits g s
 stays_fits g s step at hand fits = record { hand = hand; step = subst (λ x. KeepingFits g s x) (sym at) fits }
 
 -- ---- a start
-started_fits : (g : Ground) (s : KeeperState) (ask : Ask StartAnswer) → s.step ≡ Starts → HandFits g s.commit s.has_points → StartFits g s.commit s.start s.start.step → StartTells g ask → KeeperFits g (start_ledto s ask)
+started_fits : (g : Ground) (s : KeeperState) (ask : Ask StartAnswer) → s.step ≡ Starts → HandFits g s.commit s.has_points s.rests → StartFits g s.commit s.start s.start.step → StartTells g ask → KeeperFits g (start_ledto s ask)
 unfolding start_ledto
-started_fits g s (Done (started.Begun its first)) at hand fits tells = record { hand = record { first = λ c is. ap (λ (x : Commit). x.first.0) (sym (some_same is)) ∙ tells; points = λ c is yes. cc }; step = tt }
+started_fits g s (Done (started.Begun its first)) at hand fits tells = record { hand = record { first = λ c is. ap (λ (x : Commit). x.first.0) (sym (some_same is)) ∙ tells; points = λ c is yes. cc; rests = λ e. cc }; step = tt }
 started_fits g s (Done (started.Refused why)) at hand fits tells = ended_fits g s _ hand
 started_fits g s (Done started.Idle) at hand fits tells = ended_fits g s _ hand
 started_fits g s ask at hand fits tells = stays_fits g s Starts at hand fits
 
 -- ---- a turn
-maintained_fits : (g : Ground) (s : KeeperState) (ask : Ask MaintainAnswer) → s.step ≡ Maintains → HandFits g s.commit s.has_points → KeeperFits g (maintain_ledto s ask)
+maintained_fits : (g : Ground) (s : KeeperState) (ask : Ask MaintainAnswer) → s.step ≡ Maintains → HandFits g s.commit s.has_points s.rests → KeeperFits g (maintain_ledto s ask)
 unfolding maintain_ledto
 maintained_fits g s (Done maintain.Through) at hand = record { hand = hand; step = tt }
 maintained_fits g s (Done maintain.Spent) at hand = ended_fits g s _ hand
-maintained_fits g s (Done maintain.Broken) at hand = record { hand = hand; step = tt }
+maintained_fits g s (Done maintain.Broken) at hand = record { hand = record { first = hand.first; points = hand.points; rests = λ e. cc }; step = tt }
 maintained_fits g s (Done maintain.Device) at hand = stays_fits g s Maintains at hand tt
 maintained_fits g s ask at hand = stays_fits g s Maintains at hand tt
 
-copies_fits : (g : Ground) (p : Places) (s : KeeperState) (granted : Bool) → HandFits g s.commit s.has_points → KeeperFits g (copies p s granted)
+copies_fits : (g : Ground) (p : Places) (s : KeeperState) (granted : Bool) → HandFits g s.commit s.has_points s.rests → KeeperFits g (copies p s granted)
 copies_fits g p s granted hand =
     either_fits g (granted || is_copy_resting s.copy) (record s { copy = copy_taken p s.copy; is_granted = true; step = Copies }) (ended (record s { is_granted = false }) (TurnRefused fault.Memory)) (λ yes. record { hand = hand; step = tt }) (λ no. record { hand = hand; step = tt })
 
-copies_next_fits : (g : Ground) (p : Places) (s : KeeperState) (c : Commit) (granted : Bool) (other : KeeperState) → HandFits g s.commit s.has_points → KeeperFits g other → KeeperFits g (copies_next p s c granted other)
+copies_next_fits : (g : Ground) (p : Places) (s : KeeperState) (c : Commit) (granted : Bool) (other : KeeperState) → HandFits g s.commit s.has_points s.rests → KeeperFits g other → KeeperFits g (copies_next p s c granted other)
 copies_next_fits g p s c granted other hand its = either_fits g c.is_copied other (copies p s granted) (λ yes. its) (λ no. copies_fits g p s granted hand)
 
-part_fits : (g : Ground) (p : Places) (s : KeeperState) (c : Commit) (said : PhaseSaid) (granted : Bool) → s.commit ≡ Some c → HandFits g s.commit s.has_points → KeeperFits g (part_begun p s c said granted)
-part_fits g p s c (Says phase.InProgress version) granted is hand =
+part_fits : (g : Ground) (p : Places) (s : KeeperState) (c : Commit) (said : PhaseSaid) (granted : Bool) → s.rests ≡ false → s.commit ≡ Some c → HandFits g s.commit s.has_points s.rests → KeeperFits g (part_begun p s c said granted)
+part_fits g p s c (Says phase.InProgress version) granted awake is hand =
     either_fits g s.has_entered (copies_next p s c granted (turned s)) (record s { enter = enter_begun s.enter c.number; step = Enters }) (λ yes. copies_next_fits g p s c granted (turned s) hand (ended_fits g s _ hand)) (λ no. record { hand = hand; step = tt })
-part_fits g p s c (Says phase.WaitPending version) granted is hand =
+part_fits g p s c (Says phase.WaitPending version) granted awake is hand =
     copies_next_fits g p s c granted (record s { seek = seek_begun s.seek c.number s.last.points; has_points = false; step = Seeks }) hand
-    (record { hand = record { first = hand.first; points = λ other in_hand yes. cc }; step = owing_fits g (record s.seek { number = c.number; floor = s.last.points; points = [] }) 0 })
-part_fits g p s c (Says phase.WaitFlush version) granted is hand =
+    (record { hand = record { first = hand.first; points = λ other in_hand yes. cc; rests = λ rests. let clash : false ≡ true = sym awake ∙ rests in cc }; step = owing_fits g (record s.seek { number = c.number; floor = s.last.points; points = [] }) 0 })
+part_fits g p s c (Says phase.WaitFlush version) granted awake is hand =
     either_fits g s.has_points (record s { wait = wait_begun c.end c.epoch; step = Waits }) (turned s) (λ yes. record { hand = hand; step = (yes, hand.points c is yes) }) (λ no. ended_fits g s _ hand)
-part_fits g p s c (Says phase.Rest version) granted is hand = ended_fits g s _ hand
-part_fits g p s c (Says phase.Prepare version) granted is hand = ended_fits g s _ hand
-part_fits g p s c Spoiled granted is hand = ended_fits g s _ hand
+part_fits g p s c (Says phase.Rest version) granted awake is hand = ended_fits g s _ hand
+part_fits g p s c (Says phase.Prepare version) granted awake is hand = ended_fits g s _ hand
+part_fits g p s c Spoiled granted awake is hand = ended_fits g s _ hand
 
-phase_fits : (g : Ground) (p : Places) (s : KeeperState) (found : Option Commit) (said : PhaseSaid) (granted : Bool) → s.commit ≡ found → HandFits g s.commit s.has_points → KeeperFits g (phase_ledto p s found said granted)
+-- writes that rest go on, or rest still
+taken_up_fits : (g : Ground) (s : KeeperState) (granted : Bool) → HandFits g s.commit s.has_points s.rests → s.rests ≡ true → KeeperFits g (writes_taken_up s granted)
+taken_up_fits g s granted hand rests =
+    either_fits g granted (record s { rests = false; is_granted = true; step = Writes }) (turned (record s { is_granted = false }))
+    (λ yes. record { hand = record { first = hand.first; points = hand.points; rests = λ e. cc }; step = hand.rests rests }) (λ no. record { hand = hand; step = tt })
+
+phase_fits : (g : Ground) (p : Places) (s : KeeperState) (found : Option Commit) (said : PhaseSaid) (granted : Bool) → s.commit ≡ found → HandFits g s.commit s.has_points s.rests → KeeperFits g (phase_ledto p s found said granted)
 unfolding phase_ledto
 phase_fits g p s None said granted is hand = ended_fits g s _ hand
-phase_fits g p s (Some c) said granted is hand = part_fits g p s c said granted is hand
+phase_fits g p s (Some c) said granted is hand =
+    either_fits g s.rests (writes_taken_up s granted) (part_begun p s c said granted) (λ rests. taken_up_fits g s granted hand rests) (λ awake. part_fits g p s c said granted awake is hand)
 
 -- ---- the parts of a commit
-entered_fits : (g : Ground) (s : KeeperState) (ask : Ask EnterAnswer) → s.step ≡ Enters → HandFits g s.commit s.has_points → EnterFits g s.enter s.enter.step → KeeperFits g (enter_ledto s ask)
+entered_fits : (g : Ground) (s : KeeperState) (ask : Ask EnterAnswer) → s.step ≡ Enters → HandFits g s.commit s.has_points s.rests → EnterFits g s.enter s.enter.step → KeeperFits g (enter_ledto s ask)
 unfolding enter_ledto
 entered_fits g s (Done enter.Entered) at hand fits = record { hand = hand; step = tt }
 entered_fits g s (Done enter.DrainFull) at hand fits = record { hand = hand; step = tt }
@@ -122,35 +129,37 @@ entered_fits g s (Done enter.EpochsSpent) at hand fits = ended_fits g s _ hand
 entered_fits g s (Done enter.Idle) at hand fits = ended_fits g s _ hand
 entered_fits g s ask at hand fits = stays_fits g s Enters at hand fits
 
-copied_hand : (g : Ground) (rests : Bool) (found : Option Commit) (has_points : Bool) → HandFits g found has_points → HandFits g (copied rests found) has_points
-copied_hand g rests None has_points hand = hand
-copied_hand g rests (Some its) has_points hand = record {
+copied_hand : (g : Ground) (rests : Bool) (found : Option Commit) (has_points resting : Bool) → HandFits g found has_points resting → HandFits g (copied rests found) has_points resting
+copied_hand g rests None has_points resting hand = hand
+copied_hand g rests (Some its) has_points resting hand = record {
   first = λ c is. ap (λ (x : Commit). x.first.0) (sym (some_same is)) ∙ hand.first its refl;
   points = λ c is yes. subst (λ (x : Commit). IsEnding g.raises x.end.0 x.epoch) (some_same is) (hand.points its refl yes);
+  rests = hand.rests;
 }
 
-copied_fits : (g : Ground) (s : KeeperState) (ask : Ask (Unit {0})) → s.step ≡ Copies → HandFits g s.commit s.has_points → KeeperFits g (copy_ledto s ask)
+copied_fits : (g : Ground) (s : KeeperState) (ask : Ask (Unit {0})) → s.step ≡ Copies → HandFits g s.commit s.has_points s.rests → KeeperFits g (copy_ledto s ask)
 unfolding copy_ledto
-copied_fits g s (Done its) at hand = record { hand = copied_hand g (is_copy_resting s.copy) s.commit s.has_points hand; step = tt }
+copied_fits g s (Done its) at hand = record { hand = copied_hand g (is_copy_resting s.copy) s.commit s.has_points s.rests hand; step = tt }
 copied_fits g s ask at hand = stays_fits g s Copies at hand tt
 
-known_hand : (g : Ground) (found : Option Commit) (has_points : Bool) (end : Addr) (epoch : ℕ) → IsEnding g.raises end.0 epoch → HandFits g found has_points → HandFits g (points_known found end epoch) true
-known_hand g None has_points end epoch ending hand = record { first = hand.first; points = λ c is yes. cc }
-known_hand g (Some its) has_points end epoch ending hand = record {
+known_hand : (g : Ground) (found : Option Commit) (has_points resting : Bool) (end : Addr) (epoch : ℕ) → IsEnding g.raises end.0 epoch → HandFits g found has_points resting → HandFits g (points_known found end epoch) true resting
+known_hand g None has_points resting end epoch ending hand = record { first = hand.first; points = λ c is yes. cc; rests = λ rests. (refl, (hand.rests rests).1) }
+known_hand g (Some its) has_points resting end epoch ending hand = record {
   first = λ c is. ap (λ (x : Commit). x.first.0) (sym (some_same is)) ∙ hand.first its refl;
   points = λ c is yes. subst (λ (x : Commit). IsEnding g.raises x.end.0 x.epoch) (some_same is) ending;
+  rests = λ rests. (refl, (hand.rests rests).1);
 }
 
-sought_fits : (g : Ground) (s : KeeperState) (ask : Ask SeekAnswer) → s.step ≡ Seeks → HandFits g s.commit s.has_points → SeekFits g s.seek s.seek.step → SeekTells g ask → KeeperFits g (seek_ledto s ask)
+sought_fits : (g : Ground) (s : KeeperState) (ask : Ask SeekAnswer) → s.step ≡ Seeks → HandFits g s.commit s.has_points s.rests → SeekFits g s.seek s.seek.step → SeekTells g ask → KeeperFits g (seek_ledto s ask)
 unfolding seek_ledto
-sought_fits g s (Done (sought.Taken end epoch)) at hand fits tells = record { hand = known_hand g s.commit s.has_points end epoch tells hand; step = tt }
+sought_fits g s (Done (sought.Taken end epoch)) at hand fits tells = record { hand = known_hand g s.commit s.has_points s.rests end epoch tells hand; step = tt }
 sought_fits g s (Done sought.DrainFull) at hand fits tells = record { hand = hand; step = tt }
 sought_fits g s (Done sought.EpochsSpent) at hand fits tells = ended_fits g s _ hand
 sought_fits g s (Done sought.Owing) at hand fits tells = ended_fits g s _ hand
 sought_fits g s (Done sought.Idle) at hand fits tells = ended_fits g s _ hand
 sought_fits g s ask at hand fits tells = stays_fits g s Seeks at hand fits
 
-written_fits : (g : Ground) (shape : Shape) (s : KeeperState) (found : Option Commit) → HandFits g s.commit s.has_points → s.has_points ≡ true → IsSafeEnding g → KeeperFits g (writes_begun shape s found)
+written_fits : (g : Ground) (shape : Shape) (s : KeeperState) (found : Option Commit) → HandFits g s.commit s.has_points s.rests → s.has_points ≡ true → IsSafeEnding g → KeeperFits g (writes_begun shape s found)
 written_fits g shape s None hand has safe = ended_fits g s _ hand
 written_fits g shape s (Some c) hand has safe = record { hand = hand; step = (has, safe) }
 
@@ -166,18 +175,18 @@ wait_tells_fits g s (waiting.Ended wait.Idle) fits = tt
 wait_tells_fits g s waiting.LoadsSafe fits = tt
 wait_tells_fits g s waiting.LoadsFlushed fits = tt
 
-waited_fits : (g : Ground) (shape : Shape) (s : KeeperState) (ask : Ask WaitAnswer) → s.step ≡ Waits → HandFits g s.commit s.has_points → s.has_points ≡ true → WaitFits g s.wait s.wait.step → WaitTells g ask → KeeperFits g (wait_ledto shape s ask)
+waited_fits : (g : Ground) (shape : Shape) (s : KeeperState) (ask : Ask WaitAnswer) → s.step ≡ Waits → HandFits g s.commit s.has_points s.rests → s.has_points ≡ true → WaitFits g s.wait s.wait.step → WaitTells g ask → KeeperFits g (wait_ledto shape s ask)
 unfolding wait_ledto
 waited_fits g shape s (Done wait.Flushed) at hand has fits tells = written_fits g shape s s.commit hand has tells
 waited_fits g shape s (Done wait.NotYet) at hand has fits tells = ended_fits g s _ hand
 waited_fits g shape s (Done wait.Idle) at hand has fits tells = ended_fits g s _ hand
 waited_fits g shape s ask at hand has fits tells = stays_fits g s Waits at hand (has, fits)
 
-finished_fits : (g : Ground) (s : KeeperState) (found : Option Commit) → HandFits g s.commit s.has_points → KeeperFits g (finished s found)
+finished_fits : (g : Ground) (s : KeeperState) (found : Option Commit) → HandFits g s.commit s.has_points s.rests → KeeperFits g (finished s found)
 finished_fits g s None hand = ended_fits g s _ hand
-finished_fits g s (Some c) hand = record { hand = record { first = λ other is. cc; points = λ other is yes. cc }; step = tt }
+finished_fits g s (Some c) hand = record { hand = record { first = λ other is. cc; points = λ other is yes. cc; rests = hand.rests }; step = tt }
 
-finish_fits : (g : Ground) (s : KeeperState) (ask : Ask FinishAnswer) → s.step ≡ Finishes → HandFits g s.commit s.has_points → s.has_points ≡ true → IsSafeEnding g → KeeperFits g (finish_ledto s ask)
+finish_fits : (g : Ground) (s : KeeperState) (ask : Ask FinishAnswer) → s.step ≡ Finishes → HandFits g s.commit s.has_points s.rests → s.has_points ≡ true → IsSafeEnding g → KeeperFits g (finish_ledto s ask)
 unfolding finish_ledto
 finish_fits g s (Done told) at hand has safe = finished_fits g s s.commit hand
 finish_fits g s ask at hand has safe = stays_fits g s Finishes at hand (has, safe)
@@ -197,7 +206,7 @@ StoresReady g s Seeks = seek_stores s.seek.step ≡ true → g.raises.ending ≡
 StoresReady g s step = ⊤
 
 pub keeper_goes_fits : (g : Ground) (l : Levels) (number : Version) (stage : Stage) (shape : Shape) (p : Places) (s : KeeperState) (step : Keeping) (reply : ℕ) (granted : Bool) → s.step ≡ step → StepAt number stage s step → KeepingKnows l s step → StoresReady g s step
-    → KeeperReply g s step reply → HandFits g s.commit s.has_points → KeepingFits g s step → KeeperFits g (keeping_next shape p s step reply granted)
+    → KeeperReply g s step reply → HandFits g s.commit s.has_points s.rests → KeepingFits g s step → KeeperFits g (keeping_next shape p s step reply granted)
 unfolding keeping_next
 keeper_goes_fits g l number stage shape p s (Ended told) reply granted at is knows ready says hand fits = stays_fits g s (Ended told) at hand fits
 keeper_goes_fits g l number stage shape p s Starts reply granted at is knows ready says hand fits =
@@ -220,30 +229,30 @@ keeper_goes_fits g l number stage shape p s Finishes reply granted at is knows r
     finish_fits g (record s { finish = record s.finish { step = finishing_next s.finish s.finish.step } }) (finish_ask s.seek.points (record s.finish { step = finishing_next s.finish s.finish.step })) at hand fits.0 fits.1
 
 -- behind rest no commit is in hand
-rest_fits_at : (g : Ground) (shape : Shape) (p : Places) (s : KeeperState) (c : Commit) (step : Finishing) (reply : ℕ) (granted : Bool) → finish_stores step ≡ true → s.commit ≡ Some c
+rest_fits_at : (g : Ground) (shape : Shape) (p : Places) (s : KeeperState) (c : Commit) (step : Finishing) (reply : ℕ) (granted : Bool) → finish_stores step ≡ true → s.commit ≡ Some c → s.rests ≡ false
     → KeeperFits g (finish_ledto (record s { finish = record s.finish { step = finishing_next s.finish step } }) (finish_ask s.seek.points (record s.finish { step = finishing_next s.finish step })))
 unfolding finishing_next finishing_ask finish_ledto
-rest_fits_at g shape p s c finishing.StoresRest reply granted stores is =
+rest_fits_at g shape p s c finishing.StoresRest reply granted stores is awake =
     let after : KeeperState = record s { finish = record s.finish { step = finishing_next s.finish finishing.StoresRest } } in
-    subst (λ (x : Option Commit). KeeperFits g (finished after x)) (sym is) (record { hand = record { first = λ other none. cc; points = λ other none yes. cc }; step = tt })
-rest_fits_at g shape p s c (finishing.StoresDurable session) reply granted stores is = cc
-rest_fits_at g shape p s c (finishing.Ended told) reply granted stores is = cc
+    subst (λ (x : Option Commit). KeeperFits g (finished after x)) (sym is) (record { hand = record { first = λ other none. cc; points = λ other none yes. cc; rests = λ rests. let clash : false ≡ true = sym awake ∙ rests in cc }; step = tt })
+rest_fits_at g shape p s c (finishing.StoresDurable session) reply granted stores is awake = cc
+rest_fits_at g shape p s c (finishing.Ended told) reply granted stores is awake = cc
 
-pub rest_fits : (g : Ground) (shape : Shape) (p : Places) (s : KeeperState) (c : Commit) (reply : ℕ) (granted : Bool) → finish_stores s.finish.step ≡ true → s.commit ≡ Some c → KeeperFits g (keeping_next shape p s Finishes reply granted)
+pub rest_fits : (g : Ground) (shape : Shape) (p : Places) (s : KeeperState) (c : Commit) (reply : ℕ) (granted : Bool) → finish_stores s.finish.step ≡ true → s.commit ≡ Some c → s.rests ≡ false → KeeperFits g (keeping_next shape p s Finishes reply granted)
 unfolding keeping_next
-rest_fits g shape p s c reply granted stores is = rest_fits_at g shape p s c s.finish.step reply granted stores is
+rest_fits g shape p s c reply granted stores is awake = rest_fits_at g shape p s c s.finish.step reply granted stores is awake
 
 -- ---- an action is put
 pub start_puts_fit : (g : Ground) (shape : Shape) (p : Places) (s : KeeperState) (its : Version) (first : Addr) (x : Deferred) (slot epoch reply : ℕ) (granted : Bool) → s.step ≡ Starts → s.start.step ≡ starting.Defers its first → s.start.defer.step ≡ defer.Puts x slot epoch → s.commit ≡ None
-    → first.0 ≡ g.raises.first → KeeperFits g (keeping_next shape p s Starts reply granted)
+    → s.rests ≡ false → first.0 ≡ g.raises.first → KeeperFits g (keeping_next shape p s Starts reply granted)
 unfolding keeping_next
-start_puts_fit g shape p s its first x slot epoch reply granted at starts puts none same =
+start_puts_fit g shape p s its first x slot epoch reply granted at starts puts none awake same =
     let there = start_put_fits g s.commit s.start its first x slot epoch reply starts puts none same in
     let goes : StartFits g s.commit (start_next s.start reply) (start_next s.start reply).step = subst (λ y. StartFits g s.commit (starting_next s.start y reply) (starting_next s.start y reply).step) (sym starts) there in
-    started_fits g (record s { start = start_next s.start reply }) (start_ask (start_next s.start reply)) at (record { first = λ c is. let clash : None ≡ Some c = sym none ∙ is in cc; points = λ c is yes. let clash : None ≡ Some c = sym none ∙ is in cc }) goes
+    started_fits g (record s { start = start_next s.start reply }) (start_ask (start_next s.start reply)) at (record { first = λ c is. let clash : None ≡ Some c = sym none ∙ is in cc; points = λ c is yes. let clash : None ≡ Some c = sym none ∙ is in cc; rests = λ rests. let clash : false ≡ true = sym awake ∙ rests in cc }) goes
     (start_tells_fits g s.commit (start_next s.start reply) (start_next s.start reply).step goes)
 
-pub enter_puts_fit : (g : Ground) (shape : Shape) (p : Places) (s : KeeperState) (x : Deferred) (slot epoch reply : ℕ) (granted : Bool) → s.step ≡ Enters → s.enter.step ≡ entering.Defers → s.enter.defer.step ≡ defer.Puts x slot epoch → HandFits g s.commit s.has_points
+pub enter_puts_fit : (g : Ground) (shape : Shape) (p : Places) (s : KeeperState) (x : Deferred) (slot epoch reply : ℕ) (granted : Bool) → s.step ≡ Enters → s.enter.step ≡ entering.Defers → s.enter.defer.step ≡ defer.Puts x slot epoch → HandFits g s.commit s.has_points s.rests
     → KeeperFits g (keeping_next shape p s Enters reply granted)
 unfolding keeping_next
 enter_puts_fit g shape p s x slot epoch reply granted at enters puts hand =
@@ -251,7 +260,7 @@ enter_puts_fit g shape p s x slot epoch reply granted at enters puts hand =
     let goes : EnterFits g (enter_next s.enter reply) (enter_next s.enter reply).step = subst (λ y. EnterFits g (entering_next s.enter y reply) (entering_next s.enter y reply).step) (sym enters) there in
     entered_fits g (record s { enter = enter_next s.enter reply }) (enter_ask (enter_next s.enter reply)) at hand goes
 
-pub seek_puts_fit : (g : Ground) (shape : Shape) (p : Places) (s : KeeperState) (end : Addr) (x : Deferred) (slot epoch reply : ℕ) (granted : Bool) → s.step ≡ Seeks → s.seek.step ≡ seeking.Defers end → s.seek.defer.step ≡ defer.Puts x slot epoch → HandFits g s.commit s.has_points
+pub seek_puts_fit : (g : Ground) (shape : Shape) (p : Places) (s : KeeperState) (end : Addr) (x : Deferred) (slot epoch reply : ℕ) (granted : Bool) → s.step ≡ Seeks → s.seek.step ≡ seeking.Defers end → s.seek.defer.step ≡ defer.Puts x slot epoch → HandFits g s.commit s.has_points s.rests
     → IsEnding g.raises end.0 epoch → KeeperFits g (keeping_next shape p s Seeks reply granted)
 unfolding keeping_next
 seek_puts_fit g shape p s end x slot epoch reply granted at seeks puts hand ending =
@@ -259,7 +268,7 @@ seek_puts_fit g shape p s end x slot epoch reply granted at seeks puts hand endi
     let goes : SeekFits g (seek_next s.seek reply) (seek_next s.seek reply).step = subst (λ y. SeekFits g (seeking_next s.seek y reply) (seeking_next s.seek y reply).step) (sym seeks) there in
     sought_fits g (record s { seek = seek_next s.seek reply }) (seek_ask (seek_next s.seek reply)) at hand goes (seek_tells_fits g (seek_next s.seek reply) (seek_next s.seek reply).step goes)
 
-pub turn_puts_fit : (g : Ground) (shape : Shape) (p : Places) (s : KeeperState) (reply : ℕ) (granted : Bool) → s.step ≡ Maintains → HandFits g s.commit s.has_points → KeeperFits g (keeping_next shape p s Maintains reply granted)
+pub turn_puts_fit : (g : Ground) (shape : Shape) (p : Places) (s : KeeperState) (reply : ℕ) (granted : Bool) → s.step ≡ Maintains → HandFits g s.commit s.has_points s.rests → KeeperFits g (keeping_next shape p s Maintains reply granted)
 unfolding keeping_next
 turn_puts_fit g shape p s reply granted at hand = maintained_fits g (record s { maintain = maintain_next shape p s.maintain reply }) (maintain_ask shape p (maintain_next shape p s.maintain reply)) at hand
 
@@ -269,31 +278,33 @@ unfolding keeping_given
 given_fits g shape p s Maintains action at its = maintained_fits g (record s { maintain = maintain_given s.maintain action }) (maintain_ask shape p (maintain_given s.maintain action)) at its.hand
 given_fits g shape p s step action at its = its
 
-write_fits : (g : Ground) (s : KeeperState) (found : Option Commit) (answer : WriteAnswer) → s.step ≡ Writes → HandFits g s.commit s.has_points → s.has_points ≡ true → IsSafeEnding g → KeeperFits g (write_ledto s found answer)
+write_fits : (g : Ground) (s : KeeperState) (found : Option Commit) (answer : WriteAnswer) → s.step ≡ Writes → HandFits g s.commit s.has_points s.rests → s.has_points ≡ true → IsSafeEnding g → KeeperFits g (write_ledto s found answer)
 unfolding write_ledto
 write_fits g s None answer at hand has safe = ended_fits g s _ hand
 write_fits g s (Some c) write.Written at hand has safe = record { hand = hand; step = (has, safe) }
-write_fits g s (Some c) write.Device at hand has safe = stays_fits g s Writes at hand (has, safe)
+write_fits g s (Some c) write.Device at hand has safe =
+    either_fits g (must_rest s) (turned (record s { rests = true })) s (λ yes. record { hand = record { first = hand.first; points = hand.points; rests = λ e. (has, safe) }; step = tt }) (λ no. stays_fits g s Writes at hand (has, safe))
 write_fits g s (Some c) (write.Broken why) at hand has safe = stays_fits g s Writes at hand (has, safe)
 
-writes_fit : (g : Ground) (s : KeeperState) (done : Bool) → s.step ≡ Writes → HandFits g s.commit s.has_points → s.has_points ≡ true → IsSafeEnding g → KeeperFits g (writes_called s done)
+writes_fit : (g : Ground) (s : KeeperState) (done : Bool) → s.step ≡ Writes → HandFits g s.commit s.has_points s.rests → s.has_points ≡ true → IsSafeEnding g → KeeperFits g (writes_called s done)
 writes_fit g s true at hand has safe = write_fits g (record s { writes = commit_next s.writes true }) s.commit (commit_answer (commit_next s.writes true)) at hand has safe
-writes_fit g s false at hand has safe = record { hand = hand; step = tt }
+writes_fit g s false at hand has safe = record { hand = record { first = hand.first; points = hand.points; rests = λ e. cc }; step = tt }
 
-pub called_fits : (g : Ground) (shape : Shape) (p : Places) (s : KeeperState) (step : Keeping) (done : Bool) (bytes : List ℕ) → s.step ≡ step → HandFits g s.commit s.has_points → KeepingFits g s step → KeeperFits g s → KeeperFits g (keeping_called shape p s step done bytes)
+pub called_fits : (g : Ground) (shape : Shape) (p : Places) (s : KeeperState) (step : Keeping) (done : Bool) (bytes : List ℕ) → s.step ≡ step → HandFits g s.commit s.has_points s.rests → KeepingFits g s step → KeeperFits g s → KeeperFits g (keeping_called shape p s step done bytes)
 unfolding keeping_called
 called_fits g shape p s Maintains done bytes at hand fits its = maintained_fits g (record s { maintain = maintain_called shape p s.maintain done bytes }) (maintain_ask shape p (maintain_called shape p s.maintain done bytes)) at hand
 called_fits g shape p s Writes done bytes at hand fits its = writes_fit g s done at hand fits.0 fits.1
 called_fits g shape p s step done bytes at hand fits its = its
 
 -- ---- what is begun where no call is in hand
-pub turn_asked_fits : (g : Ground) (s : KeeperState) → HandFits g s.commit s.has_points → KeeperFits g (turn_asked s)
+pub turn_asked_fits : (g : Ground) (s : KeeperState) → HandFits g s.commit s.has_points s.rests → KeeperFits g (turn_asked s)
 turn_asked_fits g s hand =
-    either_fits g s.is_broken (ended s (TurnRefused fault.Broken)) (record s { maintain = maintain_begun s.maintain; is_drain_full = false; step = Maintains }) (λ yes. ended_fits g s _ hand) (λ no. record { hand = hand; step = tt })
+    either_fits g s.is_broken (ended s (TurnRefused fault.Broken)) (record s { maintain = parts_begun s.rests s.maintain; is_drain_full = false; step = Maintains }) (λ yes. ended_fits g s _ hand) (λ no. record { hand = hand; step = tt })
 
-pub commit_asked_fits : (g : Ground) (s : KeeperState) (kind : CommitKind) → HandFits g s.commit s.has_points → KeeperFits g (commit_asked s kind)
+pub commit_asked_fits : (g : Ground) (s : KeeperState) (kind : CommitKind) → HandFits g s.commit s.has_points s.rests → KeeperFits g (commit_asked s kind)
 commit_asked_fits g s kind hand =
-    either_fits g s.is_broken (ended s (CommitRefused fault.Broken)) (record s { start = start_begun s.start (asked_for s kind); step = Starts }) (λ yes. ended_fits g s _ hand) (λ no. record { hand = hand; step = tt })
+    either_fits g s.is_broken (ended s (CommitRefused fault.Broken)) (if s.rests then ended s (CommitRefused fault.CommitRunning) else record s { start = start_begun s.start (asked_for s kind); step = Starts }) (λ yes. ended_fits g s _ hand)
+    (λ no. either_fits g s.rests (ended s (CommitRefused fault.CommitRunning)) (record s { start = start_begun s.start (asked_for s kind); step = Starts }) (λ rests. ended_fits g s _ hand) (λ awake. record { hand = hand; step = tt }))
 
 pub asked_fits : (g : Ground) (s begun : KeeperState) → KeeperFits g s → KeeperFits g begun → KeeperFits g (keeper_asked s begun)
 asked_fits g s begun its next = by_hand (is_in_hand s.step)

@@ -127,11 +127,15 @@ module _ (g h : Ground) (over : IsOver g h) where
   keeping_over l s LoadsPhase knows fits = tt
   keeping_over l s Copies knows fits = tt
 
-  pub hand_over : (commit : Option Commit) (has_points : Bool) → HandFits g commit has_points → HandFits h commit has_points
-  hand_over commit has_points hand = record { first = λ c is. hand.first c is ∙ sym over.first; points = λ c is yes. ending_over c.end.0 c.epoch (hand.points c is yes) }
+  pub hand_over : (commit : Option Commit) (has_points resting : Bool) → HandFits g commit has_points resting → HandFits h commit has_points resting
+  hand_over commit has_points resting hand = record {
+    first = λ c is. hand.first c is ∙ sym over.first;
+    points = λ c is yes. ending_over c.end.0 c.epoch (hand.points c is yes);
+    rests = λ rests. let safe = hand.rests rests in (safe.0, safe_over safe.1);
+  }
 
   pub over_fits : (l : Levels) (s : KeeperState) → KeepingKnows l s s.step → KeeperFits g s → KeeperFits h s
-  over_fits l s knows its = record { hand = hand_over s.commit s.has_points its.hand; step = keeping_over l s s.step knows its.step }
+  over_fits l s knows its = record { hand = hand_over s.commit s.has_points s.rests its.hand; step = keeping_over l s s.step knows its.step }
 
 -- ---- what is replied
 raises_add : {A : Type 0} (raising : Raising) (slot : ℕ) (told : A) (its : KeeperTold) → raising ≡ raise.RaisesEpoch slot → passed (passed (passed (raise_ask raising) NoSlot) told) its ≡ Add (shared_place one.Epoch) 1

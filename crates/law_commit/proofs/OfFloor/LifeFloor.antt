@@ -152,6 +152,14 @@ finish_at stage (finishing.Ended told) is = absurd is
 finish_at stage (finishing.StoresDurable session) is = is
 finish_at stage finishing.StoresRest is = is
 
+-- no writes rest but where wait-flush is stored
+rests_none : (number : Version) (stage : Stage) (s : KeeperState) → HasInHand number stage s → (stage ≡ Flushes → ⊥) → s.rests ≡ false
+rests_none number stage s has other = by s.rests refl
+  where
+    by : (b : Bool) → s.rests ≡ b → b ≡ false
+    by true rests = absurd (other (has.rests rests))
+    by false awake = refl
+
 none_rests : (number : Version) (stage : Stage) (s : KeeperState) (found : Option Commit) → s.commit ≡ found → HasInHand number stage s → stage ≡ Rests → found ≡ None
 none_rests number stage s None is has rests = refl
 none_rests number stage s (Some c) is has rests = let stored = (has.hand c is).1 in let clash : true ≡ false = sym (ap is_resting rests) ∙ stored in cc
@@ -480,7 +488,7 @@ module _ (opening : World) (start : ℕ) (guarded : guard.IsOpened opening.now s
         let low = own_way.epoch in
         let path = one_on p number stage p.raises.due p.epoch top own own number (version_after number) Flushes Rests paper.Rests from step_on (omega (arith, epoch, low)) in
         let done : KeeperFits (ground (paper.Rests ∷ own)) (keeping_next here.shape here.places here.keeper Finishes (reply_to here.words (keeper_ask here.shape here.places here.keeper)) granted) =
-        rest_fits (ground (paper.Rests ∷ own)) here.shape here.places here.keeper finishes.2.0 (reply_to here.words (keeper_ask here.shape here.places here.keeper)) granted so finishes.2.1 in
+        rest_fits (ground (paper.Rests ∷ own)) here.shape here.places here.keeper finishes.2.0 (reply_to here.words (keeper_ask here.shape here.places here.keeper)) granted so finishes.2.1 finishes.3 in
         record {
           list = paper.Rests ∷ own;
           path = way_to (paper.Rests ∷ own) (version_after number) between Rests at (version ∙ stored.version) (moves ∙ stored.moves) path;
@@ -518,7 +526,7 @@ module _ (opening : World) (start : ℕ) (guarded : guard.IsOpened opening.now s
       got None = behind.fits
       got (Some action) = given_fits (ground behind.list) here.shape here.places led led.step action refl behind.fits
 
-  module _ (granted : Bool) (led : KeeperState) (between next : Version) (at after : Stage) (behind : Behind led between at) (at_led : StepAt between at led led.step) (version : next ≡ between) (moves : after ≡ keeping_moves at led led.step)
+  module _ (granted : Bool) (led : KeeperState) (between next : Version) (at after : Stage) (behind : Behind led between at) (at_led : StepAt between at led led.step) (led_has : HasInHand between at led) (version : next ≡ between) (moves : after ≡ keeping_moves at led led.step)
       (its : there.keeper ≡ keeper_next here.shape here.places led 0 granted) (staged : IsStaged there next after) where
     abbrev q1 : Phasing
     q1 = phase_run p behind.list
@@ -552,6 +560,7 @@ module _ (opening : World) (start : ℕ) (guarded : guard.IsOpened opening.now s
         let is_after : after ≡ DefersProgress = subst (λ (x : Deferring). after ≡ defer_moves at DefersProgress x) puts.puts.is moved_defer in
         let staged_fits : FitsVersion next DefersProgress = subst (λ (x : Stage). FitsVersion next x) is_after staged.fits in
         let low_number : between.0 < last_version = subst (λ (v : Version). v.0 < last_version) version (staged_fits.lower refl) in
+        let awake : led.rests ≡ false = rests_none between at led led_has (λ flushes. let clash : Prepares ≡ Flushes = sym prepares ∙ flushes in cc) in
         let papers = subst (λ (x : Stage). Papers q1 between x) prepares behind.path.papers in
         let from = subst (λ (x : Stage). Way behind.list between x) prepares behind.path in
         let step = progress_step q1 between p.epoch q1_due low_number q1_some q1_low first papers ready.0 in
@@ -560,7 +569,7 @@ module _ (opening : World) (start : ℕ) (guarded : guard.IsOpened opening.now s
         let path = one_on p number stage p.raises.due p.epoch top own behind.list between between Prepares DefersProgress e from step (omega (arith, raised, up)) in
         let same : first ≡ (phase_run p (e ∷ behind.list)).raises.first = sym (ap (λ (r : Phasing). r.raises.first) (one_more p behind.list e) ∙ progress_first q1 first) in
         finish (e ∷ behind.list) next after (way_to (e ∷ behind.list) between next DefersProgress after version is_after path) staged
-        (settled_so (e ∷ behind.list) Starts is (start_puts_fit (ground (e ∷ behind.list)) here.shape here.places led puts.its puts.first puts.puts.its puts.puts.slot puts.puts.epoch 0 granted is puts.is puts.puts.is starts.0 same))
+        (settled_so (e ∷ behind.list) Starts is (start_puts_fit (ground (e ∷ behind.list)) here.shape here.places led puts.its puts.first puts.puts.its puts.puts.slot puts.puts.epoch 0 granted is puts.is puts.puts.is starts.0 awake same))
 
     puts_pending : led.step ≡ Enters → KeeperPuts led Enters → LifeFloored opening start (event ∷ events)
     puts_pending is puts =
@@ -585,7 +594,7 @@ module _ (opening : World) (start : ℕ) (guarded : guard.IsOpened opening.now s
         let kept = pending_raises q1 in
         let same = one_more p behind.list e in
         let over : SameAddresses q1.raises (phase_run p (e ∷ behind.list)).raises = subst (λ (r : Phasing). SameAddresses q1.raises r.raises) (sym same) kept in
-        let hand = hand_over (ground behind.list) (ground (e ∷ behind.list)) (grounds_over (e ∷ behind.list) over (step.beside.tail) (step.beside.safe) same) led.commit led.has_points behind.fits.hand in
+        let hand = hand_over (ground behind.list) (ground (e ∷ behind.list)) (grounds_over (e ∷ behind.list) over (step.beside.tail) (step.beside.safe) same) led.commit led.has_points led.rests behind.fits.hand in
         finish (e ∷ behind.list) next after (way_to (e ∷ behind.list) between next DefersPending after version is_after path) staged
         (settled_so (e ∷ behind.list) Enters is (enter_puts_fit (ground (e ∷ behind.list)) here.shape here.places led puts.puts.its puts.puts.slot puts.puts.epoch 0 granted is puts.is puts.puts.is hand))
       where
@@ -619,9 +628,10 @@ module _ (opening : World) (start : ℕ) (guarded : guard.IsOpened opening.now s
         let ending_is : (phase_run p (e ∷ behind.list)).raises.ending ≡ q1.epoch = ap (λ (r : Phasing). r.raises.ending) same ∙ does.ending in
         let end_same : (phase_run p (e ∷ behind.list)).raises.end ≡ end = ap (λ (r : Phasing). r.raises.end) same ∙ does.end_is in
         let ending : IsEnding (phase_run p (e ∷ behind.list)).raises end puts.puts.epoch = record { some = omega (arith, ending_is, some); epoch_is = ready.3 ∙ sym ending_is; end_is = sym end_same } in
-        let hand : HandFits (ground (e ∷ behind.list)) led.commit led.has_points = record {
+        let hand : HandFits (ground (e ∷ behind.list)) led.commit led.has_points led.rests = record {
           first = λ c in_hand. behind.fits.hand.first c in_hand ∙ sym first_is;
           points = λ c in_hand so. let old = behind.fits.hand.points c in_hand so in let had = old.some in let none = ready.0 in absurd (omega (arith, had, none));
+          rests = λ rests. let old = (behind.fits.hand.rests rests).1 in let had = old.0 in let none = ready.0 in absurd (omega (arith, had, none));
         } in
         finish (e ∷ behind.list) next after (way_to (e ∷ behind.list) between next Flushes after version is_after path) staged
         (settled_so (e ∷ behind.list) Seeks is (seek_puts_fit (ground (e ∷ behind.list)) here.shape here.places led puts.end puts.puts.its puts.puts.slot puts.puts.epoch 0 granted is puts.is puts.puts.is hand ending))
@@ -649,7 +659,7 @@ module _ (opening : World) (start : ℕ) (guarded : guard.IsOpened opening.now s
       let there_behind = behind its.granted onto.led onto.is_led onto.words_are onto.between onto.at onto.replied in
       elim onto.settled [
         | inl calm ↦ plain onto.led onto.between next onto.at after there_behind calm staged
-        | inr puts ↦ puts_by its.granted onto.led onto.between next onto.at after there_behind onto.keeper.step puts.version puts.moves puts.keeper staged onto.led.step refl
+        | inr puts ↦ puts_by its.granted onto.led onto.between next onto.at after there_behind onto.keeper.step onto.keeper.has puts.version puts.moves puts.keeper staged onto.led.step refl
             (keeper_puts onto.between onto.at here.shape here.places onto.led onto.led.step onto.keeper.step (ap is_put puts.asks))
       ]
 

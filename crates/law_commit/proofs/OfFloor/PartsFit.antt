@@ -1,5 +1,5 @@
 -- Each reply to a part of a commit keeps what the keeper knows of its raises.
-use Rattle.std.proofs.Common.{◌≡◌, ℕ, ◌+◌, ◌^◌, ◌<◌, ◌≤◌, ◌∷◌, [], ◌++◌, length, refl, arith, sym, subst, Bool, true, false}
+use Rattle.std.proofs.Common.{◌≡◌, ℕ, ◌+◌, ◌^◌, ◌<◌, ◌≤◌, length, refl, arith, sym, subst, Bool, true, false}
 use Rattle.std.specs.Prelude.{not, ⊤, if◌then◌else◌, nat_le, nat_lt, ◌==◌, max, Option, None}
 use Rattle.std.proofs.lemmas.Bool.Decides.{nat_tests}
 use Rattle.fkv_base.specs.Limits.{last_of}
@@ -44,7 +44,7 @@ use Rattle.law_refine.specs.Below.fkv_commit.Deferring.{DeferState, arm_ledto, a
 use Rattle.law_refine.specs.Below.fkv_commit.Entering as entering
 use Rattle.law_refine.specs.Below.fkv_commit.Entering.{EnterState, entering_next}
 use Rattle.law_refine.specs.Below.fkv_commit.Seeking as seeking
-use Rattle.law_refine.specs.Below.fkv_commit.Seeking.{SeekState, cut_met, other_met, owing_from, point_taken, with_point, points_from, seeking_ask, seeking_next, slot_led}
+use Rattle.law_refine.specs.Below.fkv_commit.Seeking.{SeekState, owing_from, point_taken, with_point, points_from, seeking_ask, seeking_next, slot_led}
 use Rattle.law_refine.specs.Below.fkv_commit.Starting as starting
 use Rattle.law_refine.specs.Below.fkv_commit.Starting.{StartState, is_lost_full, phase_found, starting_ask, starting_next}
 use Rattle.law_refine.specs.Below.fkv_commit.Waiting.{WaitState, waiting_next}

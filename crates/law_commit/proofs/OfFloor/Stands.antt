@@ -1,13 +1,13 @@
 -- So in each life the view of each live session has its floor.
-use Rattle.std.proofs.Common.{◌≡◌, ◌*◌, inr, inl, ℕ, ◌+◌, ◌<◌, ◌≤◌, ◌∙◌, List, [], ◌∷◌, refl, arith, sym, ap, subst, true, false}
-use Rattle.std.specs.Prelude.{Some, None}
+use Rattle.std.proofs.Common.{◌≡◌, ◌*◌, inr, inl, ℕ, ◌+◌, ◌<◌, ◌≤◌, ◌∙◌, List, [], ◌∷◌, refl, arith, sym, ap, subst, Bool, true, false}
+use Rattle.std.specs.Prelude.{Some, None, if◌then◌else◌}
 use Rattle.fkv_base.specs.declared.numbers.Version.{Version}
 use Rattle.law_refine.specs.Below.fkv_commit.Commit.{Commit}
 use Rattle.law_refine.specs.Below.fkv_flush.GuardWorld.{guard_run}
 use Rattle.law_refine.specs.Below.fkv_keeper.TheKeeping.{Keeping}
 use Rattle.law_refine.specs.Below.fkv_keeper.TheKeeping.TheVariants.{Ended, Starts, Maintains, LoadsPhase, Enters, Copies, Seeks, Waits, Writes, Finishes}
 use Rattle.law_refine.specs.Below.fkv_keeper.KeeperRun.{is_in_hand}
-use Rattle.law_refine.specs.Below.fkv_keeper.Keeping.{KeeperState}
+use Rattle.law_refine.specs.Below.fkv_keeper.Keeping.{KeeperState, come_to}
 use Rattle.law_refine.specs.Below.fkv_session.Sessions.{SessionState}
 use Rattle.law_refine.specs.Below.fkv_world.Opened.{HasBecome, IsOpenedWorld}
 use Rattle.law_refine.specs.Below.fkv_world.Runs.{World, run}
@@ -41,9 +41,13 @@ idle_fits : (g : Ground) (s : KeeperState) (step : Keeping) → is_in_hand step 
 idle_fits g s (Ended told) idle = tt
 idle_fits g s step idle = cc
 
-opened_fits : (g : Ground) (s : KeeperState) → is_in_hand s.step ≡ false → s.commit ≡ None → KeeperFits g s
-opened_fits g s idle none = record {
-  hand = record { first = λ c is. let clash : None ≡ Some c = sym none ∙ is in cc; points = λ c is yes. let clash : None ≡ Some c = sym none ∙ is in cc };
+opened_fits : (g : Ground) (s : KeeperState) → is_in_hand s.step ≡ false → s.commit ≡ None → s.rests ≡ false → KeeperFits g s
+opened_fits g s idle none awake = record {
+  hand = record {
+    first = λ c is. let clash : None ≡ Some c = sym none ∙ is in cc;
+    points = λ c is yes. let clash : None ≡ Some c = sym none ∙ is in cc;
+    rests = λ rests. let clash : false ≡ true = sym awake ∙ rests in cc;
+  };
   step = idle_fits g s s.step idle;
 }
 
@@ -68,7 +72,7 @@ opening_floored opening start guarded opens =
         on_paper = begins_on_paper opening shows;
         sound = begins.sound;
         papers = record { base = refl; at = refl; raised = (refl, refl, refl) };
-        fits = opened_fits _ n.keeper guarded.keeper.none_in_hand guarded.keeper.no_commit;
+        fits = opened_fits _ n.keeper guarded.keeper.none_in_hand guarded.keeper.no_commit guarded.keeper.none_rest;
         due = omega arith;
         armed = opened_armed opening start version;
       };
@@ -142,6 +146,14 @@ module _ (opening : World) (start : ℕ) (events : List Event) (number : Version
   written_end s Seeks c at fits is written = absurd written
   written_end s Waits c at fits is written = absurd written
 
+  -- where its writes rest too
+  come_end : (s : KeeperState) (c : Commit) → KeeperFits (ground_of p p.epoch) s → s.commit ≡ Some c → IsWritten (come_to s) → HasSeenEnd number c seen
+  come_end s c fits is written = by s.rests refl written
+    where
+      by : (rests : Bool) → s.rests ≡ rests → IsWritten (if rests then Writes else s.step) → HasSeenEnd number c seen
+      by true rests written = let safe = fits.hand.rests rests in seen_end c safe.1.0 safe.1.1 (fits.hand.points c is safe.0).end_is
+      by false awake written = written_end s s.step c refl fits is written
+
   sees_commit : (c : Commit) → (run opening events).now.keeper.commit ≡ Some c → SeesCommit (run opening events).now number stage c seen
   sees_commit c is =
       let hand = its.fits.hand in
@@ -154,7 +166,7 @@ module _ (opening : World) (start : ℕ) (events : List Event) (number : Version
             let ending = hand.points c is has in
             let epoch = ending.epoch_is in
             seen_end c ending.some (omega (arith, epoch, low, safe)) ending.end_is;
-        written = λ written. written_end (run opening events).now.keeper (run opening events).now.keeper.step c refl its.fits is written;
+        written = λ written. come_end (run opening events).now.keeper c its.fits is written;
       }
 
 pub floor_stands : PaperIsSound → PaperHasFloor → FloorAlwaysStands

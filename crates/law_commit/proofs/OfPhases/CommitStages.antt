@@ -1,5 +1,5 @@
 -- Each reply to a part of a commit leaves it at the stage to which it leads.
-use Rattle.std.proofs.Common.{◌≡◌, ◌⊎◌, inl, ℕ, ◌+◌, ◌<◌, ◌∙◌, List, ◌∷◌, [], ◌++◌, length, refl, arith, sym, ap, subst, Bool, true, false}
+use Rattle.std.proofs.Common.{◌≡◌, ◌⊎◌, inl, ℕ, ◌+◌, ◌<◌, ◌∙◌, List, [], length, refl, arith, sym, ap, subst, Bool, true, false}
 use Rattle.std.specs.Prelude.{not, ⊤, if◌then◌else◌, nat_le, nat_lt, ◌==◌, max}
 use Rattle.std.proofs.lemmas.Bool.Decides.{nat_tests}
 use Rattle.fkv_base.specs.Limits.{last_version, last_of}
@@ -35,7 +35,7 @@ use Rattle.law_refine.specs.Below.fkv_commit.Deferring.{DeferState, defer_begun,
 use Rattle.law_refine.specs.Below.fkv_commit.Entering as entering
 use Rattle.law_refine.specs.Below.fkv_commit.Entering.{EnterState, entering_next}
 use Rattle.law_refine.specs.Below.fkv_commit.Seeking as seeking
-use Rattle.law_refine.specs.Below.fkv_commit.Seeking.{SeekState, owing_from, points_from, point_taken, with_point, slot_led, cut_met, other_met, seeking_next}
+use Rattle.law_refine.specs.Below.fkv_commit.Seeking.{SeekState, owing_from, points_from, point_taken, with_point, slot_led, seeking_next}
 use Rattle.law_refine.specs.Below.fkv_commit.Cuts.{is_cut_of, serial_said}
 use Rattle.law_refine.specs.Below.fkv_commit.Starting as starting
 use Rattle.law_refine.proofs.Below.fkv_commit.Shown.{last_low}

@@ -8,7 +8,7 @@ use Rattle.fkv_epoch.specs.EpochWorld as epochs
 use Rattle.fkv_epoch.specs.EpochWorld.{EpochMachine, EpochPast, Loads, Sight, epoch_of, in_force_by, is_at_rest, loaded, past_moved, past_seen, sight_of, with_load}
 use Rattle.law_refine.specs.Below.fkv_flush.GuardCalm.{AreOther, IsOther}
 use Rattle.law_refine.specs.Below.fkv_flush.GuardPhase.{PhaseTails, tail_loaded, tail_taken_up, tails_after, tails_in_force, tails_moved, tails_seen, with_tail}
-use Rattle.law_refine.specs.Below.fkv_flush.GuardWorld.{Actor, Begins, Calls, Changes, CallsElse, GuardEvent, GuardWorld, Moves, Publishes, RaisesFor, RaisesReadOnly, Reads, Resumes, Sees, Updates, Work, Shifts, Turns, drives_epochs, epoch_now, guard_happens, guard_run, is_idle, is_none, levels, machine_moved, sight_moved, shift_drives, turn_drives}
+use Rattle.law_refine.specs.Below.fkv_flush.GuardWorld.{Actor, GuardEvent, GuardWorld, Moves, Sees, Work, Shifts, Turns, drives_epochs, epoch_now, guard_happens, guard_run, is_idle, is_none, levels, machine_moved, sight_moved, shift_drives, turn_drives}
 use Rattle.law_refine.specs.Below.fkv_flush.GuardWorld as guard
 use Rattle.law_refine.specs.Below.fkv_log.TheShifting.{Shifting}
 use Rattle.law_refine.specs.Below.fkv_log.TheShifting.TheVariants as shift

@@ -75,12 +75,12 @@ use Rattle.law_refine.specs.Below.fkv_maintain.MaintainAnswer.{MaintainAnswer}
 use Rattle.law_refine.specs.Below.fkv_maintain.MaintainAnswer.TheVariants as maintain
 use Rattle.law_refine.specs.Below.fkv_maintain.TheMaintaining.{Maintaining}
 use Rattle.law_refine.specs.Below.fkv_maintain.TheMaintaining.TheVariants as maintaining
-use Rattle.law_refine.specs.Below.fkv_maintain.Maintaining.{MaintainState, claim_ledto, device_asked, flush_ledto, maintain_ask, maintain_begun, maintain_called, maintain_given, maintain_next, maintaining_ask, maintaining_called, maintaining_given, maintaining_next, scan_ledto, serve_begun, serve_ledto, shift_ledto, turn_ledto}
+use Rattle.law_refine.specs.Below.fkv_maintain.Maintaining.{MaintainState, claim_ledto, device_asked, flush_ledto, maintain_ask, maintain_called, maintain_given, maintain_next, maintaining_ask, maintaining_called, maintaining_given, maintaining_next, scan_ledto, serve_begun, serve_ledto, shift_ledto, turn_ledto}
 use Rattle.law_refine.specs.Below.fkv_keeper.KeeperTold.{KeeperTold}
 use Rattle.law_refine.specs.Below.fkv_keeper.KeeperTold.TheVariants.{TurnRefused, CommitRefused}
 use Rattle.law_refine.specs.Below.fkv_keeper.TheKeeping.{Keeping}
 use Rattle.law_refine.specs.Below.fkv_keeper.TheKeeping.TheVariants.{Ended, Starts, Maintains, LoadsPhase, Enters, Copies, Seeks, Waits, Writes, Finishes}
-use Rattle.law_refine.specs.Below.fkv_keeper.Keeping.{KeeperState, commit_asked, copies, copies_next, copy_asked, copy_driven, copy_ledto, device_passed, ended, enter_ledto, finish_ledto, finished, keeper_next, keeping_ask, keeping_called, keeping_given, keeping_next, maintain_ledto, part_begun, phase_ledto, seek_ledto, start_ledto, turn_asked, turned, wait_ledto, write_asked, write_ledto, writes_begun, writes_called, copy_taken, is_copy_resting}
+use Rattle.law_refine.specs.Below.fkv_keeper.Keeping.{KeeperState, commit_asked, copies, copies_next, copy_asked, copy_driven, copy_ledto, device_passed, ended, enter_ledto, finish_ledto, finished, keeper_next, keeping_ask, keeping_called, keeping_given, keeping_next, maintain_ledto, part_begun, phase_ledto, seek_ledto, start_ledto, turn_asked, turned, wait_ledto, write_asked, write_ledto, writes_begun, writes_called, copy_taken, is_copy_resting, must_rest, parts_begun, writes_taken_up, asked_for}
 use Rattle.law_commit.specs.Phases.Staged.{DefersAt, DefersReadOnly, EnterAt, SeekAt, Stage, StartAt, StepAt, Prepares, DefersProgress, Progresses, DefersPending, Pends, claim_hand, defer_moves, enter_moves, keeper_hand, keeping_hand, keeping_moves, maintain_hand, is_resting, phase_in, seek_moves, stage_out, stage_phase, stage_version, start_moves}
 use Rattle.law_commit.proofs.OfPhases.SessionHands.{PutsNone, claim_given_hand, claim_next_none, claim_puts, passed_puts, raise_puts, arm_puts, scan_puts, shift_puts, turn_puts}
 
@@ -225,7 +225,9 @@ part_none p s c said granted = refl
 phase_none : (p : Places) (s : KeeperState) (found : Option Commit) (said : PhaseSaid) (granted : Bool) → HasNone (phase_ledto p s found said granted)
 unfolding phase_ledto
 phase_none p s None said granted = refl
-phase_none p s (Some c) said granted = part_none p s c said granted
+phase_none p s (Some c) said granted =
+    either_none s.rests (writes_taken_up s granted) (part_begun p s c said granted)
+    (either_none granted (record s { rests = false; is_granted = true; step = Writes }) (turned (record s { is_granted = false })) refl refl) (part_none p s c said granted)
 
 entered_none : (s : KeeperState) (ask : Ask EnterAnswer) → s.step ≡ Enters → HasNone (enter_ledto s ask)
 unfolding enter_ledto
@@ -301,7 +303,7 @@ write_none : (s : KeeperState) (found : Option Commit) (answer : WriteAnswer) �
 unfolding write_ledto
 write_none s None answer at = refl
 write_none s (Some c) write.Written at = refl
-write_none s (Some c) write.Device at = stays_none s Writes at refl
+write_none s (Some c) write.Device at = either_none (must_rest s) (turned (record s { rests = true })) s refl (stays_none s Writes at refl)
 write_none s (Some c) (write.Broken why) at = stays_none s Writes at refl
 
 writes_called_none : (s : KeeperState) (done : Bool) → s.step ≡ Writes → HasNone (writes_called s done)
@@ -320,10 +322,16 @@ pub keeper_called_hand : (shape : Shape) (p : Places) (s : KeeperState) (done : 
 keeper_called_hand shape p s done bytes its is = called_hand shape p s s.step done bytes its refl is
 
 pub turn_asked_none : (s : KeeperState) → HasNone (turn_asked s)
-turn_asked_none s = either_none s.is_broken (ended s (TurnRefused fault.Broken)) (record s { maintain = maintain_begun s.maintain; is_drain_full = false; step = Maintains }) refl refl
+turn_asked_none s = either_none s.is_broken (ended s (TurnRefused fault.Broken)) (record s { maintain = parts_begun s.rests s.maintain; is_drain_full = false; step = Maintains }) refl (parts_none s.rests)
+  where
+    parts_none : (rests : Bool) → maintain_hand (parts_begun rests s.maintain) (parts_begun rests s.maintain).step ≡ None
+    parts_none true = refl
+    parts_none false = refl
 
 pub commit_asked_none : (s : KeeperState) (kind : CommitKind) → HasNone (commit_asked s kind)
-commit_asked_none s kind = either_none s.is_broken (ended s (CommitRefused fault.Broken)) (record s { start = start_begun s.start _; step = Starts }) refl refl
+commit_asked_none s kind =
+    either_none s.is_broken (ended s (CommitRefused fault.Broken)) (if s.rests then ended s (CommitRefused fault.CommitRunning) else record s { start = start_begun s.start (asked_for s kind); step = Starts }) refl
+    (either_none s.rests (ended s (CommitRefused fault.CommitRunning)) (record s { start = start_begun s.start (asked_for s kind); step = Starts }) refl refl)
 
 -- ---- what it puts
 -- the action that is out in the stage to which it leads, behind one of the same phase where none was out

@@ -51,19 +51,19 @@ use Rattle.law_refine.specs.Below.fkv_manifest.WriteAnswer.TheVariants as write
 use Rattle.law_refine.specs.Below.fkv_manifest.Committing.{commit_next, commit_answer}
 use Rattle.law_refine.specs.Below.fkv_maintain.MaintainAnswer.{MaintainAnswer}
 use Rattle.law_refine.specs.Below.fkv_maintain.MaintainAnswer.TheVariants as maintain
-use Rattle.law_refine.specs.Below.fkv_maintain.Maintaining.{maintain_begun, maintain_ask, maintain_next, maintain_given, maintain_called}
+use Rattle.law_refine.specs.Below.fkv_maintain.Maintaining.{maintain_ask, maintain_next, maintain_given, maintain_called}
 use Rattle.law_refine.specs.Below.fkv_keeper.KeeperTold.{KeeperTold}
 use Rattle.law_refine.specs.Below.fkv_keeper.KeeperTold.TheVariants.{TurnRefused, CommitRefused}
 use Rattle.law_refine.specs.Below.fkv_keeper.TheKeeping.{Keeping}
 use Rattle.law_refine.specs.Below.fkv_keeper.TheKeeping.TheVariants.{Ended, Starts, Maintains, LoadsPhase, Enters, Copies, Seeks, Waits, Writes, Finishes}
-use Rattle.law_refine.specs.Below.fkv_keeper.Keeping.{KeeperState, ended, turned, commit_asked, turn_asked, start_ledto, maintain_ledto, copies, copies_next, part_begun, phase_ledto, enter_ledto, copied, copy_ledto, points_known, seek_ledto, writes_begun, wait_ledto, finished, finish_ledto, copy_driven, keeping_next, keeper_next, keeping_given, write_ledto, writes_called, keeping_called, copy_taken, is_copy_resting, copy_told, asked_for}
+use Rattle.law_refine.specs.Below.fkv_keeper.Keeping.{KeeperState, ended, turned, commit_asked, turn_asked, start_ledto, maintain_ledto, copies, copies_next, must_rest, part_begun, parts_begun, phase_ledto, enter_ledto, copied, copy_ledto, points_known, seek_ledto, writes_begun, wait_ledto, finished, finish_ledto, copy_driven, keeping_next, keeper_next, keeping_given, write_ledto, writes_called, writes_taken_up, keeping_called, copy_taken, is_copy_resting, copy_told, asked_for}
 use Rattle.law_refine.specs.Below.fkv_keeper.KeeperRun.{is_in_hand}
 use Rattle.law_commit.specs.Phases.Staged.{FitsVersion, DefersAt, defer_moves, Stage, Rests, Prepares, DefersProgress, Progresses, DefersPending, Pends, Flushes, stage_phase, stage_version, is_resting, is_early, StartsIt, StartAt, EnterAt, SeekAt, FinishAt, StepAt, EarlyAt, HasInHand, KeeperAt, start_moves, enter_moves, seek_moves, finish_moves, keeping_moves, finish_number, keeping_number}
 use Rattle.law_commit.proofs.OfPhases.CommitStages.{StartSays, start_goes, enter_goes, SeeksAt, seek_begins, seek_goes}
 
 -- ---- where nothing but the control state changes
 ended_at : (number : Version) (stage : Stage) (s : KeeperState) (told : KeeperTold) → HasInHand number stage s → (s.has_entered ≡ false → is_early stage ≡ true) → KeeperAt number stage (ended s told)
-ended_at number stage s told has early = record { has = record { next = has.next; hand = has.hand }; early = early; step = tt }
+ended_at number stage s told has early = record { has = record { next = has.next; hand = has.hand; rests = has.rests }; early = early; step = tt }
 
 either_at : (number : Version) (stage : Stage) (c : Bool) (a b : KeeperState) → (c ≡ true → KeeperAt number stage a) → (c ≡ false → KeeperAt number stage b) → KeeperAt number stage (if c then a else b)
 either_at number stage true a b one other = one refl
@@ -109,7 +109,7 @@ started_at : (number : Version) (stage : Stage) (s : KeeperState) (ask : Ask Sta
     → StartTells number stage ask → KeeperAt number stage (start_ledto s ask)
 unfolding start_ledto
 started_at number stage s (Done (start.Begun its first)) at has early is tells = record {
-  has = record { next = has.next; hand = λ c in_hand. (ap (λ (x : Commit). x.number) (sym (some_same in_hand)) ∙ tells.0.same, behind_stored stage tells.1) };
+  has = record { next = has.next; hand = λ c in_hand. (ap (λ (x : Commit). x.number) (sym (some_same in_hand)) ∙ tells.0.same, behind_stored stage tells.1); rests = λ e. cc };
   early = λ e. behind_early stage tells.1;
   step = tt;
 }
@@ -119,7 +119,11 @@ started_at number stage s ask at has early is tells = at_step number stage s Sta
 
 -- as it goes on none is in hand
 none_stays : (number : Version) (stage after : Stage) (s : KeeperState) → is_resting stage ≡ true → HasInHand number stage s → HasInHand number after s
-none_stays number stage after s rests has = record { next = has.next; hand = λ c in_hand. let clash : true ≡ false = sym rests ∙ (has.hand c in_hand).1 in cc }
+none_stays number stage after s resting has = record {
+  next = has.next;
+  hand = λ c in_hand. let clash : true ≡ false = sym resting ∙ (has.hand c in_hand).1 in cc;
+  rests = λ rests. let clash : true ≡ false = sym resting ∙ ap is_resting (has.rests rests) in cc;
+}
 
 starts_has : (number : Version) (stage : Stage) (s : KeeperState) (step : Starting) → s.start.step ≡ step → HasInHand number stage s → StartAt number stage s.start step → HasInHand number (start_moves stage s.start step) s
 starts_has number stage s (starting.Ended told) at has is = has
@@ -130,7 +134,7 @@ starts_has number stage s (starting.LoadsTail its) at has is = has
 starts_has number stage s (starting.Defers its first) at has is = defers_has s.start.defer.step is.1
   where
     defers_has : (step : Deferring) → DefersAt (EntersPhase phase.InProgress (version_after number)) Prepares DefersProgress Progresses stage step → HasInHand number (defer_moves stage DefersProgress step) s
-    defers_has (defer.Puts other slot epoch) defers = record { next = has.next; hand = λ c in_hand. ((has.hand c in_hand).0, refl) }
+    defers_has (defer.Puts other slot epoch) defers = record { next = has.next; hand = λ c in_hand. ((has.hand c in_hand).0, refl); rests = λ rests. let clash : Prepares ≡ Flushes = sym defers.1 ∙ has.rests rests in cc }
     defers_has (defer.Ended told) defers = has
     defers_has defer.Seeks defers = has
     defers_has defer.Holds defers = has
@@ -156,9 +160,9 @@ early_moves stage s (starting.Defers its first) entered early e = by_step s.defe
 -- ---- a turn
 maintained_at : (number : Version) (stage : Stage) (s : KeeperState) (ask : Ask MaintainAnswer) → s.step ≡ Maintains → HasInHand number stage s → (s.has_entered ≡ false → is_early stage ≡ true) → KeeperAt number stage (maintain_ledto s ask)
 unfolding maintain_ledto
-maintained_at number stage s (Done maintain.Through) at has early = record { has = record { next = has.next; hand = has.hand }; early = early; step = tt }
+maintained_at number stage s (Done maintain.Through) at has early = record { has = record { next = has.next; hand = has.hand; rests = has.rests }; early = early; step = tt }
 maintained_at number stage s (Done maintain.Spent) at has early = ended_at number stage s _ has early
-maintained_at number stage s (Done maintain.Broken) at has early = record { has = record { next = has.next; hand = has.hand }; early = early; step = tt }
+maintained_at number stage s (Done maintain.Broken) at has early = record { has = record { next = has.next; hand = has.hand; rests = λ e. cc }; early = early; step = tt }
 maintained_at number stage s (Done maintain.Device) at has early = at_step number stage s Maintains at has early tt
 maintained_at number stage s ask at has early = at_step number stage s Maintains at has early tt
 
@@ -166,7 +170,7 @@ maintained_at number stage s ask at has early = at_step number stage s Maintains
 copies_at : (number : Version) (stage : Stage) (p : Places) (s : KeeperState) (granted : Bool) → HasInHand number stage s → (s.has_entered ≡ false → is_early stage ≡ true) → KeeperAt number stage (copies p s granted)
 copies_at number stage p s granted has early =
     either_at number stage (granted || is_copy_resting s.copy) (record s { copy = copy_taken p s.copy; is_granted = true; step = Copies }) (ended (record s { is_granted = false }) (TurnRefused fault.Memory))
-    (λ yes. record { has = record { next = has.next; hand = has.hand }; early = early; step = tt }) (λ no. record { has = record { next = has.next; hand = has.hand }; early = early; step = tt })
+    (λ yes. record { has = record { next = has.next; hand = has.hand; rests = has.rests }; early = early; step = tt }) (λ no. record { has = record { next = has.next; hand = has.hand; rests = has.rests }; early = early; step = tt })
 
 copies_next_at : (number : Version) (stage : Stage) (p : Places) (s : KeeperState) (c : Commit) (granted : Bool) (other : KeeperState) → HasInHand number stage s → (s.has_entered ≡ false → is_early stage ≡ true) → KeeperAt number stage other
     → KeeperAt number stage (copies_next p s c granted other)
@@ -181,27 +185,36 @@ module _ (number : Version) (p : Places) (s : KeeperState) (c : Commit) (in_hand
   enters_at stage has progresses early =
       either_at number stage s.has_entered (copies_next p s c granted (turned s)) (record s { enter = enter_begun s.enter c.number; step = Enters })
       (λ yes. copies_next_at number stage p s c granted (turned s) has early (turned_at stage has early))
-      (λ no. record { has = record { next = has.next; hand = has.hand }; early = tt; step = ((has.hand c in_hand).0, (progresses no, refl)) })
+      (λ no. record { has = record { next = has.next; hand = has.hand; rests = has.rests }; early = tt; step = ((has.hand c in_hand).0, (progresses no, refl)) })
 
-  part_at : (stage : Stage) → HasInHand number stage s → (s.has_entered ≡ false → is_early stage ≡ true) → KeeperAt number stage (part_begun p s c (Says (stage_phase stage) (stage_version number stage)) granted)
-  part_at Rests has early = turned_at Rests has early
-  part_at Prepares has early = turned_at Prepares has early
-  part_at DefersProgress has early = turned_at DefersProgress has early
-  part_at Progresses has early = enters_at Progresses has (λ no. refl) early
-  part_at DefersPending has early = enters_at DefersPending has (λ no. let clash : false ≡ true = early no in cc) early
-  part_at Pends has early =
+  part_at : (stage : Stage) → s.rests ≡ false → HasInHand number stage s → (s.has_entered ≡ false → is_early stage ≡ true) → KeeperAt number stage (part_begun p s c (Says (stage_phase stage) (stage_version number stage)) granted)
+  part_at Rests awake has early = turned_at Rests has early
+  part_at Prepares awake has early = turned_at Prepares has early
+  part_at DefersProgress awake has early = turned_at DefersProgress has early
+  part_at Progresses awake has early = enters_at Progresses has (λ no. refl) early
+  part_at DefersPending awake has early = enters_at DefersPending has (λ no. let clash : false ≡ true = early no in cc) early
+  part_at Pends awake has early =
       let begun : SeeksAt number Pends (seek_begun s.seek c.number s.last.points) = seek_begins number Pends s.seek c.number s.last.points (has.hand c in_hand).0 refl in
       copies_next_at number Pends p s c granted (record s { seek = seek_begun s.seek c.number s.last.points; has_points = false; step = Seeks }) has early
-      (record { has = record { next = has.next; hand = has.hand }; early = early; step = (begun.same, begun.at) })
-  part_at Flushes has early =
+      (record { has = record { next = has.next; hand = has.hand; rests = has.rests }; early = early; step = (begun.same, begun.at) })
+  part_at Flushes awake has early =
       either_at number Flushes s.has_points (record s { wait = wait_begun c.end c.epoch; step = Waits }) (turned s)
-      (λ yes. record { has = record { next = has.next; hand = has.hand }; early = early; step = refl }) (λ no. turned_at Flushes has early)
+      (λ yes. record { has = record { next = has.next; hand = has.hand; rests = has.rests }; early = early; step = (refl, awake) }) (λ no. turned_at Flushes has early)
+
+-- writes that rest go on, or rest still
+taken_up_at : (number : Version) (stage : Stage) (s : KeeperState) (granted : Bool) → HasInHand number stage s → (s.has_entered ≡ false → is_early stage ≡ true) → stage ≡ Flushes → KeeperAt number stage (writes_taken_up s granted)
+taken_up_at number stage s granted has early is =
+    either_at number stage granted (record s { rests = false; is_granted = true; step = Writes }) (turned (record s { is_granted = false }))
+    (λ yes. record { has = record { next = has.next; hand = has.hand; rests = λ e. cc }; early = early; step = (is, refl) })
+    (λ no. record { has = record { next = has.next; hand = has.hand; rests = has.rests }; early = early; step = tt })
 
 phase_at : (number : Version) (stage : Stage) (p : Places) (s : KeeperState) (found : Option Commit) (granted : Bool) → s.commit ≡ found → HasInHand number stage s → (s.has_entered ≡ false → is_early stage ≡ true)
     → KeeperAt number stage (phase_ledto p s found (Says (stage_phase stage) (stage_version number stage)) granted)
 unfolding phase_ledto
 phase_at number stage p s None granted at has early = ended_at number stage s _ has early
-phase_at number stage p s (Some c) granted at has early = part_at number p s c at granted stage has early
+phase_at number stage p s (Some c) granted at has early =
+    either_at number stage s.rests (writes_taken_up s granted) (part_begun p s c (Says (stage_phase stage) (stage_version number stage)) granted) (λ rests. taken_up_at number stage s granted has early (has.rests rests))
+    (λ awake. part_at number p s c at granted stage awake has early)
 
 -- ---- the parts that defer wait-pending, copy and seek
 abbrev EnterTells : Stage → Ask EnterAnswer → Type 0
@@ -229,24 +242,24 @@ progresses_early stage e = ap is_early e
 entered_at : (number : Version) (stage : Stage) (s : KeeperState) (ask : Ask EnterAnswer) → s.step ≡ Enters → HasInHand number stage s → s.enter.number ≡ number → EnterAt number stage s.enter s.enter.step → EnterTells stage ask
     → KeeperAt number stage (enter_ledto s ask)
 unfolding enter_ledto
-entered_at number stage s (Done enter.Entered) at has same is tells = record { has = record { next = has.next; hand = has.hand }; early = λ e. cc; step = tt }
-entered_at number stage s (Done enter.DrainFull) at has same is tells = record { has = record { next = has.next; hand = has.hand }; early = λ e. progresses_early stage tells; step = tt }
+entered_at number stage s (Done enter.Entered) at has same is tells = record { has = record { next = has.next; hand = has.hand; rests = has.rests }; early = λ e. cc; step = tt }
+entered_at number stage s (Done enter.DrainFull) at has same is tells = record { has = record { next = has.next; hand = has.hand; rests = has.rests }; early = λ e. progresses_early stage tells; step = tt }
 entered_at number stage s (Done enter.EpochsSpent) at has same is tells = ended_at number stage s _ has (λ e. progresses_early stage tells)
 entered_at number stage s (Done enter.Idle) at has same is tells = ended_at number stage s _ has (λ e. progresses_early stage tells)
 entered_at number stage s ask at has same is tells = at_step number stage s Enters at has tt (same, is)
 
-enters_has : (number : Version) (stage : Stage) (s : KeeperState) (step : Entering) → HasInHand number stage s → HasInHand number (enter_moves stage s.enter step) s
-enters_has number stage s (entering.Ended told) has = has
-enters_has number stage s entering.Seeks has = has
-enters_has number stage s entering.Defers has = by_step s.enter.defer.step
+enters_has : (number : Version) (stage : Stage) (s : KeeperState) (step : Entering) → HasInHand number stage s → EnterAt number stage s.enter step → HasInHand number (enter_moves stage s.enter step) s
+enters_has number stage s (entering.Ended told) has is = has
+enters_has number stage s entering.Seeks has is = has
+enters_has number stage s entering.Defers has is = by_step s.enter.defer.step is.0
   where
-    by_step : (step : Deferring) → HasInHand number (defer_moves stage DefersPending step) s
-    by_step (defer.Puts other slot epoch) = record { next = has.next; hand = λ c in_hand. ((has.hand c in_hand).0, refl) }
-    by_step (defer.Ended told) = has
-    by_step defer.Seeks = has
-    by_step defer.Holds = has
-    by_step (defer.Raises other) = has
-    by_step (defer.Arms epoch) = has
+    by_step : (step : Deferring) → DefersAt (EntersPhase phase.WaitPending (version_after number)) Progresses DefersPending Pends stage step → HasInHand number (defer_moves stage DefersPending step) s
+    by_step (defer.Puts other slot epoch) defers = record { next = has.next; hand = λ c in_hand. ((has.hand c in_hand).0, refl); rests = λ rests. let clash : Progresses ≡ Flushes = sym defers.1 ∙ has.rests rests in cc }
+    by_step (defer.Ended told) defers = has
+    by_step defer.Seeks defers = has
+    by_step defer.Holds defers = has
+    by_step (defer.Raises other) defers = has
+    by_step (defer.Arms epoch) defers = has
 
 -- a copy
 copied_hand : (number : Version) (stage : Stage) (rests : Bool) (found : Option Commit) → ((c : Commit) → found ≡ Some c → (c.number ≡ number) × (is_resting stage ≡ false)) → (c : Commit) → copied rests found ≡ Some c → (c.number ≡ number) × (is_resting stage ≡ false)
@@ -257,7 +270,7 @@ copied_hand number stage rests (Some its) hand c is =
 
 copied_at : (number : Version) (stage : Stage) (s : KeeperState) (ask : Ask (Unit {0})) → s.step ≡ Copies → HasInHand number stage s → (s.has_entered ≡ false → is_early stage ≡ true) → KeeperAt number stage (copy_ledto s ask)
 unfolding copy_ledto
-copied_at number stage s (Done its) at has early = record { has = record { next = has.next; hand = copied_hand number stage (is_copy_resting s.copy) s.commit has.hand }; early = early; step = tt }
+copied_at number stage s (Done its) at has early = record { has = record { next = has.next; hand = copied_hand number stage (is_copy_resting s.copy) s.commit has.hand; rests = has.rests }; early = early; step = tt }
 copied_at number stage s ask at has early = at_step number stage s Copies at has early tt
 
 -- the points
@@ -271,15 +284,15 @@ known_hand number stage (Some its) end epoch hand c is =
 sought_at : (number : Version) (stage : Stage) (s : KeeperState) (ask : Ask SeekAnswer) → s.step ≡ Seeks → HasInHand number stage s → (s.has_entered ≡ false → is_early stage ≡ true) → s.seek.number ≡ number
     → SeekAt number stage s.seek s.seek.step → KeeperAt number stage (seek_ledto s ask)
 unfolding seek_ledto
-sought_at number stage s (Done (seek.Taken end epoch)) at has early same is = record { has = record { next = has.next; hand = known_hand number stage s.commit end epoch has.hand }; early = early; step = tt }
-sought_at number stage s (Done seek.DrainFull) at has early same is = record { has = record { next = has.next; hand = has.hand }; early = early; step = tt }
+sought_at number stage s (Done (seek.Taken end epoch)) at has early same is = record { has = record { next = has.next; hand = known_hand number stage s.commit end epoch has.hand; rests = has.rests }; early = early; step = tt }
+sought_at number stage s (Done seek.DrainFull) at has early same is = record { has = record { next = has.next; hand = has.hand; rests = has.rests }; early = early; step = tt }
 sought_at number stage s (Done seek.EpochsSpent) at has early same is = ended_at number stage s _ has early
 sought_at number stage s (Done seek.Owing) at has early same is = ended_at number stage s _ has early
 sought_at number stage s (Done seek.Idle) at has early same is = ended_at number stage s _ has early
 sought_at number stage s ask at has early same is = at_step number stage s Seeks at has early (same, is)
 
 seeks_has : (number : Version) (stage : Stage) (s : KeeperState) (step : Seeking) → HasInHand number stage s → HasInHand number (seek_moves stage step) s
-seeks_has number stage s seeking.StoresWaitFlush has = record { next = has.next; hand = λ c in_hand. ((has.hand c in_hand).0, refl) }
+seeks_has number stage s seeking.StoresWaitFlush has = record { next = has.next; hand = λ c in_hand. ((has.hand c in_hand).0, refl); rests = λ e. refl }
 seeks_has number stage s step has = has
 
 seeks_early : (number : Version) (stage : Stage) (s : SeekState) (step : Seeking) (entered : Bool) → SeekAt number stage s step → (entered ≡ false → is_early stage ≡ true) → entered ≡ false → is_early (seek_moves stage step) ≡ true
@@ -287,12 +300,12 @@ seeks_early number stage s seeking.StoresWaitFlush entered is early e = let clas
 seeks_early number stage s step entered is early e = early e
 
 -- ---- the wait, the writes and the finish
-written_at : (number : Version) (stage : Stage) (shape : Shape) (s : KeeperState) (found : Option Commit) → HasInHand number stage s → (s.has_entered ≡ false → is_early stage ≡ true) → stage ≡ Flushes
+written_at : (number : Version) (stage : Stage) (shape : Shape) (s : KeeperState) (found : Option Commit) → HasInHand number stage s → (s.has_entered ≡ false → is_early stage ≡ true) → (stage ≡ Flushes) × (s.rests ≡ false)
     → KeeperAt number stage (writes_begun shape s found)
 written_at number stage shape s None has early is = ended_at number stage s _ has early
-written_at number stage shape s (Some c) has early is = record { has = record { next = has.next; hand = has.hand }; early = early; step = is }
+written_at number stage shape s (Some c) has early is = record { has = record { next = has.next; hand = has.hand; rests = has.rests }; early = early; step = is }
 
-waited_at : (number : Version) (stage : Stage) (shape : Shape) (s : KeeperState) (ask : Ask WaitAnswer) → s.step ≡ Waits → HasInHand number stage s → (s.has_entered ≡ false → is_early stage ≡ true) → stage ≡ Flushes
+waited_at : (number : Version) (stage : Stage) (shape : Shape) (s : KeeperState) (ask : Ask WaitAnswer) → s.step ≡ Waits → HasInHand number stage s → (s.has_entered ≡ false → is_early stage ≡ true) → (stage ≡ Flushes) × (s.rests ≡ false)
     → KeeperAt number stage (wait_ledto shape s ask)
 unfolding wait_ledto
 waited_at number stage shape s (Done wait.Flushed) at has early is = written_at number stage shape s s.commit has early is
@@ -324,25 +337,25 @@ more_durable number stage s (Done told) at has early is points asks = absurd (no
 more_durable number stage s ask at has early is points asks = at_step number stage s Finishes at has early is
 
 -- rest is stored: the commit in hand is the newest finished one
-rest_at : (number : Version) (stage : Stage) (s : KeeperState) (c : Commit) → s.commit ≡ Some c → HasInHand number stage s → number.0 < last_version → KeeperAt (version_after number) Rests (finished s (Some c))
-rest_at number stage s c in_hand has low =
+rest_at : (number : Version) (stage : Stage) (s : KeeperState) (c : Commit) → s.commit ≡ Some c → s.rests ≡ false → HasInHand number stage s → number.0 < last_version → KeeperAt (version_after number) Rests (finished s (Some c))
+rest_at number stage s c in_hand awake has low =
     let same = ap (λ (v : Version). v.0) (has.hand c in_hand).0 in
-    record { has = record { next = omega (arith, same, low); hand = λ other none. cc }; early = λ e. refl; step = tt }
+    record { has = record { next = omega (arith, same, low); hand = λ other none. cc; rests = λ rests. let clash : false ≡ true = sym awake ∙ rests in cc }; early = λ e. refl; step = tt }
 
 module _ (number : Version) (stage : Stage) (s : KeeperState) where
   finish_led : Finishing → FinishState
   finish_led step = record s.finish { step = finishing_next s.finish step }
 
-  by_finish : (step : Finishing) → s.step ≡ Finishes → HasInHand number stage s → (s.has_entered ≡ false → is_early stage ≡ true) → FitsVersion number stage → s.finish.number ≡ number → FinishAt stage step → (c : Commit) → s.commit ≡ Some c
+  by_finish : (step : Finishing) → s.step ≡ Finishes → HasInHand number stage s → (s.has_entered ≡ false → is_early stage ≡ true) → FitsVersion number stage → s.finish.number ≡ number → FinishAt stage step → (c : Commit) → s.commit ≡ Some c → s.rests ≡ false
       → KeeperAt (finish_number number step) (finish_moves stage step) (finish_ledto (record s { finish = record s.finish { step = finishing_next s.finish step } }) (finish_ask s.seek.points (record s.finish { step = finishing_next s.finish step })))
   unfolding finishing_next finishing_ask finish_ledto
-  by_finish (finishing.Ended its) at has early fits same none c in_hand = absurd none
-  by_finish (finishing.StoresDurable session) at has early fits same is c in_hand =
+  by_finish (finishing.Ended its) at has early fits same none c in_hand awake = absurd none
+  by_finish (finishing.StoresDurable session) at has early fits same is c in_hand awake =
       more_durable number stage (record s { finish = record s.finish { step = durable_from s.finish.sessions (session + 1) } }) (finish_ask s.seek.points (record s.finish { step = durable_from s.finish.sessions (session + 1) })) at
-      (record { next = has.next; hand = has.hand }) early (same, finish_stays stage (durable_from s.finish.sessions (session + 1)) is (durable_at s.finish.sessions (session + 1)), (c, in_hand)) s.seek.points refl
-  by_finish finishing.StoresRest at has early fits same is c in_hand =
+      (record { next = has.next; hand = has.hand; rests = has.rests }) early (same, finish_stays stage (durable_from s.finish.sessions (session + 1)) is (durable_at s.finish.sessions (session + 1)), (c, in_hand), awake) s.seek.points refl
+  by_finish finishing.StoresRest at has early fits same is c in_hand awake =
       let after : KeeperState = record s { finish = record s.finish { step = finishing_next s.finish finishing.StoresRest } } in
-      subst (λ (x : Option Commit). KeeperAt (version_after number) Rests (finished after x)) (sym in_hand) (rest_at number stage after c in_hand (record { next = has.next; hand = has.hand }) (fits.lower (has.hand c in_hand).1))
+      subst (λ (x : Option Commit). KeeperAt (version_after number) Rests (finished after x)) (sym in_hand) (rest_at number stage after c in_hand awake (record { next = has.next; hand = has.hand; rests = has.rests }) (fits.lower (has.hand c in_hand).1))
 
 -- ---- a reply
 -- what the phase word says as it is loaded
@@ -359,29 +372,29 @@ replied_at number stage shape p s Starts reply granted at has early is fits says
     let after : Stage = start_moves stage s.start s.start.step in
     let here = starts_has number stage s s.start.step refl has is in
     let goes = start_goes number stage s.start s.start.step reply refl is says in
-    started_at number after (record s { start = start_next s.start reply }) (start_ask (start_next s.start reply)) at (record { next = here.next; hand = here.hand }) (λ e. early_moves stage s.start s.start.step s.has_entered early e)
+    started_at number after (record s { start = start_next s.start reply }) (start_ask (start_next s.start reply)) at (record { next = here.next; hand = here.hand; rests = here.rests }) (λ e. early_moves stage s.start s.start.step s.has_entered early e)
     goes (start_tells number after (start_next s.start reply) (start_next s.start reply).step goes)
 replied_at number stage shape p s Maintains reply granted at has early is fits says =
-    maintained_at number stage (record s { maintain = maintain_next shape p s.maintain reply }) (maintain_ask shape p (maintain_next shape p s.maintain reply)) at (record { next = has.next; hand = has.hand }) early
+    maintained_at number stage (record s { maintain = maintain_next shape p s.maintain reply }) (maintain_ask shape p (maintain_next shape p s.maintain reply)) at (record { next = has.next; hand = has.hand; rests = has.rests }) early
 replied_at number stage shape p s LoadsPhase reply granted at has early is fits says =
     subst (λ (x : PhaseSaid). KeeperAt number stage (phase_ledto p s s.commit x granted)) (sym says) (phase_at number stage p s s.commit granted refl has early)
 replied_at number stage shape p s Enters reply granted at has early is fits says =
     let after : Stage = enter_moves stage s.enter s.enter.step in
-    let here = enters_has number stage s s.enter.step has in
+    let here = enters_has number stage s s.enter.step has is.1 in
     let goes = enter_goes number stage s.enter s.enter.step reply refl is.0 is.1 in
-    entered_at number after (record s { enter = enter_next s.enter reply }) (enter_ask (enter_next s.enter reply)) at (record { next = here.next; hand = here.hand }) goes.same goes.at
+    entered_at number after (record s { enter = enter_next s.enter reply }) (enter_ask (enter_next s.enter reply)) at (record { next = here.next; hand = here.hand; rests = here.rests }) goes.same goes.at
     (enter_tells number after (enter_next s.enter reply) (enter_next s.enter reply).step goes.at)
 replied_at number stage shape p s Copies reply granted at has early is fits says =
-    copied_at number stage (record s { copy = copy_driven s.copy reply }) (copy_told (copy_driven s.copy reply)) at (record { next = has.next; hand = has.hand }) early
+    copied_at number stage (record s { copy = copy_driven s.copy reply }) (copy_told (copy_driven s.copy reply)) at (record { next = has.next; hand = has.hand; rests = has.rests }) early
 replied_at number stage shape p s Seeks reply granted at has early is fits says =
     let after : Stage = seek_moves stage s.seek.step in
     let here = seeks_has number stage s s.seek.step has in
     let goes = seek_goes number stage s.seek s.seek.step reply refl is.0 is.1 in
-    sought_at number after (record s { seek = seek_next s.seek reply }) (seek_ask (seek_next s.seek reply)) at (record { next = here.next; hand = here.hand }) (λ e. seeks_early number stage s.seek s.seek.step s.has_entered is.1 early e) goes.same goes.at
+    sought_at number after (record s { seek = seek_next s.seek reply }) (seek_ask (seek_next s.seek reply)) at (record { next = here.next; hand = here.hand; rests = here.rests }) (λ e. seeks_early number stage s.seek s.seek.step s.has_entered is.1 early e) goes.same goes.at
 replied_at number stage shape p s Waits reply granted at has early is fits says =
-    waited_at number stage shape (record s { wait = wait_next s.wait reply }) (wait_ask (wait_next s.wait reply)) at (record { next = has.next; hand = has.hand }) early is
+    waited_at number stage shape (record s { wait = wait_next s.wait reply }) (wait_ask (wait_next s.wait reply)) at (record { next = has.next; hand = has.hand; rests = has.rests }) early is
 replied_at number stage shape p s Writes reply granted at has early is fits says = at_step number stage s Writes at has early is
-replied_at number stage shape p s Finishes reply granted at has early is fits says = by_finish number stage s s.finish.step at has early fits is.0 is.1 is.2.0 is.2.1
+replied_at number stage shape p s Finishes reply granted at has early is fits says = by_finish number stage s s.finish.step at has early fits is.0 is.1 is.2.0 is.2.1 is.3
 
 pub keeper_replied_at : (number : Version) (stage : Stage) (shape : Shape) (p : Places) (s : KeeperState) (reply : ℕ) (granted : Bool) → KeeperAt number stage s → FitsVersion number stage → KeeperSays number stage s s.step reply
     → KeeperAt (keeping_number number s s.step) (keeping_moves stage s s.step) (keeper_next shape p s reply granted)
@@ -392,31 +405,32 @@ given_at : (number : Version) (stage : Stage) (shape : Shape) (p : Places) (s : 
 unfolding keeping_given
 given_at number stage shape p s Maintains action at its early =
     let has = its.has in
-    maintained_at number stage (record s { maintain = maintain_given s.maintain action }) (maintain_ask shape p (maintain_given s.maintain action)) at (record { next = has.next; hand = has.hand }) early
+    maintained_at number stage (record s { maintain = maintain_given s.maintain action }) (maintain_ask shape p (maintain_given s.maintain action)) at (record { next = has.next; hand = has.hand; rests = has.rests }) early
 given_at number stage shape p s step action at its early = its
 
 pub keeper_given_at : (number : Version) (stage : Stage) (shape : Shape) (p : Places) (s : KeeperState) (action : Action) → KeeperAt number stage s → KeeperAt number stage (keeping_given shape p s s.step action)
 keeper_given_at number stage shape p s action its = given_at number stage shape p s s.step action refl its its.early
 
-write_at : (number : Version) (stage : Stage) (s : KeeperState) (found : Option Commit) (answer : WriteAnswer) → s.commit ≡ found → s.step ≡ Writes → HasInHand number stage s → (s.has_entered ≡ false → is_early stage ≡ true) → stage ≡ Flushes
+write_at : (number : Version) (stage : Stage) (s : KeeperState) (found : Option Commit) (answer : WriteAnswer) → s.commit ≡ found → s.step ≡ Writes → HasInHand number stage s → (s.has_entered ≡ false → is_early stage ≡ true) → (stage ≡ Flushes) × (s.rests ≡ false)
     → KeeperAt number stage (write_ledto s found answer)
 unfolding write_ledto
 write_at number stage s None answer in_hand at has early is = ended_at number stage s _ has early
 write_at number stage s (Some c) write.Written in_hand at has early is =
-    record { has = record { next = has.next; hand = has.hand }; early = early; step = ((has.hand c in_hand).0, finish_stays stage (durable_from s.finish.sessions 0) is (durable_at s.finish.sessions 0), (c, in_hand)) }
-write_at number stage s (Some c) write.Device in_hand at has early is = at_step number stage s Writes at has early is
+    record { has = record { next = has.next; hand = has.hand; rests = has.rests }; early = early; step = ((has.hand c in_hand).0, finish_stays stage (durable_from s.finish.sessions 0) is.0 (durable_at s.finish.sessions 0), (c, in_hand), is.1) }
+write_at number stage s (Some c) write.Device in_hand at has early is =
+    either_at number stage (must_rest s) (turned (record s { rests = true })) s (λ yes. record { has = record { next = has.next; hand = has.hand; rests = λ e. is.0 }; early = early; step = tt }) (λ no. at_step number stage s Writes at has early is)
 write_at number stage s (Some c) (write.Broken why) in_hand at has early is = at_step number stage s Writes at has early is
 
-writes_at : (number : Version) (stage : Stage) (s : KeeperState) (done : Bool) → s.step ≡ Writes → HasInHand number stage s → (s.has_entered ≡ false → is_early stage ≡ true) → stage ≡ Flushes → KeeperAt number stage (writes_called s done)
-writes_at number stage s true at has early is = write_at number stage (record s { writes = commit_next s.writes true }) s.commit (commit_answer (commit_next s.writes true)) refl at (record { next = has.next; hand = has.hand }) early is
-writes_at number stage s false at has early is = record { has = record { next = has.next; hand = has.hand }; early = early; step = tt }
+writes_at : (number : Version) (stage : Stage) (s : KeeperState) (done : Bool) → s.step ≡ Writes → HasInHand number stage s → (s.has_entered ≡ false → is_early stage ≡ true) → (stage ≡ Flushes) × (s.rests ≡ false) → KeeperAt number stage (writes_called s done)
+writes_at number stage s true at has early is = write_at number stage (record s { writes = commit_next s.writes true }) s.commit (commit_answer (commit_next s.writes true)) refl at (record { next = has.next; hand = has.hand; rests = has.rests }) early is
+writes_at number stage s false at has early is = record { has = record { next = has.next; hand = has.hand; rests = λ e. cc }; early = early; step = tt }
 
 called_at : (number : Version) (stage : Stage) (shape : Shape) (p : Places) (s : KeeperState) (step : Keeping) (done : Bool) (bytes : List ℕ) → s.step ≡ step → KeeperAt number stage s → EarlyAt stage s step → StepAt number stage s step
     → KeeperAt number stage (keeping_called shape p s step done bytes)
 unfolding keeping_called
 called_at number stage shape p s Maintains done bytes at its early is =
     let has = its.has in
-    maintained_at number stage (record s { maintain = maintain_called shape p s.maintain done bytes }) (maintain_ask shape p (maintain_called shape p s.maintain done bytes)) at (record { next = has.next; hand = has.hand }) early
+    maintained_at number stage (record s { maintain = maintain_called shape p s.maintain done bytes }) (maintain_ask shape p (maintain_called shape p s.maintain done bytes)) at (record { next = has.next; hand = has.hand; rests = has.rests }) early
 called_at number stage shape p s Writes done bytes at its early is = writes_at number stage s done at its.has early is
 called_at number stage shape p s step done bytes at its early is = its
 
@@ -432,12 +446,13 @@ pub turn_asked_at : (number : Version) (stage : Stage) (s : KeeperState) → Kee
 turn_asked_at number stage s its idle =
     let has = its.has in
     let early = idle_early stage s s.step idle its.early in
-    either_at number stage s.is_broken (ended s (TurnRefused fault.Broken)) (record s { maintain = maintain_begun s.maintain; is_drain_full = false; step = Maintains })
-    (λ yes. ended_at number stage s _ has early) (λ no. record { has = record { next = has.next; hand = has.hand }; early = early; step = tt })
+    either_at number stage s.is_broken (ended s (TurnRefused fault.Broken)) (record s { maintain = parts_begun s.rests s.maintain; is_drain_full = false; step = Maintains })
+    (λ yes. ended_at number stage s _ has early) (λ no. record { has = record { next = has.next; hand = has.hand; rests = has.rests }; early = early; step = tt })
 
 pub commit_asked_at : (number : Version) (stage : Stage) (s : KeeperState) (kind : CommitKind) → KeeperAt number stage s → is_in_hand s.step ≡ false → KeeperAt number stage (commit_asked s kind)
 commit_asked_at number stage s kind its idle =
     let has = its.has in
     let early = idle_early stage s s.step idle its.early in
-    either_at number stage s.is_broken (ended s (CommitRefused fault.Broken)) (record s { start = start_begun s.start (asked_for s kind); step = Starts })
-    (λ yes. ended_at number stage s _ has early) (λ no. record { has = record { next = has.next; hand = has.hand }; early = early; step = tt })
+    either_at number stage s.is_broken (ended s (CommitRefused fault.Broken)) (if s.rests then ended s (CommitRefused fault.CommitRunning) else record s { start = start_begun s.start (asked_for s kind); step = Starts })
+    (λ yes. ended_at number stage s _ has early)
+    (λ no. either_at number stage s.rests (ended s (CommitRefused fault.CommitRunning)) (record s { start = start_begun s.start (asked_for s kind); step = Starts }) (λ rests. ended_at number stage s _ has early) (λ awake. record { has = record { next = has.next; hand = has.hand; rests = has.rests }; early = early; step = tt }))

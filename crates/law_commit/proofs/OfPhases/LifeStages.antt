@@ -162,20 +162,20 @@ idle_keeper : (s : KeeperState) (step : Keeping) → is_in_hand step ≡ false �
 idle_keeper s (Ended told) idle = refl
 idle_keeper s step idle = cc
 
-rest_at : (number : Version) (s : KeeperState) (step : Keeping) → s.step ≡ step → is_in_hand step ≡ false → s.commit ≡ None → number.0 ≡ s.last.number.0 + 1 → KeeperAt number Rests s
-rest_at number s (Ended told) at idle none next = record {
-  has = record { next = next; hand = λ c in_hand. let clash : None ≡ Some c = sym none ∙ in_hand in cc };
+rest_at : (number : Version) (s : KeeperState) (step : Keeping) → s.step ≡ step → is_in_hand step ≡ false → s.commit ≡ None → s.rests ≡ false → number.0 ≡ s.last.number.0 + 1 → KeeperAt number Rests s
+rest_at number s (Ended told) at idle none awake next = record {
+  has = record { next = next; hand = λ c in_hand. let clash : None ≡ Some c = sym none ∙ in_hand in cc; rests = λ rests. let clash : false ≡ true = sym awake ∙ rests in cc };
   early = subst (λ x. EarlyAt Rests s x) (sym at) (λ e. refl);
   step = subst (λ x. StepAt number Rests s x) (sym at) tt;
 }
-rest_at number s step at idle none next = cc
+rest_at number s step at idle none awake next = cc
 
 pub opens_staged : (n : Now) (start : ℕ) → guard.IsOpened n start → OpensAtRest n → IsStaged n (record { 0 = n.keeper.last.number.0 + 1 }) Rests
 opens_staged n start guarded rests = record {
   fits = record { some = omega arith; low = said_low (word_at n.words 2) Rest (record { 0 = n.keeper.last.number.0 + 1 }) rests.says; lower = λ e. cc };
   word = rests.says;
   out = record { its_own = λ holder a is. none_out holder a is; once = λ one other a b is and. none_out one a is };
-  keeper = rest_at (record { 0 = n.keeper.last.number.0 + 1 }) n.keeper n.keeper.step refl guarded.keeper.none_in_hand guarded.keeper.no_commit refl;
+  keeper = rest_at (record { 0 = n.keeper.last.number.0 + 1 }) n.keeper n.keeper.step refl guarded.keeper.none_in_hand guarded.keeper.no_commit guarded.keeper.none_rest refl;
 }
   where
     by_session : (found : Option SessionState) (i : ℕ) → slice_get n.sessions i ≡ found → phase_in (hand_found found) ≡ None

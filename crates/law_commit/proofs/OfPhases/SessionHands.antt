@@ -10,7 +10,6 @@ use Rattle.fkv_epoch.specs.Leaving.{leave_next}
 use Rattle.law_refine.specs.Below.fkv_pending.PendingRequest.{PendingRequest}
 use Rattle.law_refine.specs.Below.fkv_pending.Mailing.{mail_next}
 use Rattle.law_refine.specs.Below.fkv_session.Told.{Told}
-use Rattle.law_refine.specs.Below.fkv_session.CatchCause.TheVariants.{Refreshes, Shifts}
 use Rattle.law_refine.specs.Below.fkv_session.Sitting.{Sitting}
 use Rattle.law_refine.specs.Below.fkv_session.Sitting.TheVariants.{Idle, Attempts, CatchesUp, ClearsMail, Polls, StoresOwing, Turns, StoresCut, Leaves, LoadsDurable}
 use Rattle.law_refine.specs.Below.fkv_session.OwnTurns.{own_turn_given}

@@ -26,7 +26,7 @@ use Rattle.law_refine.specs.Below.fkv_flush.GuardAsks.{writes}
 use Rattle.law_refine.specs.Below.fkv_flush.GuardCalm.{AreOther}
 use Rattle.law_refine.specs.Below.fkv_flush.GuardSeen.{LastSeen}
 use Rattle.law_refine.specs.Below.fkv_flush.GuardWorld as guard
-use Rattle.law_refine.specs.Below.fkv_flush.GuardWorld.{Actor, GuardEvent, GuardWorld, Moves, drives_epochs, guard_happens, guard_run, is_idle}
+use Rattle.law_refine.specs.Below.fkv_flush.GuardWorld.{Actor, GuardEvent, GuardWorld, Moves, guard_happens, guard_run, is_idle}
 use Rattle.law_refine.proofs.Below.fkv_flush.Shown.{Fits, FitsMachine}
 use Rattle.fkv_index.specs.declared.publishing.Publishing.{Publishing}
 use Rattle.fkv_index.specs.declared.publishing.Publishing.TheVariants.{SwapsEntry}

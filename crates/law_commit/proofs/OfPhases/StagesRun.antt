@@ -39,9 +39,9 @@ module _ (number : Version) (stage other : Stage) (not_flushes : stage ≡ Flush
     step_runs Starts is = starts is
     step_runs Enters is = (is.0, enters is.1)
     step_runs Seeks is = (is.0, seeks is.1)
-    step_runs Waits is = absurd (not_flushes is)
-    step_runs Writes is = absurd (not_flushes is)
-    step_runs Finishes is = (is.0, finish_runs s.finish.step is.1, is.2)
+    step_runs Waits is = absurd (not_flushes is.0)
+    step_runs Writes is = absurd (not_flushes is.0)
+    step_runs Finishes is = (is.0, finish_runs s.finish.step is.1, is.2, is.3)
     step_runs step is = tt
 
 -- ---- in-progress is stored
@@ -167,10 +167,10 @@ pending_early s Finishes early = early
 pub runs_on : (number : Version) (stage : Stage) (s : KeeperState) → KeeperAt number stage s → KeeperAt number (stage_run stage) s
 runs_on number DefersProgress s its =
     let has = its.has in
-    record { has = record { next = has.next; hand = λ c in_hand. ((has.hand c in_hand).0, refl) }; early = progress_early s s.step; step = step_runs number DefersProgress Progresses (λ e. cc) s (λ is. progress_starts number s.start s.start.step is) (λ is. progress_enters number s.enter s.enter.step is) (λ is. progress_seeks number s.seek s.seek.step is) s.step its.step }
+    record { has = record { next = has.next; hand = λ c in_hand. ((has.hand c in_hand).0, refl); rests = λ rests. let clash : DefersProgress ≡ Flushes = has.rests rests in cc }; early = progress_early s s.step; step = step_runs number DefersProgress Progresses (λ e. cc) s (λ is. progress_starts number s.start s.start.step is) (λ is. progress_enters number s.enter s.enter.step is) (λ is. progress_seeks number s.seek s.seek.step is) s.step its.step }
 runs_on number DefersPending s its =
     let has = its.has in
-    record { has = record { next = has.next; hand = λ c in_hand. ((has.hand c in_hand).0, refl) }; early = pending_early s s.step its.early; step = step_runs number DefersPending Pends (λ e. cc) s (λ is. pending_starts number s.start s.start.step is) (λ is. pending_enters number s.enter s.enter.step is) (λ is. pending_seeks number s.seek s.seek.step is) s.step its.step }
+    record { has = record { next = has.next; hand = λ c in_hand. ((has.hand c in_hand).0, refl); rests = λ rests. let clash : DefersPending ≡ Flushes = has.rests rests in cc }; early = pending_early s s.step its.early; step = step_runs number DefersPending Pends (λ e. cc) s (λ is. pending_starts number s.start s.start.step is) (λ is. pending_enters number s.enter s.enter.step is) (λ is. pending_seeks number s.seek s.seek.step is) s.step its.step }
 runs_on number Rests s its = its
 runs_on number Prepares s its = its
 runs_on number Progresses s its = its

@@ -22,7 +22,8 @@ use Rattle.law_refine.specs.Below.fkv_manifest.Committing.{commit_answer, commit
 use Rattle.law_refine.specs.Below.fkv_keeper.KeeperTold.TheVariants.{CommitRefused, TurnRefused}
 use Rattle.law_refine.specs.Below.fkv_keeper.TheKeeping.{Keeping}
 use Rattle.law_refine.specs.Below.fkv_keeper.TheKeeping.TheVariants.{Ended, Starts, Maintains, LoadsPhase, Enters, Copies, Seeks, Waits, Writes, Finishes}
-use Rattle.law_refine.specs.Below.fkv_keeper.Keeping.{KeeperState, commit_asked, ended, finish_ledto, finished, keeping_called, keeping_given, keeping_next, turn_asked, turned, write_ledto, writes_called}
+use Rattle.law_refine.specs.Below.fkv_keeper.Keeping.{KeeperState, commit_asked, ended, finish_ledto, finished, keeping_called, keeping_given, keeping_next, must_rest, turn_asked, turned, write_ledto, writes_called}
+use Rattle.law_refine.specs.Below.fkv_keeper.KeeperLaws.{MayRest}
 use Rattle.law_refine.specs.Below.fkv_keeper.KeeperRun.{BeginsCommit, BeginsTurn, Calls, Gets, IsOpened, KeeperEvent, Replies, begins, is_in_hand, keeper_happens, keeper_run}
 use Rattle.law_refine.specs.Below.fkv_world.OwnEvents.{keeper_events}
 use Rattle.law_refine.proofs.Below.law_world.OfKeeper.OwnRun.{of_keeper}
@@ -30,7 +31,8 @@ use Rattle.law_refine.proofs.Below.law_world.OfStanding.Runs.{happens_at}
 use Rattle.law_commit.specs.BegunCommits.{BegunCommit, begun_at_end, begun_at_gate, begun_at_writes, begun_by, commit_opened, commits_begun, with_finished, with_opening, with_sealed}
 use Rattle.law_commit.specs.HeldCommits.{AreFinished, HaveFinished}
 use Rattle.law_commit.specs.Points.{BeginsAsTaken, BegunAreAsTaken, IsAsTaken}
-use Rattle.law_commit.proofs.BegunStands.{StandsAt, run_stands, there}
+use Rattle.law_commit.proofs.BegunStands.{Stands, StandsAt, run_stands, there}
+use Rattle.law_commit.proofs.InRest.{after_rest, come_awake, rest_begun, rests_there}
 use Rattle.law_commit.proofs.LifeBegun.{opening_finished}
 use Rattle.law_commit.proofs.OfPoints.Taking.{KeeperTakes, KeepingReply, KeepingTakes, SeekReply, called_takes, commit_takes, given_takes, has_taken, opened_takes, replied_takes, turn_takes}
 
@@ -101,7 +103,7 @@ module _ (count : ℕ) where
 
   run_has : (shape : Shape) (p : Places) (opening : KeeperState) (events : List KeeperEvent) → IsOpened opening → opening.seek.sessions ≡ count → Has (keeper_run shape p opening events)
   unfolding keeper_run
-  run_has shape p opening [] opened sessions = opened_takes count Met Again Met opening opening.step refl opened.none_in_hand opened.no_commit sessions (λ session low. tt)
+  run_has shape p opening [] opened sessions = opened_takes count Met Again Met opening opening.step refl opened.none_in_hand opened.no_commit opened.none_rest sessions (λ session low. tt)
   run_has shape p opening (event ∷ before) opened sessions = event_has shape p (keeper_run shape p opening before) event (run_has shape p opening before opened sessions)
 
   run_points : (shape : Shape) (p : Places) (opening : KeeperState) (events : List KeeperEvent) → IsOpened opening → opening.seek.sessions ≡ count → HasPoints (keeper_run shape p opening events) (keeper_run shape p opening events).step
@@ -168,7 +170,11 @@ module _ (shape : Shape) (p : Places) (begun : List BegunCommit) (s : KeeperStat
   unfolding write_ledto
   write_keeps t None answer its = record { commit = its.commit; points = its.points; taken = its.taken }
   write_keeps t (Some c) write.Written its = record { commit = its.commit; points = its.points; taken = its.taken }
-  write_keeps t (Some c) write.Device its = its
+  write_keeps t (Some c) write.Device its = by (must_rest t)
+    where
+      by : (rests : Bool) → Keeps s (if rests then turned (record t { rests = true }) else t)
+      by true = record { commit = its.commit; points = its.points; taken = its.taken }
+      by false = its
   write_keeps t (Some c) (write.Broken why) its = its
 
   called_keeps : (done : Bool) → Keeps s (writes_called s done)
@@ -219,7 +225,9 @@ module _ (shape : Shape) (p : Places) (begun : List BegunCommit) (s : KeeperStat
       either_on s.is_broken refused _ (begins_on s refused begun (record { commit = refl; points = refl; taken = refl }) its) (begins_on s _ begun (record { commit = refl; points = refl; taken = refl }) its)
   ended_led (BeginsCommit kind) told its =
       let refused : KeeperState = ended s (CommitRefused fault.Broken) in
-      either_on s.is_broken refused _ (begins_on s refused begun (record { commit = refl; points = refl; taken = refl }) its) (begins_on s _ begun (record { commit = refl; points = refl; taken = refl }) its)
+      let running : KeeperState = ended s (CommitRefused fault.CommitRunning) in
+      either_on s.is_broken refused _ (begins_on s refused begun (record { commit = refl; points = refl; taken = refl }) its)
+      (either_on s.rests running _ (begins_on s running begun (record { commit = refl; points = refl; taken = refl }) its) (begins_on s _ begun (record { commit = refl; points = refl; taken = refl }) its))
   ended_led (Replies reply granted) told its = its
   ended_led (Gets action) told its = its
   ended_led (Calls done bytes) told its = its
@@ -237,6 +245,20 @@ module _ (shape : Shape) (p : Places) (begun : List BegunCommit) (s : KeeperStat
   step_on event Seeks at stands has_them its = finished_none (keeper_happens shape p s event) begun stands.finished
   step_on event Waits at stands has_them its = finished_none (keeper_happens shape p s event) begun stands.finished
 
+  -- where writes rest the commit in hand is as it was
+  rests_on : (event : KeeperEvent) → s.rests ≡ true → MayRest s.step → BeginsAsTaken s begun → Behind event s.step (keeper_happens shape p s event)
+  rests_on event rests may its =
+      let a : KeeperState = keeper_happens shape p s event in
+      let kept = (after_rest shape p s event rests may).kept in
+      subst (λ (x : List BegunCommit). BeginsAsTaken a x) (sym (rest_begun s s.step event a.step begun may)) (begins_on s a begun (record { commit = kept.commit; points = kept.points; taken = kept.taken }) its)
+
+  event_on : (event : KeeperEvent) → (s.rests ≡ true → MayRest s.step) → Stands begun s → HasPoints s s.step → BeginsAsTaken s begun → Behind event s.step (keeper_happens shape p s event)
+  event_on event may stands has_them its = by s.rests refl
+    where
+      by : (b : Bool) → s.rests ≡ b → Behind event s.step (keeper_happens shape p s event)
+      by true rests = rests_on event rests (may rests) its
+      by false none = step_on event s.step refl (subst (λ (x : Keeping). StandsAt begun s x) (come_awake s s.step none refl) stands) has_them its
+
 -- ---- at each moment of a keeper's run
 run_begins : (shape : Shape) (p : Places) (opening : KeeperState) (first : List BegunCommit) (events : List KeeperEvent) → IsOpened opening → HaveFinished first opening.last
     → BeginsAsTaken (keeper_run shape p opening events) (commits_begun shape p opening first events)
@@ -244,7 +266,8 @@ unfolding keeper_run commits_begun
 run_begins shape p opening first [] opened all = finished_none opening first all.finished
 run_begins shape p opening first (event ∷ before) opened all =
     let s : KeeperState = keeper_run shape p opening before in
-    step_on shape p (commits_begun shape p opening first before) s event s.step refl (run_stands shape p opening first before opened all) (run_points opening.seek.sessions shape p opening before opened refl) (run_begins shape p opening first before opened all)
+    event_on shape p (commits_begun shape p opening first before) s event (rests_there shape p opening before opened) (run_stands shape p opening first before opened all)
+    (run_points opening.seek.sessions shape p opening before opened refl) (run_begins shape p opening first before opened all)
 
 pub begun_as_taken : BegunAreAsTaken
 begun_as_taken opening start events opens =

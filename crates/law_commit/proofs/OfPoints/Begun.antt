@@ -1,17 +1,14 @@
 -- The points of each commit that has begun are the sessions' points of its number, for ever.
-use Rattle.std.proofs.Common.{◌≡◌, ℕ, ◌≤◌, ◌∙◌, List, [], ◌∷◌, ◌++◌, refl, arith, ap, sym}
+use Rattle.std.proofs.Common.{◌≡◌, ℕ, ◌≤◌, ◌∙◌, List, [], ◌∷◌, refl, arith, ap, sym}
 use Rattle.std.specs.Prelude.{Option, Some, None, slice_get}
 use Rattle.fkv_base.specs.declared.numbers.Serial.{Serial}
 use Rattle.law_refine.specs.Below.fkv_commit.Commit.{Commit}
 use Rattle.law_refine.specs.Below.fkv_keeper.TheKeeping.TheVariants.{Writes}
 use Rattle.law_refine.specs.Below.fkv_session.Sessions.{SessionState}
-use Rattle.law_refine.specs.Below.fkv_session.Versions.{versions_taken}
-use Rattle.law_refine.specs.Below.fkv_world.OwnEvents.{session_events}
 use Rattle.law_refine.specs.Below.fkv_world.Runs.{World, run}
 use Rattle.law_refine.specs.Below.fkv_world.World.{Event}
 use Rattle.law_refine.proofs.Below.fkv_world.Shown.{session_runs}
 use Rattle.law_commit.specs.Accepted.{point}
-use Rattle.law_commit.specs.LastSerials.{serial_at}
 use Rattle.law_commit.specs.BegunCommits.{life_begun}
 use Rattle.law_commit.specs.Decided.Ended.{Span}
 use Rattle.law_commit.specs.Floor.Stands.{PaperIsSound}

@@ -4,7 +4,7 @@ use Rattle.fkv_base.specs.declared.numbers.Serial.{Serial}
 use Rattle.fkv_base.specs.declared.numbers.Version.{Version}
 use Rattle.law_refine.specs.Below.fkv_keeper.TheKeeping.{Keeping}
 use Rattle.law_refine.specs.Below.fkv_keeper.TheKeeping.TheVariants.{Ended, Starts, Maintains, LoadsPhase, Enters, Copies, Seeks, Waits, Writes, Finishes}
-use Rattle.law_refine.specs.Below.fkv_keeper.Keeping.{Finality, KeeperState}
+use Rattle.law_refine.specs.Below.fkv_keeper.Keeping.{Finality, KeeperState, come_to}
 use Rattle.fkv_map.specs.History.{point_of}
 use Rattle.law_refine.specs.Below.fkv_world.Runs.{run}
 use Rattle.law_log.specs.Trace.{IsIn}
@@ -58,7 +58,7 @@ last_of begun s Waits its = finished_last begun s.last its
 pub last_has_points : BegunHavePoints → LastHasPoints
 last_has_points begun opening start events opens session =
     let s : KeeperState = (run opening events).now.keeper in
-    let last = last_of (life_begun opening events) s s.step (life_stands opening events opens.quiet.opened) in
+    let last = last_of (life_begun opening events) s (come_to s) (life_stands opening events opens.quiet.opened) in
     let its = begun opening start events last.commit opens last.there session in
     let is = last.its in
     let points = ap (λ (x : List Serial). point_of x session) is.points in

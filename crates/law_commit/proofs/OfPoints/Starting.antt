@@ -1,5 +1,5 @@
 -- What the keeper knows of the commit that it starts and has in hand, whatever is said of the commit's number.
-use Rattle.std.proofs.Common.{◌≡◌, inl, inr, ℕ, ◌∙◌, refl, ap, sym, subst, Bool, true, false}
+use Rattle.std.proofs.Common.{◌≡◌, ◌⊎◌, inl, inr, ℕ, ◌∙◌, refl, ap, sym, subst, Bool, true, false}
 use Rattle.std.specs.Prelude.{⊤, nat_le, if◌then◌else◌, Option, Some, None}
 use Rattle.fkv_base.specs.Limits.{last_of}
 use Rattle.fkv_base.specs.declared.faults.Fault.TheVariants as fault
@@ -32,6 +32,7 @@ use Rattle.law_refine.specs.Below.fkv_keeper.KeeperRun.{BeginsCommit, BeginsTurn
 use Rattle.law_refine.proofs.Below.fkv_keeper.Shown.{each_move}
 use Rattle.law_refine.proofs.Below.law_world.OfStanding.Runs.{happens_at}
 use Rattle.law_commit.proofs.BegunStands.{there}
+use Rattle.law_commit.proofs.InRest.{follows_or_writes}
 use Rattle.law_commit.proofs.InTurn.{not_none, some_commit}
 use Rattle.law_commit.proofs.OfPoints.Taking.{passed_end}
 
@@ -142,7 +143,8 @@ module _ (R : ℕ → Type 0) where
   unfolding keeping_next keeping_given keeping_called
   ended_led shape p s BeginsTurn told at hand = either_says s.is_broken (ended s (TurnRefused fault.Broken)) _ (record { hand = hand; step = tt }) (record { hand = hand; step = tt })
   ended_led shape p s (BeginsCommit kind) told at hand =
-      either_says s.is_broken (ended s (CommitRefused fault.Broken)) (record s { start = start_begun s.start (asked_for s kind); step = Starts }) (record { hand = hand; step = tt }) (record { hand = hand; step = tt })
+      either_says s.is_broken (ended s (CommitRefused fault.Broken)) (if s.rests then ended s (CommitRefused fault.CommitRunning) else record s { start = start_begun s.start (asked_for s kind); step = Starts }) (record { hand = hand; step = tt })
+      (either_says s.rests (ended s (CommitRefused fault.CommitRunning)) (record s { start = start_begun s.start (asked_for s kind); step = Starts }) (record { hand = hand; step = tt }) (record { hand = hand; step = tt }))
   ended_led shape p s (Replies reply granted) told at hand = stays s (Ended told) at hand tt
   ended_led shape p s (Gets action) told at hand = stays s (Ended told) at hand tt
   ended_led shape p s (Calls done bytes) told at hand = stays s (Ended told) at hand tt
@@ -198,8 +200,12 @@ module _ (R : ℕ → Type 0) where
       let move = each_move shape p s event in
       record {
         hand = hand_after s a s.commit refl (λ starts. not_start step elsewhere (sym at ∙ starts)) hand move.copies.commit;
-        step = step_after a step a.step elsewhere (subst (λ (x : Keeping). MayFollow x a.step) at move.one.follows);
+        step = by a (follows_or_writes s.rests s.step a.step move.one.steps);
       }
+    where
+      by : (a : KeeperState) → MayFollow s.step a.step ⊎ (a.step ≡ Writes) → KeepingSays a a.step
+      by a (inl follows) = step_after a step a.step elsewhere (subst (λ (x : Keeping). MayFollow x a.step) at follows)
+      by a (inr writes) = subst (λ (x : Keeping). KeepingSays a x) (sym writes) tt
 
   -- ---- each of them
   step_says : (shape : Shape) (p : Places) (s : KeeperState) (event : KeeperEvent) (step : Keeping) → s.step ≡ step → ((reply : ℕ) (granted : Bool) → event ≡ Replies reply granted → step ≡ Starts → StartReply s.start.step reply) → HandSays s.commit → KeepingSays s step

@@ -22,7 +22,6 @@ use Rattle.law_refine.specs.Below.fkv_keeper.TheKeeping.{Keeping}
 use Rattle.law_refine.specs.Below.fkv_keeper.TheKeeping.TheVariants.{Ended, Starts, Maintains, LoadsPhase, Enters, Copies, Seeks, Waits, Writes, Finishes}
 use Rattle.law_refine.specs.Below.fkv_keeper.Keeping.{KeeperState, commit_asked, keeper_ask, keeping_ask, turn_asked}
 use Rattle.fkv_map.specs.History.{point_of}
-use Rattle.law_refine.specs.Below.fkv_session.CatchingUp.{cut_at}
 use Rattle.law_refine.specs.Below.fkv_session.Sessions.{SessionState}
 use Rattle.law_refine.specs.Below.fkv_session.SessionRun.{session_run}
 use Rattle.law_refine.specs.Below.fkv_world.Moves.{keeper_gets}
@@ -413,7 +412,7 @@ module _ (live : LiveAreLater) (paper_sound : PaperIsSound) (cuts_show : CutsSho
   unfolding run
   opened_keeper =
       let said = ap rank_said opens.seen.rests.says in
-      opened_takes count (Met []) (Again []) (Point []) opening.now.keeper opening.now.keeper.step refl opens.guarded.keeper.none_in_hand opens.guarded.keeper.no_commit opens.sought
+      opened_takes count (Met []) (Again []) (Point []) opening.now.keeper opening.now.keeper.step refl opens.guarded.keeper.none_in_hand opens.guarded.keeper.no_commit opens.guarded.keeper.none_rest opens.sought
       (opened_last opening.now.keeper.last.number.0 (omega (arith, said)))
 
   life_takes : (events : List Event) → Takes events (run opening events).now.keeper

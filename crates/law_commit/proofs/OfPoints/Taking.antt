@@ -1,6 +1,6 @@
 -- What the keeper knows of the points that it takes, whatever a point is, and whatever is known of words that it has met.
 use Rattle.std.proofs.Common.{◌≡◌, ℕ, zero, suc, ◌+◌, ◌<◌, ◌≤◌, ◌∙◌, List, [], ◌∷◌, ◌++◌, length, refl, arith, sym, ap, subst, Bool, true, false}
-use Rattle.std.specs.Prelude.{⊤, nat_le, nat_lt, max, ◌==◌, if◌then◌else◌, Option, Some, None, slice_get, ◌||◌, not}
+use Rattle.std.specs.Prelude.{⊤, nat_lt, max, ◌==◌, if◌then◌else◌, Option, Some, None, slice_get, ◌||◌, not}
 use Rattle.std.proofs.lemmas.Bool.Decides.{nat_tests}
 use Rattle.fkv_base.specs.declared.commits.CommitKind.{CommitKind}
 use Rattle.fkv_base.specs.declared.faults.Fault.TheVariants as fault
@@ -44,12 +44,12 @@ use Rattle.law_refine.specs.Below.fkv_manifest.WriteAnswer.TheVariants as write
 use Rattle.law_refine.specs.Below.fkv_manifest.Committing.{commit_answer, commit_next}
 use Rattle.law_refine.specs.Below.fkv_maintain.MaintainAnswer.{MaintainAnswer}
 use Rattle.law_refine.specs.Below.fkv_maintain.MaintainAnswer.TheVariants as maintain
-use Rattle.law_refine.specs.Below.fkv_maintain.Maintaining.{maintain_ask, maintain_begun, maintain_called, maintain_given, maintain_next}
+use Rattle.law_refine.specs.Below.fkv_maintain.Maintaining.{maintain_ask, maintain_called, maintain_given, maintain_next}
 use Rattle.law_refine.specs.Below.fkv_keeper.KeeperTold.TheVariants.{CommitRefused, TurnRefused}
 use Rattle.law_refine.specs.Below.fkv_keeper.TheKeeping.{Keeping}
 use Rattle.law_refine.specs.Below.fkv_keeper.TheKeeping.TheVariants.{Ended, Starts, Maintains, LoadsPhase, Enters, Copies, Seeks, Waits, Writes, Finishes}
 use Rattle.law_refine.specs.Below.fkv_keeper.KeeperRun.{is_in_hand}
-use Rattle.law_refine.specs.Below.fkv_keeper.Keeping.{Finality, KeeperState, commit_asked, copied, copies, copies_next, copy_driven, copy_ledto, ended, enter_ledto, finish_ledto, finished, keeping_called, keeping_given, keeping_next, maintain_ledto, part_begun, phase_ledto, points_known, seek_ledto, start_ledto, turn_asked, turned, wait_ledto, write_ledto, writes_begun, writes_called, copy_taken, is_copy_resting, copy_told, asked_for}
+use Rattle.law_refine.specs.Below.fkv_keeper.Keeping.{Finality, KeeperState, commit_asked, copied, copies, copies_next, copy_driven, copy_ledto, ended, enter_ledto, finish_ledto, finished, keeping_called, keeping_given, keeping_next, maintain_ledto, must_rest, part_begun, parts_begun, phase_ledto, points_known, seek_ledto, start_ledto, turn_asked, turned, wait_ledto, write_ledto, writes_begun, writes_called, writes_taken_up, copy_taken, is_copy_resting, copy_told, asked_for}
 use Rattle.law_refine.specs.Below.fkv_world.World.{keeper_asked}
 use Rattle.law_commit.proofs.InTurn.{some_commit}
 
@@ -144,6 +144,7 @@ module _ (count : ℕ) (F : ℕ → ℕ → ℕ → Type 0) (A : ℕ → ℕ →
     pub sessions : s.seek.sessions ≡ count
     pub last : LastTaken s.last
     pub hand : HandTakes s.seek s.commit s.has_points
+    pub rests : s.rests ≡ true → s.has_points ≡ true
     pub step : KeepingTakes s s.step
 
   -- ---- as it seeks
@@ -275,12 +276,13 @@ module _ (count : ℕ) (F : ℕ → ℕ → ℕ → Type 0) (A : ℕ → ℕ →
     pub sessions : s.seek.sessions ≡ count
     pub last : LastTaken s.last
     pub hand : HandTakes s.seek s.commit s.has_points
+    pub rests : s.rests ≡ true → s.has_points ≡ true
 
   has_of : (s : KeeperState) → KeeperTakes s → Has s
-  has_of s its = record { sessions = its.sessions; last = its.last; hand = its.hand }
+  has_of s its = record { sessions = its.sessions; last = its.last; hand = its.hand; rests = its.rests }
 
   stays : (s : KeeperState) (step : Keeping) → s.step ≡ step → Has s → KeepingTakes s step → KeeperTakes s
-  stays s step at has its = record { sessions = has.sessions; last = has.last; hand = has.hand; step = subst (KeepingTakes s) (sym at) its }
+  stays s step at has its = record { sessions = has.sessions; last = has.last; hand = has.hand; rests = has.rests; step = subst (KeepingTakes s) (sym at) its }
 
   none_has : (s : SeekState) (commit : Option Commit) (has_points : Bool) → has_points ≡ false → HandTakes s commit has_points
   none_has s commit has_points none = λ c is yes. let clash : false ≡ true = sym none ∙ yes in cc
@@ -290,64 +292,71 @@ module _ (count : ℕ) (F : ℕ → ℕ → ℕ → Type 0) (A : ℕ → ℕ →
 
   start_takes : (s : KeeperState) (ask : Ask StartAnswer) → s.step ≡ Starts → Has s → KeeperTakes (start_ledto s ask)
   unfolding start_ledto
-  start_takes s (Done (started.Begun number first)) at has = record { sessions = has.sessions; last = has.last; hand = λ c is yes. cc; step = tt }
-  start_takes s (Done (started.Refused why)) at has = record { sessions = has.sessions; last = has.last; hand = has.hand; step = tt }
-  start_takes s (Done started.Idle) at has = record { sessions = has.sessions; last = has.last; hand = has.hand; step = tt }
+  start_takes s (Done (started.Begun number first)) at has = record { sessions = has.sessions; last = has.last; hand = λ c is yes. cc; rests = λ e. cc; step = tt }
+  start_takes s (Done (started.Refused why)) at has = record { sessions = has.sessions; last = has.last; hand = has.hand; rests = has.rests; step = tt }
+  start_takes s (Done started.Idle) at has = record { sessions = has.sessions; last = has.last; hand = has.hand; rests = has.rests; step = tt }
   start_takes s ask at has = stays s Starts at has tt
 
   maintain_takes : (s : KeeperState) (ask : Ask MaintainAnswer) → s.step ≡ Maintains → Has s → KeeperTakes (maintain_ledto s ask)
   unfolding maintain_ledto
-  maintain_takes s (Done maintain.Through) at has = record { sessions = has.sessions; last = has.last; hand = has.hand; step = tt }
-  maintain_takes s (Done maintain.Spent) at has = record { sessions = has.sessions; last = has.last; hand = has.hand; step = tt }
-  maintain_takes s (Done maintain.Broken) at has = record { sessions = has.sessions; last = has.last; hand = has.hand; step = tt }
+  maintain_takes s (Done maintain.Through) at has = record { sessions = has.sessions; last = has.last; hand = has.hand; rests = has.rests; step = tt }
+  maintain_takes s (Done maintain.Spent) at has = record { sessions = has.sessions; last = has.last; hand = has.hand; rests = has.rests; step = tt }
+  maintain_takes s (Done maintain.Broken) at has = record { sessions = has.sessions; last = has.last; hand = has.hand; rests = λ e. cc; step = tt }
   maintain_takes s (Done maintain.Device) at has = stays s Maintains at has tt
   maintain_takes s ask at has = stays s Maintains at has tt
 
   copies_take : (p : Places) (s : KeeperState) (granted : Bool) → Has s → KeeperTakes (copies p s granted)
   copies_take p s granted has =
-      either_takes (granted || is_copy_resting s.copy) (record s { copy = copy_taken p s.copy; is_granted = true; step = Copies }) (ended (record s { is_granted = false }) (TurnRefused fault.Memory)) (λ yes. record { sessions = has.sessions; last = has.last; hand = has.hand; step = tt })
-      (λ no. record { sessions = has.sessions; last = has.last; hand = has.hand; step = tt })
+      either_takes (granted || is_copy_resting s.copy) (record s { copy = copy_taken p s.copy; is_granted = true; step = Copies }) (ended (record s { is_granted = false }) (TurnRefused fault.Memory)) (λ yes. record { sessions = has.sessions; last = has.last; hand = has.hand; rests = has.rests; step = tt })
+      (λ no. record { sessions = has.sessions; last = has.last; hand = has.hand; rests = has.rests; step = tt })
 
   copies_next_take : (p : Places) (s : KeeperState) (c : Commit) (granted : Bool) (other : KeeperState) → Has s → KeeperTakes other → KeeperTakes (copies_next p s c granted other)
   copies_next_take p s c granted other has its = either_takes c.is_copied other (copies p s granted) (λ yes. its) (λ no. copies_take p s granted has)
 
   turned_takes : (s : KeeperState) → Has s → KeeperTakes (turned s)
-  turned_takes s has = record { sessions = has.sessions; last = has.last; hand = has.hand; step = tt }
+  turned_takes s has = record { sessions = has.sessions; last = has.last; hand = has.hand; rests = has.rests; step = tt }
 
-  seek_begins : (s : KeeperState) (c : Commit) → s.commit ≡ Some c → Has s → KeeperTakes (record s { seek = seek_begun s.seek c.number s.last.points; has_points = false; step = Seeks })
-  seek_begins s c is has =
+  seek_begins : (s : KeeperState) (c : Commit) → s.rests ≡ false → s.commit ≡ Some c → Has s → KeeperTakes (record s { seek = seek_begun s.seek c.number s.last.points; has_points = false; step = Seeks })
+  seek_begins s c awake is has =
       let its = owing_takes (record s.seek { number = c.number; floor = s.last.points; points = [] }) 0 has.sessions refl in
       let kept = owing_keeps (record s.seek { number = c.number; floor = s.last.points; points = [] }) 0 in
       record {
         sessions = its.sessions;
         last = has.last;
         hand = none_has (seek_begun s.seek c.number s.last.points) s.commit false refl;
+        rests = λ rests. let clash : false ≡ true = sym awake ∙ rests in cc;
         step = record { its = its; floor = kept.1; number = λ d found. kept.0 ∙ ap (λ (x : Commit). x.number) (some_commit s.commit c d is found); none = refl };
       }
 
-  part_takes : (p : Places) (s : KeeperState) (c : Commit) (said : PhaseSaid) (granted : Bool) → s.commit ≡ Some c → Has s → KeeperTakes (part_begun p s c said granted)
-  part_takes p s c (Says phase.InProgress version) granted is has =
+  part_takes : (p : Places) (s : KeeperState) (c : Commit) (said : PhaseSaid) (granted : Bool) → s.rests ≡ false → s.commit ≡ Some c → Has s → KeeperTakes (part_begun p s c said granted)
+  part_takes p s c (Says phase.InProgress version) granted awake is has =
       either_takes s.has_entered (copies_next p s c granted (turned s)) (record s { enter = enter_begun s.enter c.number; step = Enters }) (λ yes. copies_next_take p s c granted (turned s) has (turned_takes s has))
-      (λ no. record { sessions = has.sessions; last = has.last; hand = has.hand; step = tt })
-  part_takes p s c (Says phase.WaitPending version) granted is has =
-      copies_next_take p s c granted (record s { seek = seek_begun s.seek c.number s.last.points; has_points = false; step = Seeks }) has (seek_begins s c is has)
-  part_takes p s c (Says phase.WaitFlush version) granted is has =
-      either_takes s.has_points (record s { wait = wait_begun c.end c.epoch; step = Waits }) (turned s) (λ yes. record { sessions = has.sessions; last = has.last; hand = has.hand; step = yes }) (λ no. turned_takes s has)
-  part_takes p s c (Says phase.Rest version) granted is has = turned_takes s has
-  part_takes p s c (Says phase.Prepare version) granted is has = turned_takes s has
-  part_takes p s c Spoiled granted is has = turned_takes s has
+      (λ no. record { sessions = has.sessions; last = has.last; hand = has.hand; rests = has.rests; step = tt })
+  part_takes p s c (Says phase.WaitPending version) granted awake is has =
+      copies_next_take p s c granted (record s { seek = seek_begun s.seek c.number s.last.points; has_points = false; step = Seeks }) has (seek_begins s c awake is has)
+  part_takes p s c (Says phase.WaitFlush version) granted awake is has =
+      either_takes s.has_points (record s { wait = wait_begun c.end c.epoch; step = Waits }) (turned s) (λ yes. record { sessions = has.sessions; last = has.last; hand = has.hand; rests = has.rests; step = yes }) (λ no. turned_takes s has)
+  part_takes p s c (Says phase.Rest version) granted awake is has = turned_takes s has
+  part_takes p s c (Says phase.Prepare version) granted awake is has = turned_takes s has
+  part_takes p s c Spoiled granted awake is has = turned_takes s has
+
+  taken_up_takes : (s : KeeperState) (granted : Bool) → Has s → s.has_points ≡ true → KeeperTakes (writes_taken_up s granted)
+  taken_up_takes s granted has has_them =
+      either_takes granted (record s { rests = false; is_granted = true; step = Writes }) (turned (record s { is_granted = false })) (λ yes. record { sessions = has.sessions; last = has.last; hand = has.hand; rests = λ e. cc; step = has_them })
+      (λ no. record { sessions = has.sessions; last = has.last; hand = has.hand; rests = has.rests; step = tt })
 
   phase_takes : (p : Places) (s : KeeperState) (found : Option Commit) (said : PhaseSaid) (granted : Bool) → s.commit ≡ found → Has s → KeeperTakes (phase_ledto p s found said granted)
   unfolding phase_ledto
   phase_takes p s None said granted is has = turned_takes s has
-  phase_takes p s (Some c) said granted is has = part_takes p s c said granted is has
+  phase_takes p s (Some c) said granted is has =
+      either_takes s.rests (writes_taken_up s granted) (part_begun p s c said granted) (λ rests. taken_up_takes s granted has (has.rests rests)) (λ awake. part_takes p s c said granted awake is has)
 
   enter_takes : (s : KeeperState) (ask : Ask EnterAnswer) → s.step ≡ Enters → Has s → KeeperTakes (enter_ledto s ask)
   unfolding enter_ledto
-  enter_takes s (Done enter.Entered) at has = record { sessions = has.sessions; last = has.last; hand = has.hand; step = tt }
-  enter_takes s (Done enter.DrainFull) at has = record { sessions = has.sessions; last = has.last; hand = has.hand; step = tt }
-  enter_takes s (Done enter.EpochsSpent) at has = record { sessions = has.sessions; last = has.last; hand = has.hand; step = tt }
-  enter_takes s (Done enter.Idle) at has = record { sessions = has.sessions; last = has.last; hand = has.hand; step = tt }
+  enter_takes s (Done enter.Entered) at has = record { sessions = has.sessions; last = has.last; hand = has.hand; rests = has.rests; step = tt }
+  enter_takes s (Done enter.DrainFull) at has = record { sessions = has.sessions; last = has.last; hand = has.hand; rests = has.rests; step = tt }
+  enter_takes s (Done enter.EpochsSpent) at has = record { sessions = has.sessions; last = has.last; hand = has.hand; rests = has.rests; step = tt }
+  enter_takes s (Done enter.Idle) at has = record { sessions = has.sessions; last = has.last; hand = has.hand; rests = has.rests; step = tt }
   enter_takes s ask at has = stays s Enters at has tt
 
   copied_hand : (s : SeekState) (rests : Bool) (found : Option Commit) (has_points : Bool) → HandTakes s found has_points → HandTakes s (copied rests found) has_points
@@ -359,7 +368,7 @@ module _ (count : ℕ) (F : ℕ → ℕ → ℕ → Type 0) (A : ℕ → ℕ →
 
   copied_takes : (s : KeeperState) (ask : Ask (Unit {0})) → s.step ≡ Copies → Has s → KeeperTakes (copy_ledto s ask)
   unfolding copy_ledto
-  copied_takes s (Done its) at has = record { sessions = has.sessions; last = has.last; hand = copied_hand s.seek (is_copy_resting s.copy) s.commit s.has_points has.hand; step = tt }
+  copied_takes s (Done its) at has = record { sessions = has.sessions; last = has.last; hand = copied_hand s.seek (is_copy_resting s.copy) s.commit s.has_points has.hand; rests = has.rests; step = tt }
   copied_takes s ask at has = stays s Copies at has tt
 
   known_hand : (s : SeekState) (found : Option Commit) (end : Addr) (epoch : ℕ) → ((c : Commit) → found ≡ Some c → s.number ≡ c.number) → AreTaken s.number.0 s.points → length s.points ≡ count
@@ -387,28 +396,28 @@ module _ (count : ℕ) (F : ℕ → ℕ → ℕ → Type 0) (A : ℕ → ℕ →
   all_told s (seek.RaisesReadOnly to) end epoch knows is = cc
   all_told s (seek.Defers to) end epoch knows is = (let same : sought.Idle ≡ sought.Taken end epoch = passed_end (defer_ask s.defer) sought.Idle (sought.Taken end epoch) is in cc)
 
-  sought_takes : (s : KeeperState) (ask : Ask SeekAnswer) → s.step ≡ Seeks → seek_ask s.seek ≡ ask → LastTaken s.last → IsSought s.seek s.last s.commit s.has_points → KeeperTakes (seek_ledto s ask)
+  sought_takes : (s : KeeperState) (ask : Ask SeekAnswer) → s.step ≡ Seeks → seek_ask s.seek ≡ ask → LastTaken s.last → (s.rests ≡ true → s.has_points ≡ true) → IsSought s.seek s.last s.commit s.has_points → KeeperTakes (seek_ledto s ask)
   unfolding seek_ledto
-  sought_takes s (Done (sought.Taken end epoch)) at asks last its =
-      record { sessions = its.its.sessions; last = last; hand = known_hand s.seek s.commit end epoch its.number its.its.taken (all_told s.seek s.seek.step end epoch its.its.step asks); step = tt }
-  sought_takes s (Done sought.DrainFull) at asks last its = record { sessions = its.its.sessions; last = last; hand = none_has s.seek s.commit s.has_points its.none; step = tt }
-  sought_takes s (Done sought.EpochsSpent) at asks last its = record { sessions = its.its.sessions; last = last; hand = none_has s.seek s.commit s.has_points its.none; step = tt }
-  sought_takes s (Done sought.Owing) at asks last its = record { sessions = its.its.sessions; last = last; hand = none_has s.seek s.commit s.has_points its.none; step = tt }
-  sought_takes s (Done sought.Idle) at asks last its = record { sessions = its.its.sessions; last = last; hand = none_has s.seek s.commit s.has_points its.none; step = tt }
-  sought_takes s ask at asks last its = record { sessions = its.its.sessions; last = last; hand = none_has s.seek s.commit s.has_points its.none; step = subst (KeepingTakes s) (sym at) its }
+  sought_takes s (Done (sought.Taken end epoch)) at asks last rests its =
+      record { sessions = its.its.sessions; last = last; hand = known_hand s.seek s.commit end epoch its.number its.its.taken (all_told s.seek s.seek.step end epoch its.its.step asks); rests = λ e. refl; step = tt }
+  sought_takes s (Done sought.DrainFull) at asks last rests its = record { sessions = its.its.sessions; last = last; hand = none_has s.seek s.commit s.has_points its.none; rests = rests; step = tt }
+  sought_takes s (Done sought.EpochsSpent) at asks last rests its = record { sessions = its.its.sessions; last = last; hand = none_has s.seek s.commit s.has_points its.none; rests = rests; step = tt }
+  sought_takes s (Done sought.Owing) at asks last rests its = record { sessions = its.its.sessions; last = last; hand = none_has s.seek s.commit s.has_points its.none; rests = rests; step = tt }
+  sought_takes s (Done sought.Idle) at asks last rests its = record { sessions = its.its.sessions; last = last; hand = none_has s.seek s.commit s.has_points its.none; rests = rests; step = tt }
+  sought_takes s ask at asks last rests its = record { sessions = its.its.sessions; last = last; hand = none_has s.seek s.commit s.has_points its.none; rests = rests; step = subst (KeepingTakes s) (sym at) its }
 
-  seeks_take : (s : KeeperState) (reply : ℕ) → s.step ≡ Seeks → LastTaken s.last → IsSought s.seek s.last s.commit s.has_points → SeekReply s.seek s.seek.step reply
+  seeks_take : (s : KeeperState) (reply : ℕ) → s.step ≡ Seeks → LastTaken s.last → (s.rests ≡ true → s.has_points ≡ true) → IsSought s.seek s.last s.commit s.has_points → SeekReply s.seek s.seek.step reply
       → KeeperTakes (seek_ledto (record s { seek = seek_next s.seek reply }) (seek_ask (seek_next s.seek reply)))
-  seeks_take s reply at last its tells =
+  seeks_take s reply at last rests its tells =
       let kept = seek_keeps s.seek s.seek.step reply in
       let next = seek_takes s.seek s.seek.step reply refl its.its.sessions its.its.taken its.its.step tells in
-      sought_takes (record s { seek = seek_next s.seek reply }) (seek_ask (seek_next s.seek reply)) at refl last
+      sought_takes (record s { seek = seek_next s.seek reply }) (seek_ask (seek_next s.seek reply)) at refl last rests
       (record { its = next; floor = kept.1 ∙ its.floor; number = λ c is. kept.0 ∙ its.number c is; none = its.none })
 
   -- ---- what follows on points
   writes_take : (shape : Shape) (s : KeeperState) (found : Option Commit) → Has s → s.has_points ≡ true → KeeperTakes (writes_begun shape s found)
   writes_take shape s None has has_them = turned_takes s has
-  writes_take shape s (Some c) has has_them = record { sessions = has.sessions; last = has.last; hand = has.hand; step = has_them }
+  writes_take shape s (Some c) has has_them = record { sessions = has.sessions; last = has.last; hand = has.hand; rests = has.rests; step = has_them }
 
   waited_takes : (shape : Shape) (s : KeeperState) (ask : Ask WaitAnswer) → s.step ≡ Waits → Has s → s.has_points ≡ true → KeeperTakes (wait_ledto shape s ask)
   unfolding wait_ledto
@@ -421,7 +430,7 @@ module _ (count : ℕ) (F : ℕ → ℕ → ℕ → Type 0) (A : ℕ → ℕ →
   finished_takes s None in_hand has has_them = turned_takes s has
   finished_takes s (Some c) in_hand has has_them =
       let all = has.hand c in_hand has_them in
-      record { sessions = has.sessions; last = subst (λ (v : Version). (session : ℕ) → session < count → P v.0 session (floor_of s.seek.points session)) all.number (all_floors s.seek.number.0 s.seek.points all.taken all.all); hand = none_hand s.seek s.has_points; step = tt }
+      record { sessions = has.sessions; last = subst (λ (v : Version). (session : ℕ) → session < count → P v.0 session (floor_of s.seek.points session)) all.number (all_floors s.seek.number.0 s.seek.points all.taken all.all); hand = none_hand s.seek s.has_points; rests = has.rests; step = tt }
 
   finish_takes : (s : KeeperState) (ask : Ask FinishAnswer) → s.step ≡ Finishes → Has s → s.has_points ≡ true → KeeperTakes (finish_ledto s ask)
   unfolding finish_ledto
@@ -436,53 +445,54 @@ module _ (count : ℕ) (F : ℕ → ℕ → ℕ → Type 0) (A : ℕ → ℕ →
   pub replied_takes : (shape : Shape) (p : Places) (s : KeeperState) (step : Keeping) (reply : ℕ) (granted : Bool) → s.step ≡ step → Has s → KeepingTakes s step → KeepingReply s step reply → KeeperTakes (keeping_next shape p s step reply granted)
   unfolding keeping_next
   replied_takes shape p s (Ended told) reply granted at has its tells = stays s (Ended told) at has tt
-  replied_takes shape p s Starts reply granted at has its tells = start_takes (record s { start = start_next s.start reply }) (start_ask (start_next s.start reply)) at (record { sessions = has.sessions; last = has.last; hand = has.hand })
+  replied_takes shape p s Starts reply granted at has its tells = start_takes (record s { start = start_next s.start reply }) (start_ask (start_next s.start reply)) at (record { sessions = has.sessions; last = has.last; hand = has.hand; rests = has.rests })
   replied_takes shape p s Maintains reply granted at has its tells =
-      maintain_takes (record s { maintain = maintain_next shape p s.maintain reply }) (maintain_ask shape p (maintain_next shape p s.maintain reply)) at (record { sessions = has.sessions; last = has.last; hand = has.hand })
+      maintain_takes (record s { maintain = maintain_next shape p s.maintain reply }) (maintain_ask shape p (maintain_next shape p s.maintain reply)) at (record { sessions = has.sessions; last = has.last; hand = has.hand; rests = has.rests })
   replied_takes shape p s LoadsPhase reply granted at has its tells = phase_takes p s s.commit (phase_said reply) granted refl has
-  replied_takes shape p s Enters reply granted at has its tells = enter_takes (record s { enter = enter_next s.enter reply }) (enter_ask (enter_next s.enter reply)) at (record { sessions = has.sessions; last = has.last; hand = has.hand })
-  replied_takes shape p s Copies reply granted at has its tells = copied_takes (record s { copy = copy_driven s.copy reply }) (copy_told (copy_driven s.copy reply)) at (record { sessions = has.sessions; last = has.last; hand = has.hand })
-  replied_takes shape p s Seeks reply granted at has its tells = seeks_take s reply at has.last its tells
-  replied_takes shape p s Waits reply granted at has its tells = waited_takes shape (record s { wait = wait_next s.wait reply }) (wait_ask (wait_next s.wait reply)) at (record { sessions = has.sessions; last = has.last; hand = has.hand }) its
+  replied_takes shape p s Enters reply granted at has its tells = enter_takes (record s { enter = enter_next s.enter reply }) (enter_ask (enter_next s.enter reply)) at (record { sessions = has.sessions; last = has.last; hand = has.hand; rests = has.rests })
+  replied_takes shape p s Copies reply granted at has its tells = copied_takes (record s { copy = copy_driven s.copy reply }) (copy_told (copy_driven s.copy reply)) at (record { sessions = has.sessions; last = has.last; hand = has.hand; rests = has.rests })
+  replied_takes shape p s Seeks reply granted at has its tells = seeks_take s reply at has.last has.rests its tells
+  replied_takes shape p s Waits reply granted at has its tells = waited_takes shape (record s { wait = wait_next s.wait reply }) (wait_ask (wait_next s.wait reply)) at (record { sessions = has.sessions; last = has.last; hand = has.hand; rests = has.rests }) its
   replied_takes shape p s Writes reply granted at has its tells = stays s Writes at has its
   replied_takes shape p s Finishes reply granted at has its tells =
-      finish_takes (record s { finish = finish_next s.finish reply }) (finish_ask s.seek.points (finish_next s.finish reply)) at (record { sessions = has.sessions; last = has.last; hand = has.hand }) its
+      finish_takes (record s { finish = finish_next s.finish reply }) (finish_ask s.seek.points (finish_next s.finish reply)) at (record { sessions = has.sessions; last = has.last; hand = has.hand; rests = has.rests }) its
 
   -- an action is taken, and the device is called
   pub given_takes : (shape : Shape) (p : Places) (s : KeeperState) (step : Keeping) (action : Action) → s.step ≡ step → KeeperTakes s → KeeperTakes (keeping_given shape p s step action)
   unfolding keeping_given
   given_takes shape p s Maintains action at its =
-      maintain_takes (record s { maintain = maintain_given s.maintain action }) (maintain_ask shape p (maintain_given s.maintain action)) at (record { sessions = its.sessions; last = its.last; hand = its.hand })
+      maintain_takes (record s { maintain = maintain_given s.maintain action }) (maintain_ask shape p (maintain_given s.maintain action)) at (record { sessions = its.sessions; last = its.last; hand = its.hand; rests = its.rests })
   given_takes shape p s step action at its = its
 
   write_takes : (s : KeeperState) (found : Option Commit) (answer : WriteAnswer) → s.step ≡ Writes → Has s → s.has_points ≡ true → KeeperTakes (write_ledto s found answer)
   unfolding write_ledto
   write_takes s None answer at has has_them = turned_takes s has
-  write_takes s (Some c) write.Written at has has_them = record { sessions = has.sessions; last = has.last; hand = has.hand; step = has_them }
-  write_takes s (Some c) write.Device at has has_them = stays s Writes at has has_them
+  write_takes s (Some c) write.Written at has has_them = record { sessions = has.sessions; last = has.last; hand = has.hand; rests = has.rests; step = has_them }
+  write_takes s (Some c) write.Device at has has_them =
+      either_takes (must_rest s) (turned (record s { rests = true })) s (λ yes. record { sessions = has.sessions; last = has.last; hand = has.hand; rests = λ e. has_them; step = tt }) (λ no. stays s Writes at has has_them)
   write_takes s (Some c) (write.Broken why) at has has_them = stays s Writes at has has_them
 
   called_writes : (s : KeeperState) (done : Bool) → s.step ≡ Writes → Has s → s.has_points ≡ true → KeeperTakes (writes_called s done)
-  called_writes s true at has has_them = write_takes (record s { writes = commit_next s.writes true }) s.commit (commit_answer (commit_next s.writes true)) at (record { sessions = has.sessions; last = has.last; hand = has.hand }) has_them
-  called_writes s false at has has_them = record { sessions = has.sessions; last = has.last; hand = has.hand; step = tt }
+  called_writes s true at has has_them = write_takes (record s { writes = commit_next s.writes true }) s.commit (commit_answer (commit_next s.writes true)) at (record { sessions = has.sessions; last = has.last; hand = has.hand; rests = has.rests }) has_them
+  called_writes s false at has has_them = record { sessions = has.sessions; last = has.last; hand = has.hand; rests = λ e. cc; step = tt }
 
   pub called_takes : (shape : Shape) (p : Places) (s : KeeperState) (step : Keeping) (done : Bool) (bytes : List ℕ) → s.step ≡ step → KeeperTakes s → KeeperTakes (keeping_called shape p s step done bytes)
   unfolding keeping_called
   called_takes shape p s Maintains done bytes at its =
-      maintain_takes (record s { maintain = maintain_called shape p s.maintain done bytes }) (maintain_ask shape p (maintain_called shape p s.maintain done bytes)) at (record { sessions = its.sessions; last = its.last; hand = its.hand })
+      maintain_takes (record s { maintain = maintain_called shape p s.maintain done bytes }) (maintain_ask shape p (maintain_called shape p s.maintain done bytes)) at (record { sessions = its.sessions; last = its.last; hand = its.hand; rests = its.rests })
   called_takes shape p s Writes done bytes at its = called_writes s done at (has_of s its) (subst (KeepingTakes s) at its.step)
   called_takes shape p s step done bytes at its = its
 
   -- what is begun where no call is in hand
   pub turn_takes : (s : KeeperState) → Has s → KeeperTakes (turn_asked s)
   turn_takes s has =
-      either_takes s.is_broken (ended s (TurnRefused fault.Broken)) (record s { maintain = maintain_begun s.maintain; is_drain_full = false; step = Maintains }) (λ broken. record { sessions = has.sessions; last = has.last; hand = has.hand; step = tt })
-      (λ works. record { sessions = has.sessions; last = has.last; hand = has.hand; step = tt })
+      either_takes s.is_broken (ended s (TurnRefused fault.Broken)) (record s { maintain = parts_begun s.rests s.maintain; is_drain_full = false; step = Maintains }) (λ broken. record { sessions = has.sessions; last = has.last; hand = has.hand; rests = has.rests; step = tt })
+      (λ works. record { sessions = has.sessions; last = has.last; hand = has.hand; rests = has.rests; step = tt })
 
   pub commit_takes : (s : KeeperState) (kind : CommitKind) → Has s → KeeperTakes (commit_asked s kind)
   commit_takes s kind has =
-      either_takes s.is_broken (ended s (CommitRefused fault.Broken)) (record s { start = start_begun s.start (asked_for s kind); step = Starts }) (λ broken. record { sessions = has.sessions; last = has.last; hand = has.hand; step = tt })
-      (λ works. record { sessions = has.sessions; last = has.last; hand = has.hand; step = tt })
+      either_takes s.is_broken (ended s (CommitRefused fault.Broken)) (if s.rests then ended s (CommitRefused fault.CommitRunning) else record s { start = start_begun s.start (asked_for s kind); step = Starts }) (λ broken. record { sessions = has.sessions; last = has.last; hand = has.hand; rests = has.rests; step = tt })
+      (λ works. either_takes s.rests (ended s (CommitRefused fault.CommitRunning)) (record s { start = start_begun s.start (asked_for s kind); step = Starts }) (λ rests. record { sessions = has.sessions; last = has.last; hand = has.hand; rests = has.rests; step = tt }) (λ awake. record { sessions = has.sessions; last = has.last; hand = has.hand; rests = has.rests; step = tt }))
 
   pub asked_takes : (s begun : KeeperState) → KeeperTakes s → KeeperTakes begun → KeeperTakes (keeper_asked s begun)
   asked_takes s begun its next = by_hand (is_in_hand s.step)
@@ -495,9 +505,10 @@ module _ (count : ℕ) (F : ℕ → ℕ → ℕ → Type 0) (A : ℕ → ℕ →
   has_taken s its = has_of s its
 
   -- as a life begins
-  pub opened_takes : (s : KeeperState) (step : Keeping) → s.step ≡ step → is_in_hand step ≡ false → s.commit ≡ None → s.seek.sessions ≡ count → LastTaken s.last → KeeperTakes s
-  opened_takes s (Ended told) at idle none sessions last = stays s (Ended told) at (record { sessions = sessions; last = last; hand = λ c is yes. let clash : None ≡ Some c = sym none ∙ is in cc }) tt
-  opened_takes s step at idle none sessions last = cc
+  pub opened_takes : (s : KeeperState) (step : Keeping) → s.step ≡ step → is_in_hand step ≡ false → s.commit ≡ None → s.rests ≡ false → s.seek.sessions ≡ count → LastTaken s.last → KeeperTakes s
+  opened_takes s (Ended told) at idle none awake sessions last =
+      stays s (Ended told) at (record { sessions = sessions; last = last; hand = λ c is yes. let clash : None ≡ Some c = sym none ∙ is in cc; rests = λ rests. let clash : false ≡ true = sym awake ∙ rests in cc }) tt
+  opened_takes s step at idle none awake sessions last = cc
 
 -- ---- what is known goes on
 module _ (count : ℕ) (F G : ℕ → ℕ → ℕ → Type 0) (A B : ℕ → ℕ → Type 0) (P Q : ℕ → ℕ → ℕ → Type 0) (met : (version session word : ℕ) → F version session word → G version session word)
@@ -540,5 +551,6 @@ module _ (count : ℕ) (F G : ℕ → ℕ → ℕ → Type 0) (A B : ℕ → ℕ
     sessions = its.sessions;
     last = λ session low. point s.last.number.0 session (floor_of s.last.points session) (its.last session low);
     hand = λ c is yes. let all = its.hand c is yes in record { number = all.number; taken = λ session it got. point s.seek.number.0 session it.0 (all.taken session it got); all = all.all };
+    rests = its.rests;
     step = keeping_on s s.step its.step;
   }

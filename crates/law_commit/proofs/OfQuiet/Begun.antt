@@ -23,7 +23,7 @@ higher : (number low high : ℕ) → low ≤ high → flush_rank number ≤ low 
 higher number low high up below = omega (arith, up, below)
 
 writes_flush : (number : Version) (stage : Stage) (s : KeeperState) (step : Keeping) → step ≡ Writes → StepAt number stage s step → stage ≡ Flushes
-writes_flush number stage s Writes at is = is
+writes_flush number stage s Writes at is = is.0
 writes_flush number stage s step at is = cc
 
 module _ (opening : World) (start : ℕ) (opens : OpensQuiet opening start) where

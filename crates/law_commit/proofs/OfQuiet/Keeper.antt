@@ -1,6 +1,6 @@
 -- As the keeper seeks the points of a commit, the sessions whose owing words it has read as 0 leave the commit's version, whatever that is.
-use Rattle.std.proofs.Common.{◌≡◌, ℕ, ◌+◌, ◌<◌, ◌≤◌, List, [], ◌∷◌, ◌++◌, length, refl, arith, sym, subst, Bool, true, false}
-use Rattle.std.specs.Prelude.{⊤, nat_le, nat_lt, max, ◌==◌, if◌then◌else◌, Option, Some, None, ◌||◌, not}
+use Rattle.std.proofs.Common.{◌≡◌, ℕ, ◌+◌, ◌<◌, ◌≤◌, List, [], length, refl, arith, sym, subst, Bool, true, false}
+use Rattle.std.specs.Prelude.{⊤, nat_lt, max, ◌==◌, if◌then◌else◌, Option, Some, None, ◌||◌, not}
 use Rattle.std.proofs.lemmas.Bool.Decides.{nat_tests}
 use Rattle.fkv_base.specs.declared.commits.CommitKind.{CommitKind}
 use Rattle.fkv_base.specs.declared.faults.Fault.TheVariants as fault
@@ -40,12 +40,12 @@ use Rattle.law_refine.specs.Below.fkv_manifest.WriteAnswer.TheVariants as write
 use Rattle.law_refine.specs.Below.fkv_manifest.Committing.{commit_answer, commit_next}
 use Rattle.law_refine.specs.Below.fkv_maintain.MaintainAnswer.{MaintainAnswer}
 use Rattle.law_refine.specs.Below.fkv_maintain.MaintainAnswer.TheVariants as maintain
-use Rattle.law_refine.specs.Below.fkv_maintain.Maintaining.{maintain_ask, maintain_begun, maintain_called, maintain_given, maintain_next}
+use Rattle.law_refine.specs.Below.fkv_maintain.Maintaining.{maintain_ask, maintain_called, maintain_given, maintain_next}
 use Rattle.law_refine.specs.Below.fkv_keeper.KeeperTold.TheVariants.{CommitRefused, TurnRefused}
 use Rattle.law_refine.specs.Below.fkv_keeper.TheKeeping.{Keeping}
 use Rattle.law_refine.specs.Below.fkv_keeper.TheKeeping.TheVariants.{Ended, Starts, Maintains, LoadsPhase, Enters, Copies, Seeks, Waits, Writes, Finishes}
 use Rattle.law_refine.specs.Below.fkv_keeper.KeeperRun.{is_in_hand}
-use Rattle.law_refine.specs.Below.fkv_keeper.Keeping.{KeeperState, commit_asked, copies, copies_next, copy_driven, copy_ledto, ended, enter_ledto, finish_ledto, finished, keeping_called, keeping_given, keeping_next, maintain_ledto, part_begun, phase_ledto, seek_ledto, start_ledto, turn_asked, turned, wait_ledto, write_ledto, writes_begun, writes_called, copy_taken, is_copy_resting, copy_told, asked_for}
+use Rattle.law_refine.specs.Below.fkv_keeper.Keeping.{KeeperState, commit_asked, copies, copies_next, copy_driven, copy_ledto, ended, enter_ledto, finish_ledto, finished, keeping_called, keeping_given, keeping_next, maintain_ledto, part_begun, phase_ledto, seek_ledto, start_ledto, turn_asked, turned, wait_ledto, write_ledto, writes_begun, writes_called, copy_taken, is_copy_resting, copy_told, asked_for, must_rest, parts_begun, writes_taken_up}
 use Rattle.law_refine.specs.Below.fkv_world.World.{keeper_asked}
 
 module _ (N : ℕ → ℕ → Type 0) (count : ℕ) where
@@ -191,7 +191,9 @@ module _ (N : ℕ → ℕ → Type 0) (count : ℕ) where
   phase_knows : (p : Places) (s : KeeperState) (found : Option Commit) (said : PhaseSaid) (granted : Bool) → HasSessions s → KeeperKnows (phase_ledto p s found said granted)
   unfolding phase_ledto
   phase_knows p s None said granted sessions = turned_knows s sessions
-  phase_knows p s (Some c) said granted sessions = part_knows p s c said granted sessions
+  phase_knows p s (Some c) said granted sessions =
+      either_knows s.rests (writes_taken_up s granted) (part_begun p s c said granted)
+      (either_knows granted (record s { rests = false; is_granted = true; step = Writes }) (turned (record s { is_granted = false })) (record { sessions = sessions; step = tt }) (record { sessions = sessions; step = tt })) (part_knows p s c said granted sessions)
 
   enter_knows : (s : KeeperState) (ask : Ask EnterAnswer) → s.step ≡ Enters → HasSessions s → KeeperKnows (enter_ledto s ask)
   unfolding enter_ledto
@@ -261,7 +263,7 @@ module _ (N : ℕ → ℕ → Type 0) (count : ℕ) where
   unfolding write_ledto
   write_knows s None answer at sessions = turned_knows s sessions
   write_knows s (Some c) write.Written at sessions = record { sessions = sessions; step = tt }
-  write_knows s (Some c) write.Device at sessions = calm s Writes at sessions tt
+  write_knows s (Some c) write.Device at sessions = either_knows (must_rest s) (turned (record s { rests = true })) s (record { sessions = sessions; step = tt }) (calm s Writes at sessions tt)
   write_knows s (Some c) (write.Broken why) at sessions = calm s Writes at sessions tt
 
   writes_know : (s : KeeperState) (done : Bool) → s.step ≡ Writes → HasSessions s → KeeperKnows (writes_called s done)
@@ -277,11 +279,12 @@ module _ (N : ℕ → ℕ → Type 0) (count : ℕ) where
   -- what is begun where no call is in hand
   pub turn_knows : (s : KeeperState) → HasSessions s → KeeperKnows (turn_asked s)
   turn_knows s sessions =
-      either_knows s.is_broken (ended s (TurnRefused fault.Broken)) (record s { maintain = maintain_begun s.maintain; is_drain_full = false; step = Maintains }) (record { sessions = sessions; step = tt }) (record { sessions = sessions; step = tt })
+      either_knows s.is_broken (ended s (TurnRefused fault.Broken)) (record s { maintain = parts_begun s.rests s.maintain; is_drain_full = false; step = Maintains }) (record { sessions = sessions; step = tt }) (record { sessions = sessions; step = tt })
 
   pub commit_knows : (s : KeeperState) (kind : CommitKind) → HasSessions s → KeeperKnows (commit_asked s kind)
   commit_knows s kind sessions =
-      either_knows s.is_broken (ended s (CommitRefused fault.Broken)) (record s { start = start_begun s.start (asked_for s kind); step = Starts }) (record { sessions = sessions; step = tt }) (record { sessions = sessions; step = tt })
+      either_knows s.is_broken (ended s (CommitRefused fault.Broken)) (if s.rests then ended s (CommitRefused fault.CommitRunning) else record s { start = start_begun s.start (asked_for s kind); step = Starts }) (record { sessions = sessions; step = tt })
+      (either_knows s.rests (ended s (CommitRefused fault.CommitRunning)) (record s { start = start_begun s.start (asked_for s kind); step = Starts }) (record { sessions = sessions; step = tt }) (record { sessions = sessions; step = tt }))
 
   pub asked_knows : (s begun : KeeperState) → KeeperKnows s → KeeperKnows begun → KeeperKnows (keeper_asked s begun)
   asked_knows s begun its next = by_hand (is_in_hand s.step)

@@ -24,7 +24,8 @@ use Rattle.law_commit.specs.Laws.Cuts.{DurableWordsShowPoints}
 use Rattle.law_commit.specs.Points.{BegunHavePoints, LastHasPoints, OpensPointed}
 use Rattle.law_commit.specs.ToldDurable.{NoneFalls, ToldNeverFalls}
 use Rattle.law_commit.specs.ToldPoints.{ToldPoint, points_told}
-use Rattle.law_commit.proofs.LifeBegun.{life_stands}
+use Rattle.law_commit.proofs.InRest.{awake_so, come_awake}
+use Rattle.law_commit.proofs.LifeBegun.{life_rests, life_stands}
 use Rattle.law_commit.proofs.OfCuts.Durables.{durable_left}
 use Rattle.law_commit.proofs.OfPhases.LifeStages.{life_staged}
 use Rattle.law_commit.proofs.OfPoints.Rises.{rises_by_version}
@@ -48,14 +49,11 @@ module _ (durable : DurableWordsShowPoints) (have : BegunHavePoints) (last_have 
     abbrev begun : List BegunCommit
     begun = life_begun opening before
 
-    in_hand : (step : Keeping) → s.step ≡ step → step ≡ Finishes → AtKeeping begun s step → IsInHand begun s true
-    in_hand Finishes at is its = its
-    in_hand step at is its = cc
-
     -- the point of the commit that finishes is no less than that of the one before
     point_rises : s.step ≡ Finishes → point_of s.last.points session ≤ point_of s.seek.points session
     point_rises finishes =
-        let hand = in_hand s.step refl finishes (life_stands opening before opens.quiet.opened) in
+        let awake = awake_so s Finishes finishes (λ may. may) (life_rests opening before opens.quiet.opened) in
+        let hand : IsInHand begun s true = subst (λ (x : Keeping). AtKeeping begun s x) (come_awake s Finishes awake finishes) (life_stands opening before opens.quiet.opened) in
         let lived = life_staged opening start before opens.quiet.guarded opens.quiet.opened opens.quiet.seen.rests in
         let next = lived.staged.keeper.has.next in
         let same = ap (λ (v : Version). v.0) (lived.staged.keeper.has.hand hand.commit hand.in_hand).0 in

@@ -16,7 +16,7 @@ use Rattle.law_refine.specs.Below.fkv_manifest.TheGating.TheVariants.{Opens, Syn
 use Rattle.law_refine.specs.Below.fkv_keeper.KeeperTold.TheVariants.{Turned}
 use Rattle.law_refine.specs.Below.fkv_keeper.TheKeeping.{Keeping}
 use Rattle.law_refine.specs.Below.fkv_keeper.TheKeeping.TheVariants.{Ended, Starts, Maintains, LoadsPhase, Enters, Copies, Seeks, Waits, Writes, Finishes}
-use Rattle.law_refine.specs.Below.fkv_keeper.Keeping.{KeeperState}
+use Rattle.law_refine.specs.Below.fkv_keeper.Keeping.{KeeperState, come_to}
 use Rattle.law_refine.specs.Below.fkv_keeper.KeeperRun.{Calls, KeeperEvent, keeper_run}
 use Rattle.fkv_map.specs.History.{point_of}
 use Rattle.law_refine.specs.Below.fkv_world.OwnEvents.{keeper_events, keeper_part_of}
@@ -33,8 +33,9 @@ use Rattle.law_commit.specs.Laws.Pasts.{BegunAreInTurn, FinishedAreTold}
 use Rattle.law_commit.specs.Points.{BegunHavePoints, OpensPointed}
 use Rattle.law_commit.specs.ToldDurable.{TellsSealedPoints}
 use Rattle.law_commit.specs.ToldPoints.{ToldPoint, finishes_at_call, finishes_told, points_told}
-use Rattle.law_commit.proofs.LifeBegun.{life_stands}
+use Rattle.law_commit.proofs.LifeBegun.{life_rests, life_stands}
 use Rattle.law_commit.proofs.OfCuts.Marks.{seat_of}
+use Rattle.law_commit.proofs.OfCuts.Points.{durable_come}
 use Rattle.law_commit.proofs.OfPhases.LifeStages.{life_staged}
 use Rattle.law_commit.proofs.OfPoints.Last.{last_of}
 use Rattle.law_commit.proofs.OfPoints.Rises.{rises_by_version}
@@ -141,12 +142,12 @@ module _ (in_turn : BegunAreInTurn) (finished : FinishedAreTold) (durable : Dura
     abbrev trace : List Traced
     trace = (run opening before).past.trace
 
-    stands : AtKeeping begun s s.step
+    stands : AtKeeping begun s (come_to s)
     stands = life_stands opening before opens.quiet.opened
 
     counted : s.last.number.0 ≡ opening.now.keeper.last.number.0 + finishes_told trace
     counted =
-        last_counts trace (told_of opening.now.keeper.last) begun s s.step stands (in_turn opening start before opens.quiet.opened opens.quiet.guarded opens.quiet.seen.rests) (finished opening before opens.quiet.opened)
+        last_counts trace (told_of opening.now.keeper.last) begun s (come_to s) stands (in_turn opening start before opens.quiet.opened opens.quiet.guarded opens.quiet.seen.rests) (finished opening before opens.quiet.opened)
 
     module _ (told : ToldPoint) (at_the_call : told.finished ≡ finishes_at_call session trace) where
       low_last : opening.now.keeper.last.number.0 + told.finished ≤ s.last.number.0
@@ -155,7 +156,7 @@ module _ (in_turn : BegunAreInTurn) (finished : FinishedAreTold) (durable : Dura
       -- the newest finished one's
       of_last : told.point ≡ finish.point_of (slice_get s.last.points session) → Tells before told
       of_last is =
-          let last = last_of begun s s.step stands in
+          let last = last_of begun s (come_to s) stands in
           let it = last.its in
           record {
             at = s.last.number.0;
@@ -207,7 +208,8 @@ module _ (in_turn : BegunAreInTurn) (finished : FinishedAreTold) (durable : Dura
       let there = new.there in
       let seat : session < opening.now.places.sessions = seat_of opening session there.0 opens.quiet.opened there.1 in
       let word = durable opening before session opens.quiet.opened opens.quiet.guarded.words.enough_words shows seat in
-      at_step before told new.finished (run opening before).now.keeper.step (stands before) (new.point ∙ word)
+      let n : KeeperState = (run opening before).now.keeper in
+      at_step before told new.finished (come_to n) (stands before) (new.point ∙ (word ∙ durable_come n session (life_rests opening before opens.quiet.opened)))
 
   -- ---- each answer
   nothing_yet : {X : Type 0} (told : ToldPoint) (trace : List Traced) → trace ≡ [] → IsIn told (points_told session trace) → X

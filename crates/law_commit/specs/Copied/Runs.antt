@@ -11,7 +11,7 @@ use Rattle.fkv_base.specs.declared.commits.CommitKind.TheVariants.{Full}
 use Rattle.law_refine.specs.Below.fkv_keeper.TheKeeping.{Keeping}
 use Rattle.law_refine.specs.Below.fkv_keeper.TheKeeping.TheVariants.{LoadsPhase, Copies}
 use Rattle.law_refine.specs.Below.fkv_keeper.CheckpointLaws.{IsBeforeWrites, IsBehindWait}
-use Rattle.law_refine.specs.Below.fkv_keeper.Keeping.{KeeperState, is_copy_resting}
+use Rattle.law_refine.specs.Below.fkv_keeper.Keeping.{KeeperState, come_to, is_copy_resting}
 use Rattle.law_refine.specs.Below.fkv_keeper.KeeperRun.{KeeperEvent, Replies, Writing, keeper_run}
 use Rattle.law_refine.specs.Below.fkv_world.OwnEvents.{keeper_part_of}
 use Rattle.law_refine.specs.Below.fkv_world.Runs.{World, run}
@@ -58,7 +58,7 @@ pub record HasInHand (p : Places) (s : KeeperState) (w : CopyWorld) : Type 0 whe
 
 -- where the device works, and the writes of a full commit that counts as copied have not begun, the keeper has the finished copy in hand
 abbrev pub KeepsCopy : Places → KeeperState → CopyWorld → Type 0
-KeepsCopy p s w = (c : Commit) → s.commit ≡ Some c → c.kind ≡ Full → c.is_copied ≡ true → s.is_broken ≡ false → IsBeforeWrites s.step → HasInHand p s w
+KeepsCopy p s w = (c : Commit) → s.commit ≡ Some c → c.kind ≡ Full → c.is_copied ≡ true → s.is_broken ≡ false → IsBeforeWrites (come_to s) → HasInHand p s w
 
 -- a full commit's checkpoint is this copy, which is finished: its triples are what is written
 pub record IsCheckpointOf (s : KeeperState) (its : Writing) (w : CopyWorld) : Type 0 where
@@ -67,4 +67,4 @@ pub record IsCheckpointOf (s : KeeperState) (its : Writing) (w : CopyWorld) : Ty
   pub written : its.first.triples ≡ all_bytes w.triples
 
 abbrev pub WritesCopy : KeeperState → Writing → CopyWorld → Type 0
-WritesCopy s its w = (c : Commit) → s.commit ≡ Some c → c.kind ≡ Full → IsBehindWait s.step → IsCheckpointOf s its w
+WritesCopy s its w = (c : Commit) → s.commit ≡ Some c → c.kind ≡ Full → IsBehindWait (come_to s) → IsCheckpointOf s its w

@@ -9,6 +9,7 @@ use Rattle.fkv_words.specs.declared.phase_words.PhaseSaid.{PhaseSaid}
 use Rattle.fkv_words.specs.declared.phase_words.PhaseSaid.TheVariants.{Says}
 use Rattle.law_refine.specs.Below.fkv_commit.Commit.{Commit}
 use Rattle.fkv_epoch.specs.EpochWorld.{safe_of}
+use Rattle.law_refine.specs.Below.fkv_keeper.Keeping.{come_to}
 use Rattle.law_refine.specs.Below.fkv_session.Sessions.{SessionState}
 use Rattle.law_refine.specs.Below.fkv_world.Opened.{HasBecome, IsOpenedWorld}
 use Rattle.law_refine.specs.Below.fkv_world.Runs.{World, run}
@@ -101,7 +102,7 @@ EndIsSafe n c = (n.keeper.has_points ≡ true) × (c.epoch ≤ safe_of n.words)
 abbrev pub DecidesBelowEnd : Type 0
 DecidesBelowEnd =
     (opening : World) (start : ℕ) (ghosts : Ghosts) (events : List Event) (c : Commit) → OpensDecided opening start ghosts → OpensSeen opening.now
-    → (run opening events).now.keeper.commit ≡ Some c → EndIsSafe (run opening events).now c ⊎ IsWritten (run opening events).now.keeper.step
+    → (run opening events).now.keeper.commit ≡ Some c → EndIsSafe (run opening events).now c ⊎ IsWritten (come_to (run opening events).now.keeper)
     → DecidedBelow c.end.0 (life_ghosts opening ghosts events).log
 
 -- so each record from the first tail to its first address stands or was given up, from in-progress on
@@ -115,7 +116,7 @@ SettlesBelowFirst =
 abbrev pub SettlesBelowEnd : Type 0
 SettlesBelowEnd =
     (opening : World) (start : ℕ) (ghosts : Ghosts) (events : List Event) (c : Commit) → OpensDecided opening start ghosts → OpensSeen opening.now
-    → (run opening events).now.keeper.commit ≡ Some c → EndIsSafe (run opening events).now c ⊎ IsWritten (run opening events).now.keeper.step
+    → (run opening events).now.keeper.commit ≡ Some c → EndIsSafe (run opening events).now c ⊎ IsWritten (come_to (run opening events).now.keeper)
     → (c.end.0 ≤ tail_at (run opening events).now) × SettledFrom (tail_at opening.now) c.end.0 (life_ghosts opening ghosts events).log
 
 -- ---- chains and copies

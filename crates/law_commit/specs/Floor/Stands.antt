@@ -6,6 +6,7 @@ use Rattle.law_refine.specs.Below.fkv_commit.Commit.{Commit}
 use Rattle.fkv_epoch.specs.EpochWorld.{safe_of}
 use Rattle.law_refine.specs.Below.fkv_keeper.TheKeeping.{Keeping}
 use Rattle.law_refine.specs.Below.fkv_keeper.TheKeeping.TheVariants.{Finishes, Writes}
+use Rattle.law_refine.specs.Below.fkv_keeper.Keeping.{come_to}
 use Rattle.law_refine.specs.Below.fkv_session.Sessions.{SessionState}
 use Rattle.law_refine.specs.Below.fkv_world.Opened.{HasBecome, IsOpenedWorld}
 use Rattle.law_refine.specs.Below.fkv_world.Runs.{World, run}
@@ -50,7 +51,7 @@ pub record HasSeenEnd (number : Version) (c : Commit) (its : View) : Type 0 wher
 pub record SeesCommit (n : Now) (number : Version) (stage : Stage) (c : Commit) (its : View) : Type 0 where
   pub first : 2 ≤ stage_number stage → c.first.0 ≤ its.tail
   pub ending : n.keeper.has_points ≡ true → c.epoch ≤ safe_of n.words → HasSeenEnd number c its
-  pub written : IsWritten n.keeper.step → HasSeenEnd number c its
+  pub written : IsWritten (come_to n.keeper) → HasSeenEnd number c its
 
 -- At some stage the view of each live session has its floor, and shows so much of the commit in hand.
 pub record FloorStands (opening : World) (events : List Event) : Type 0 where

@@ -2,7 +2,7 @@
 use Rattle.std.specs.Prelude.{◌≡◌, ◌⊎◌, ◌+◌, ◌≤◌, ◌∷◌, ℕ, Bool, List, [], length}
 use Rattle.fkv_base.specs.declared.shapes.Shape.{Shape}
 use Rattle.law_refine.specs.Below.fkv_keeper.TheKeeping.TheVariants.{Finishes}
-use Rattle.law_refine.specs.Below.fkv_keeper.Keeping.{KeeperState}
+use Rattle.law_refine.specs.Below.fkv_keeper.Keeping.{KeeperState, come_to}
 use Rattle.law_refine.specs.Below.fkv_session.OwnTurns.{OwnTurnState, own_turn_ask}
 use Rattle.law_refine.specs.Below.fkv_session.Sessions.{SessionState}
 use Rattle.law_refine.specs.Below.law_world.Standing.Opening.{AreNumbersInTurn}
@@ -78,11 +78,11 @@ ViewsAreStamped =
     (opening : World) (events : List Event) (event : Event) (session : ℕ)
     → IsSightAfter (run opening events).now.words (sight_of opening events session) (sight_of opening (event ∷ events) session)
 
--- the commits that have begun are as the keeper's step says
+-- The commits that have begun are as the step says to which the keeper has come: its own, and the writes where they rest.
 abbrev pub BegunAreAsKept : Type 0
 BegunAreAsKept =
     (opening : World) (events : List Event) → IsOpenedWorld opening
-    → AtKeeping (prefix_past opening events).begun (run opening events).now.keeper (run opening events).now.keeper.step
+    → AtKeeping (prefix_past opening events).begun (run opening events).now.keeper (come_to (run opening events).now.keeper)
 
 -- where a commit's words are stored it says what was written
 abbrev pub NewestIsAsWritten : Type 0

@@ -221,9 +221,9 @@ abbrev pub StepAt : Version → Stage → KeeperState → Keeping → Type 0
 StepAt number stage s Starts = StartAt number stage s.start s.start.step
 StepAt number stage s Enters = (s.enter.number ≡ number) × EnterAt number stage s.enter s.enter.step
 StepAt number stage s Seeks = (s.seek.number ≡ number) × SeekAt number stage s.seek s.seek.step
-StepAt number stage s Waits = stage ≡ Flushes
-StepAt number stage s Writes = stage ≡ Flushes
-StepAt number stage s Finishes = (s.finish.number ≡ number) × FinishAt stage s.finish.step × ((c : Commit) × (s.commit ≡ Some c))
+StepAt number stage s Waits = (stage ≡ Flushes) × (s.rests ≡ false)
+StepAt number stage s Writes = (stage ≡ Flushes) × (s.rests ≡ false)
+StepAt number stage s Finishes = (s.finish.number ≡ number) × FinishAt stage s.finish.step × ((c : Commit) × (s.commit ≡ Some c)) × (s.rests ≡ false)
 StepAt number stage s step = ⊤
 
 -- but for the part that defers wait-pending, the keeper knows whether it is deferred
@@ -231,10 +231,11 @@ abbrev pub EarlyAt : Stage → KeeperState → Keeping → Type 0
 EarlyAt stage s Enters = ⊤
 EarlyAt stage s step = s.has_entered ≡ false → is_early stage ≡ true
 
--- A commit in hand has the number that is next, behind the newest finished one's. Some phase is stored for it.
+-- A commit in hand has the number that is next, behind the newest finished one's. Some phase is stored for it, and where its writes rest, wait-flush.
 pub record HasInHand (number : Version) (stage : Stage) (s : KeeperState) : Type 0 where
   pub next : number.0 ≡ s.last.number.0 + 1
   pub hand : (c : Commit) → s.commit ≡ Some c → (c.number ≡ number) × (is_resting stage ≡ false)
+  pub rests : s.rests ≡ true → stage ≡ Flushes
 
 -- So far has the keeper come.
 pub record KeeperAt (number : Version) (stage : Stage) (s : KeeperState) : Type 0 where

@@ -114,7 +114,7 @@ guard_words o n its =
 pub its_keeper_opens : (o : Opened) (n : Now) → IsOpeningWorld o n → keeper.IsOpened n.keeper
 its_keeper_opens o n its =
     let k = its.its_keeper in
-    record { none_in_hand = ap is_in_hand k.no_call; no_commit = k.no_commit; works = k.works }
+    record { none_in_hand = ap is_in_hand k.no_call; no_commit = k.no_commit; none_rest = k.none_rest; works = k.works }
 
 abbrev seen_at : ℕ → ℕ → LastSeen
 seen_at read_only head = record { read_only = read_only; head = head }

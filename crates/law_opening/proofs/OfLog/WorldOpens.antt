@@ -13,6 +13,6 @@ world_opens o n bytes its = record {
   no_trace = refl;
   no_calls = refl;
   seats = its.seats ∙ sym its.its_places.sessions;
-  keeper = (let k = its.its_keeper in record { none_in_hand = ap is_in_hand k.no_call; no_commit = k.no_commit; works = k.works });
+  keeper = (let k = its.its_keeper in record { none_in_hand = ap is_in_hand k.no_call; no_commit = k.no_commit; none_rest = k.none_rest; works = k.works });
   sessions = λ number s found. (its.its_sessions number s found).opened;
 }

@@ -68,6 +68,7 @@ keeper_of o = record {
   is_broken = false;
   is_drain_full = false;
   has_finished = false;
+  rests = false;
   used = (newest_commit o).checkpoint;
   last = newest_commit o;
   lost = o.lost.items;
@@ -95,4 +96,5 @@ keeper_opens o = record {
   none_left_out = refl;
   works = refl;
   granted = refl;
+  none_rest = refl;
 }

@@ -3,6 +3,7 @@ use Rattle.std.specs.Prelude.{ℕ, List, [], length, Bool}
 use Rattle.fkv_base.specs.declared.shapes.Shape.{Shape}
 use Rattle.fkv_creating.specs.Created.{IsCreated}
 use Rattle.fkv_disk.specs.Device.{IsAfter, LeavesOnly}
+use Rattle.fkv_disk.specs.Kinds.{Foretold, Kind}
 use Rattle.fkv_filling.specs.OpeningIndex.{IsOpeningIndex, opening_lists}
 use Rattle.law_paper.specs.Below.fkv_opening.Opened.{IsStoreOf}
 use Rattle.law_paper.specs.Below.fkv_opening.TheOpened.{Opened}
@@ -51,9 +52,9 @@ DeviceBeginsALife {D} seen may_leave device =
     LeavesOnly (seen device) (may_leave device) → IsAfter (seen device) [] (seen device) (may_leave device)
 
 -- the steps that calls make of an honest device lead each life on
-abbrev pub MadeStepsLeadOn : {D : Type 0} → (D → Type 0) → (D → List ℕ) → (D → List ℕ → Type 0) → (D → ℕ) → (D → ℕ → Bool) → D → Type 0
-MadeStepsLeadOn {D} honest seen may_leave failed refuses device =
-    (n : Now) (steps : List (Step D)) → honest device → AllMade honest seen may_leave failed refuses n device steps → AllLeadOn seen may_leave n device steps
+abbrev pub MadeStepsLeadOn : {D : Type 0} → (D → Type 0) → (D → List ℕ) → (D → List ℕ → Type 0) → (D → ℕ) → (D → ℕ → Bool) → (D → List Kind → Foretold) → D → Type 0
+MadeStepsLeadOn {D} honest seen may_leave failed refuses expects device =
+    (n : Now) (steps : List (Step D)) → honest device → AllMade honest seen may_leave failed refuses expects n device steps → AllLeadOn seen may_leave n device steps
 
 -- steps that lead each life on are events of the life that begins here
 abbrev pub StepsAreOfTheLife : {D : Type 0} → (D → List ℕ) → (D → List ℕ → Type 0) → D → Type 0

@@ -4,7 +4,7 @@ use Rattle.std.specs.Prelude.{Some}
 use Rattle.fkv_base.specs.declared.numbers.Version.{Version}
 use Rattle.law_commit.specs.Below.fkv_keeper.TheKeeping.{Keeping}
 use Rattle.law_commit.specs.Below.fkv_keeper.TheKeeping.TheVariants.{Copies, Ended, Enters, Finishes, LoadsPhase, Maintains, Seeks, Starts, Waits, Writes}
-use Rattle.law_commit.specs.Below.fkv_keeper.Keeping.{Finality, KeeperState}
+use Rattle.law_commit.specs.Below.fkv_keeper.Keeping.{Finality, KeeperState, come_to}
 use Rattle.law_commit.specs.Below.fkv_world.Runs.{happens, run}
 use Rattle.law_commit.specs.Below.fkv_world.World.{Event, Now}
 use Rattle.law_commit.specs.BegunCommits.{BegunCommit, life_begun}
@@ -25,6 +25,7 @@ use Rattle.law_order.specs.Known.Begins.{BegunLife}
 use Rattle.law_order.specs.Images.Ends.{CommitEndsBy}
 use Rattle.law_order.proofs.OfApart.Moments.{number, stands}
 use Rattle.law_order.proofs.OfImages.EndsFlushed.{EndsAt, flushed_at, life_ends}
+use Rattle.law_order.proofs.OfImages.Resting.{at_writes}
 
 -- ---- the newest finished commit has begun
 pub record IsLast (begun : List BegunCommit) (last : Finality) : Type 0 where
@@ -73,7 +74,7 @@ module _ (given : Given) (life : BegunLife) (apart : OpensApart life) (before : 
   whole = record { quiet = apart.quiet; unborn = life.begins.unborn; decided = life.begins.reserves; upto = apart.upto }
 
   last : IsLast (life_begun life.opening before) N.keeper.last
-  last = last_is (life_begun life.opening before) N.keeper N.keeper.step (given.begun life.opening before life.begins.world)
+  last = last_is (life_begun life.opening before) N.keeper (come_to N.keeper) (given.begun life.opening before life.begins.world)
 
   -- ---- its end is flushed
   rises_one : (so_far : List Event) (event : Event) → flushed_at (run life.opening so_far) ≤ flushed_at (happens (run life.opening so_far) event)
@@ -93,7 +94,7 @@ module _ (given : Given) (life : BegunLife) (apart : OpensApart life) (before : 
   written_by x moment was =
       let s : KeeperState = (run life.opening moment).now.keeper in
       let by : CommitEndsBy (flushed_at (run life.opening moment)) s =
-      subst (λ (k : Keeping). EndsAt (flushed_at (run life.opening moment)) s k) was.writes (life_ends life.opening moment life.begins.store.now.keeper rises_one) in
+      at_writes (EndsAt (flushed_at (run life.opening moment))) s was.writes (life_ends life.opening moment life.begins.store.now.keeper rises_one).ends in
       let low = by was.commit was.in_hand in
       let same : x.end.0 ≡ (let c = was.commit in c.end.0) = ap (λ (y : Span). y.end.0) was.its in
       omega (arith, low, same)

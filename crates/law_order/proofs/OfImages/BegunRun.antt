@@ -8,25 +8,30 @@ use Rattle.fkv_base.specs.declared.faults.Fault.TheVariants as fault
 use Rattle.fkv_base.specs.declared.shapes.Shape.{Shape}
 use Rattle.law_commit.specs.Below.fkv_commit.Commit.{Commit}
 use Rattle.law_commit.specs.Below.fkv_commit.FinishAnswer.{FinishAnswer}
+use Rattle.law_commit.specs.Below.fkv_commit.Seeking.{SeekState}
 use Rattle.law_commit.specs.Below.fkv_commit.WaitAnswer.{WaitAnswer}
 use Rattle.law_commit.specs.Below.fkv_commit.WaitAnswer.TheVariants as wait
 use Rattle.law_commit.specs.Below.fkv_commit.Finishing.{finish_ask, finish_next}
 use Rattle.law_commit.specs.Below.fkv_commit.Starting.{start_begun}
 use Rattle.law_commit.specs.Below.fkv_commit.Waiting.{wait_ask, wait_next}
 use Rattle.fkv_disk.specs.Calls.{Call}
-use Rattle.law_commit.specs.Below.fkv_keeper.CheckpointLaws.{IsFinished, MayFollow}
+use Rattle.law_commit.specs.Below.fkv_keeper.CheckpointLaws.{IsFinished, MayFollow, MayStep}
 use Rattle.law_commit.specs.Below.fkv_keeper.KeeperTold.{KeeperTold}
 use Rattle.law_commit.specs.Below.fkv_keeper.KeeperTold.TheVariants.{CommitRefused, Turned, TurnRefused}
 use Rattle.law_commit.specs.Below.fkv_keeper.TheKeeping.{Keeping}
 use Rattle.law_commit.specs.Below.fkv_keeper.TheKeeping.TheVariants.{Ended, Starts, Maintains, LoadsPhase, Enters, Copies, Seeks, Waits, Writes, Finishes}
 use Rattle.law_commit.specs.Below.fkv_keeper.Checkpoint.{Checkpoint}
-use Rattle.law_commit.specs.Below.fkv_keeper.Keeping.{Finality, KeeperState, checkpoint_used, ended, finish_ledto, finished, keeping_called, keeping_given, keeping_next, triples_written, turned, wait_ledto, write_ledto, writes_begun, asked_for}
+use Rattle.law_commit.specs.Below.fkv_keeper.Keeping.{Finality, KeeperState, checkpoint_used, come_to, ended, finish_ledto, finished, keeping_called, keeping_given, keeping_next, lost_left, must_rest, parts_begun, triples_written, turned, wait_ledto, write_ledto, writes_begun, asked_for}
 use Rattle.law_commit.specs.Below.fkv_keeper.KeeperAsks.{keeping_calls}
+use Rattle.law_commit.specs.Below.fkv_keeper.KeeperLaws.{IsResting, MayRest}
 use Rattle.law_commit.specs.Below.fkv_keeper.KeeperRun.{BeginsCommit, BeginsTurn, Calls, Gets, KeeperEvent, Replies, Writing, keeper_happens, writing_after}
 use Rattle.law_commit.specs.Below.fkv_keeper.LastCommits.{is_gate_open}
-use Rattle.law_commit.proofs.Below.fkv_keeper.Shown.{each_move}
-use Rattle.law_commit.specs.Below.fkv_maintain.Maintaining.{maintain_begun}
-use Rattle.law_commit.specs.Below.fkv_manifest.Committing.{commit_answer, commit_call, commit_next, commit_step_answer}
+use Rattle.law_commit.proofs.Below.fkv_keeper.Shown.{BreaksInRest, EndsRest, RestsStill, begins_rest, each_move, rest_ends, rests_still}
+use Rattle.law_commit.specs.Below.fkv_maintain.Maintaining.{maintaining_calls}
+use Rattle.law_commit.specs.Below.fkv_maintain.Parts.{IsServing}
+use Rattle.law_commit.specs.Below.fkv_maintain.TheMaintaining.{Maintaining}
+use Rattle.law_commit.specs.Below.fkv_maintain.TheMaintaining.TheVariants as part
+use Rattle.law_commit.specs.Below.fkv_manifest.Committing.{CommitWriter, commit_answer, commit_call, commit_next, commit_step_answer}
 use Rattle.law_commit.specs.Below.fkv_manifest.Gating.{GateWriter, gate_answer}
 use Rattle.law_commit.specs.Below.fkv_manifest.Made.{commit_made, commit_run, with_call}
 use Rattle.law_commit.specs.Below.fkv_manifest.WriteAnswer.{WriteAnswer}
@@ -35,13 +40,16 @@ use Rattle.law_commit.specs.Below.fkv_manifest.TheCommitting.{Committing}
 use Rattle.law_commit.specs.Below.fkv_manifest.TheCommitting.TheVariants as committing
 use Rattle.law_commit.specs.Below.fkv_manifest.TheGating.{Gating}
 use Rattle.law_commit.specs.Below.fkv_manifest.TheGating.TheVariants as gate
+use Rattle.fkv_base.specs.declared.numbers.Serial.{Serial}
 use Rattle.fkv_plane.specs.declared.asks.Ask.{Ask}
 use Rattle.fkv_plane.specs.declared.asks.Ask.TheVariants.{Done}
 use Rattle.fkv_plane.specs.declared.places.Places.{Places}
 use Rattle.law_commit.specs.BegunCommits.{BegunCommit, begun_at_end, begun_at_writes, begun_by, commit_opening, with_finished}
+use Rattle.fkv_record.specs.declared.lost_ranges.LostRange.{LostRange}
 use Rattle.law_order.specs.Images.Named.{AreTriplesOf, slot_of}
 use Rattle.law_order.proofs.OfImages.Begun.{AreWritesOf, BeginsSo, HasBegunFor, IsLast, IsLeft, IsWriting, IsWritten, Lists, Uses, UsesOwn, fresh, is_called, is_opened, left_after, plain, writes_on}
 use Rattle.law_order.proofs.OfImages.CopiedLength.{copied_length}
+use Rattle.law_order.proofs.OfImages.Resting.{IsSameInHand, still_same}
 use Rattle.law_log.specs.Trace.{IsIn}
 use Rattle.law_commit.proofs.Below.law_world.OfStanding.Runs.{calls_at, happens_at, happens_so}
 use Rattle.law_commit.specs.Below.law_world.Standing.CallsMade.{calls_of}
@@ -145,8 +153,15 @@ module _ (shape : Shape) (opened : List ℕ) (first : BegunCommit) (Good : Begun
   At was s its w calls begun Finishes = (was ≡ true) × IsWritten shape opened first Good s its w calls begun
   At was s its w calls begun step = (was ≡ false) × IsLast shape opened first Good s.last its begun
 
+  -- at the step of the keeper's call, and where the keeper has come to: where writes rest that is the writes
+  abbrev Stands : Bool → KeeperState → Standing → Writing → List Call → List BegunCommit → Type 0
+  Stands was s its w calls begun = At was s its w calls begun s.step
+
   abbrev pub Holds : Bool → KeeperState → Standing → Writing → List Call → List BegunCommit → Type 0
-  Holds was s its w calls begun = At was s its w calls begun s.step
+  Holds was s its w calls begun = At was s its w calls begun (come_to s)
+
+  awake : (was : Bool) (s : KeeperState) (its : Standing) (w : Writing) (calls : List Call) (begun : List BegunCommit) → s.rests ≡ false → Stands was s its w calls begun → Holds was s its w calls begun
+  awake was s its w calls begun none is = subst (λ (rests : Bool). At was s its w calls begun (if rests then Writes else s.step)) (sym none) is
 
   -- no commit is written behind this step
   idle_at : (a : KeeperState) (its : Standing) (w : Writing) (calls : List Call) (begun : List BegunCommit) (after : Keeping) → is_at_writes after ≡ false → IsLast shape opened first Good a.last its begun
@@ -164,15 +179,16 @@ module _ (shape : Shape) (opened : List ℕ) (first : BegunCommit) (Good : Begun
   idle_at a its w calls begun Waits idle last = (refl, last)
 
   idle : (a : KeeperState) (was : Bool) (its : Standing) (w : Writing) (calls : List Call) (begun : List BegunCommit) → was ≡ false → is_at_writes a.step ≡ false → IsLast shape opened first Good a.last its begun
-      → Holds (is_writing_after a.step was) a its w calls begun
+      → Stands (is_writing_after a.step was) a its w calls begun
   idle a was its w calls begun none plain_step last = subst (λ (b : Bool). At (is_writing_after a.step b) a its w calls begun a.step) (sym none) (idle_at a its w calls begun a.step plain_step last)
 
-  calm_on : (p : Places) (s : KeeperState) (was : Bool) (its : Standing) (w : Writing) (calls : List Call) (begun : List BegunCommit) (event : KeeperEvent) (step : Keeping) → s.step ≡ step → IsCalm step
-      → (was ≡ false) × IsLast shape opened first Good s.last its begun → (let a = keeper_happens shape p s event in Holds (is_writing_after a.step was) a its w calls begun)
-  calm_on p s was its w calls begun event step e calm is =
+  calm_on : (p : Places) (s : KeeperState) (was : Bool) (its : Standing) (w : Writing) (calls : List Call) (begun : List BegunCommit) (event : KeeperEvent) (step : Keeping) → s.rests ≡ false → s.step ≡ step → IsCalm step
+      → (was ≡ false) × IsLast shape opened first Good s.last its begun → (let a = keeper_happens shape p s event in Stands (is_writing_after a.step was) a its w calls begun)
+  calm_on p s was its w calls begun event step none e calm is =
       let a : KeeperState = keeper_happens shape p s event in
       let move = each_move shape p s event in
-      idle a was its w calls begun is.0 (calm_after step a.step calm (subst (λ (k : Keeping). MayFollow k a.step) e move.one.follows))
+      let follows : MayFollow s.step a.step = subst (λ (rests : Bool). MayStep rests s.step a.step) none move.one.steps in
+      idle a was its w calls begun is.0 (calm_after step a.step calm (subst (λ (k : Keeping). MayFollow k a.step) e follows))
       (subst (λ (x : Finality). IsLast shape opened first Good x its begun) (same_last s a step e calm move.lists.lists) is.1)
 
   -- ---- behind an ended call
@@ -191,14 +207,15 @@ module _ (shape : Shape) (opened : List ℕ) (first : BegunCommit) (Good : Begun
   works told last true its w calls begun is = let clash = is.0 in cc
 
   turn_on : (s : KeeperState) (told : KeeperTold) (was : Bool) (its : Standing) (w : Writing) (calls : List Call) (begun : List BegunCommit) (broken : Bool) → s.is_broken ≡ broken → EndedAt told broken was s.last its w calls begun
-      → (let a = if broken then ended s (TurnRefused fault.Broken) else record s { maintain = maintain_begun s.maintain; is_drain_full = false; step = Maintains } in Holds (is_writing_after a.step was) a its w calls begun)
+      → (let a = if broken then ended s (TurnRefused fault.Broken) else record s { maintain = parts_begun s.rests s.maintain; is_drain_full = false; step = Maintains } in Stands (is_writing_after a.step was) a its w calls begun)
   turn_on s told was its w calls begun true e is = refuses told fault.Broken s was its w calls begun e is
   turn_on s told was its w calls begun false e is = works told s.last was its w calls begun is
 
-  commit_on : (s : KeeperState) (kind : CommitKind) (told : KeeperTold) (was : Bool) (its : Standing) (w : Writing) (calls : List Call) (begun : List BegunCommit) (broken : Bool) → s.is_broken ≡ broken → EndedAt told broken was s.last its w calls begun
-      → (let a = if broken then ended s (CommitRefused fault.Broken) else record s { start = start_begun s.start (asked_for s kind); step = Starts } in Holds (is_writing_after a.step was) a its w calls begun)
-  commit_on s kind told was its w calls begun true e is = refuses_commit told fault.Broken s was its w calls begun e is
-  commit_on s kind told was its w calls begun false e is = works told s.last was its w calls begun is
+  commit_on : (s : KeeperState) (kind : CommitKind) (told : KeeperTold) (was : Bool) (its : Standing) (w : Writing) (calls : List Call) (begun : List BegunCommit) (broken rests : Bool) → s.is_broken ≡ broken → rests ≡ false → EndedAt told broken was s.last its w calls begun
+      → (let a = if broken then ended s (CommitRefused fault.Broken) else (if rests then ended s (CommitRefused fault.CommitRunning) else record s { start = start_begun s.start (asked_for s kind); step = Starts }) in Stands (is_writing_after a.step was) a its w calls begun)
+  commit_on s kind told was its w calls begun true rests e none is = refuses_commit told fault.Broken s was its w calls begun e is
+  commit_on s kind told was its w calls begun false true e none is = cc
+  commit_on s kind told was its w calls begun false false e none is = works told s.last was its w calls begun is
 
   still_ended : (told : KeeperTold) (s : KeeperState) (was : Bool) (its : Standing) (w : Writing) (calls : List Call) (begun : List BegunCommit) → EndedAt told s.is_broken was s.last its w calls begun
       → At (is_writing_after (Ended told) was) s its w calls begun (Ended told)
@@ -206,17 +223,17 @@ module _ (shape : Shape) (opened : List ℕ) (first : BegunCommit) (Good : Begun
   still_ended told s true its w calls begun is = subst (λ (b : Bool). EndedAt told s.is_broken b s.last its w calls begun) (sym is.1) is
 
   still : (s : KeeperState) (was : Bool) (its : Standing) (w : Writing) (calls : List Call) (begun : List BegunCommit) (step : Keeping) → s.step ≡ step → At (is_writing_after step was) s its w calls begun step
-      → Holds (is_writing_after s.step was) s its w calls begun
+      → Stands (is_writing_after s.step was) s its w calls begun
   still s was its w calls begun step e is = subst (λ (k : Keeping). At (is_writing_after k was) s its w calls begun k) (sym e) is
 
-  ended_on : (p : Places) (s : KeeperState) (was : Bool) (its : Standing) (w : Writing) (calls : List Call) (begun : List BegunCommit) (event : KeeperEvent) (told : KeeperTold) → s.step ≡ Ended told → EndedAt told s.is_broken was s.last its w calls begun
-      → (let a = happens_at shape p s (Ended told) event in Holds (is_writing_after a.step was) a its w (calls_at shape s (Ended told) event ++ calls) begun)
+  ended_on : (p : Places) (s : KeeperState) (was : Bool) (its : Standing) (w : Writing) (calls : List Call) (begun : List BegunCommit) (event : KeeperEvent) (told : KeeperTold) → s.rests ≡ false → s.step ≡ Ended told → EndedAt told s.is_broken was s.last its w calls begun
+      → (let a = happens_at shape p s (Ended told) event in Stands (is_writing_after a.step was) a its w (calls_at shape s (Ended told) event ++ calls) begun)
   unfolding keeping_next keeping_given keeping_called keeping_calls
-  ended_on p s was its w calls begun BeginsTurn told e is = turn_on s told was its w calls begun s.is_broken refl is
-  ended_on p s was its w calls begun (BeginsCommit kind) told e is = commit_on s kind told was its w calls begun s.is_broken refl is
-  ended_on p s was its w calls begun (Replies reply granted) told e is = still s was its w calls begun (Ended told) e (still_ended told s was its w calls begun is)
-  ended_on p s was its w calls begun (Gets action) told e is = still s was its w calls begun (Ended told) e (still_ended told s was its w calls begun is)
-  ended_on p s was its w calls begun (Calls done bytes) told e is = still s was its w calls begun (Ended told) e (still_ended told s was its w calls begun is)
+  ended_on p s was its w calls begun BeginsTurn told none e is = turn_on s told was its w calls begun s.is_broken refl is
+  ended_on p s was its w calls begun (BeginsCommit kind) told none e is = commit_on s kind told was its w calls begun s.is_broken s.rests refl none is
+  ended_on p s was its w calls begun (Replies reply granted) told none e is = still s was its w calls begun (Ended told) e (still_ended told s was its w calls begun is)
+  ended_on p s was its w calls begun (Gets action) told none e is = still s was its w calls begun (Ended told) e (still_ended told s was its w calls begun is)
+  ended_on p s was its w calls begun (Calls done bytes) told none e is = still s was its w calls begun (Ended told) e (still_ended told s was its w calls begun is)
 
   -- ---- in the wait
   uses_so : (s : KeeperState) (c : Commit) (b : BegunCommit) (kind : CommitKind) → b.parts.checkpoint ≡ checkpoint_used c kind s.last s.copy → b.parts.triples ≡ triples_written kind s.copy → b.number ≡ c.number → b.parts.first ≡ c.first → Uses kind s.last b
@@ -228,7 +245,7 @@ module _ (shape : Shape) (opened : List ℕ) (first : BegunCommit) (Good : Begun
   uses_so s c b Log used triples number first_is = used
 
   begun_on : (s : KeeperState) (was : Bool) (its : Standing) (calls : List Call) (begun : List BegunCommit) (found : Option Commit) → s.commit ≡ found → was ≡ false → IsLast shape opened first Good s.last its begun
-      → (let a = writes_begun shape s found in (a.step ≡ Writes → BeginsSo shape opened first Good a calls) → Holds (is_writing_after a.step was) a its (record { first = a.writes; answers = [] }) calls begun)
+      → (let a = writes_begun shape s found in (a.step ≡ Writes → BeginsSo shape opened first Good a calls) → Stands (is_writing_after a.step was) a its (record { first = a.writes; answers = [] }) calls begun)
   unfolding commit_made commit_run
   begun_on s was its calls begun None in_hand none last = λ so. idle (turned s) was its (record { first = s.writes; answers = [] }) calls begun none refl last
   begun_on s was its calls begun (Some c) in_hand none last = λ so.
@@ -258,7 +275,7 @@ module _ (shape : Shape) (opened : List ℕ) (first : BegunCommit) (Good : Begun
       )
 
   wait_on : (s : KeeperState) (was : Bool) (its : Standing) (calls : List Call) (begun : List BegunCommit) (ask : Ask WaitAnswer) → s.step ≡ Waits → was ≡ false → IsLast shape opened first Good s.last its begun
-      → (let a = wait_ledto shape s ask in (a.step ≡ Writes → BeginsSo shape opened first Good a calls) → Holds (is_writing_after a.step was) a its (record { first = a.writes; answers = [] }) calls begun)
+      → (let a = wait_ledto shape s ask in (a.step ≡ Writes → BeginsSo shape opened first Good a calls) → Stands (is_writing_after a.step was) a its (record { first = a.writes; answers = [] }) calls begun)
   unfolding wait_ledto
   wait_on s was its calls begun (Done wait.Flushed) e none last = begun_on s was its calls begun s.commit refl none last
   wait_on s was its calls begun (Done wait.NotYet) e none last = λ so. idle (turned s) was its (record { first = s.writes; answers = [] }) calls begun none refl last
@@ -267,7 +284,7 @@ module _ (shape : Shape) (opened : List ℕ) (first : BegunCommit) (Good : Begun
 
   waits_on : (p : Places) (s : KeeperState) (was : Bool) (its : Standing) (w : Writing) (calls : List Call) (begun : List BegunCommit) (event : KeeperEvent) → s.step ≡ Waits → (was ≡ false) × IsLast shape opened first Good s.last its begun
       → (let a = happens_at shape p s Waits event in (a.step ≡ Writes → BeginsSo shape opened first Good a (calls_at shape s Waits event ++ calls))
-      → Holds (is_writing_after a.step was) a its (writing_after Waits event a w) (calls_at shape s Waits event ++ calls) begun)
+      → Stands (is_writing_after a.step was) a its (writing_after Waits event a w) (calls_at shape s Waits event ++ calls) begun)
   unfolding keeping_next keeping_given keeping_called keeping_calls
   waits_on p s was its w calls begun BeginsTurn e is = λ so. still s was its w calls begun Waits e is
   waits_on p s was its w calls begun (BeginsCommit kind) e is = λ so. still s was its w calls begun Waits e is
@@ -276,33 +293,82 @@ module _ (shape : Shape) (opened : List ℕ) (first : BegunCommit) (Good : Begun
   waits_on p s was its w calls begun (Calls done bytes) e is = λ so. still s was its w calls begun Waits e is
 
   -- ---- while it is written
-  written_on : (s : KeeperState) (was : Bool) (its : Standing) (w : Writing) (calls : List Call) (begun : List BegunCommit) (found : Option Commit) (answer : WriteAnswer) → s.step ≡ Writes → s.commit ≡ found → commit_answer s.writes ≡ answer → was ≡ true
-      → IsWriting shape opened first Good s its w calls begun → (let a = write_ledto s found answer in Holds (is_writing_after a.step was) a its w calls begun)
-  unfolding write_ledto
-  written_on s was its w calls begun None answer e in_hand its_answer writes is = let clash : None ≡ Some is.in_hand = sym in_hand ∙ is.found in cc
-  written_on s was its w calls begun (Some c) write.Written e in_hand its_answer writes is = (
-    refl,
-    record {
-      left = is.left;
-      in_hand = is.in_hand;
-      found = is.found;
-      named = is.named;
-      called = is.called ∙ all_written s.writes.gate s.writes.step its_answer;
-    },
-  )
-  written_on s was its w calls begun (Some c) write.Device e in_hand its_answer writes is = still s was its w calls begun Writes e (refl, is)
-  written_on s was its w calls begun (Some c) (write.Broken why) e in_hand its_answer writes is = still s was its w calls begun Writes e (refl, is)
+  -- it is as it was where the keeper has the same of the commit in hand
+  abbrev opening_of : Commit → List Serial → List ℕ → Checkpoint → List LostRange → BegunCommit
+  opening_of c points triples used lost = record {
+    number = c.number;
+    points = points;
+    is_sealed = false;
+    is_finished = false;
+    parts = record { kind = c.kind; first = c.first; end = c.end; triples = triples; checkpoint = used; lost = lost_left c.kind lost };
+  }
 
-  writing_on : (p : Places) (s : KeeperState) (was : Bool) (its : Standing) (w : Writing) (calls : List Call) (begun : List BegunCommit) (event : KeeperEvent) → s.step ≡ Writes → (was ≡ true) × IsWriting shape opened first Good s its w calls begun
+  same_opening : (s a : KeeperState) (c : Commit) → IsSameInHand s a → commit_opening s c ≡ commit_opening a c
+  same_opening s a c same =
+      ap (λ (x : SeekState). opening_of c x.points s.writes.triples s.used s.lost) (sym same.seek)
+      ∙ (ap (λ (x : CommitWriter). opening_of c a.seek.points x.triples s.used s.lost) (sym same.writes)
+      ∙ (ap (λ (x : Checkpoint). opening_of c a.seek.points a.writes.triples x s.lost) (sym same.used)
+      ∙ ap (λ (x : List LostRange). opening_of c a.seek.points a.writes.triples a.used x) (sym same.lost)))
+
+  left_to : (last new : Finality) (its : Standing) (w : Writing) (calls : List Call) (begun : List BegunCommit) (l : IsLeft shape opened first Good last its w calls begun) → last ≡ new
+      → (m : IsLeft shape opened first Good new its w calls begun) × (m.commit ≡ l.commit)
+  left_to last new its w calls begun l e = subst (λ (x : Finality). (m : IsLeft shape opened first Good x its w calls begun) × (m.commit ≡ l.commit)) e (l, refl)
+
+  same_writing : (s a : KeeperState) (its : Standing) (w : Writing) (calls : List Call) (begun : List BegunCommit) → IsSameInHand s a → IsWriting shape opened first Good s its w calls begun → IsWriting shape opened first Good a its w calls begun
+  same_writing s a its w calls begun same is =
+      let moved = left_to s.last a.last its w calls begun is.left (sym same.last) in
+      record {
+        left = moved.0;
+        in_hand = is.in_hand;
+        found = same.commit ∙ is.found;
+        named = moved.1 ∙ (is.named ∙ same_opening s a is.in_hand same);
+        run = same.writes ∙ is.run;
+        called = is.called ∙ ap (λ (x : CommitWriter). is_opened x.gate.step) (sym same.writes);
+        place = ap (λ (x : CommitWriter). x.gate.place) same.writes ∙ is.place;
+        start = ap (λ (x : CommitWriter). x.gate.start) same.writes ∙ is.start;
+        area = ap (λ (x : CommitWriter). x.area) same.writes ∙ is.area;
+      }
+
+  still_writing : (s : KeeperState) (was : Bool) (its : Standing) (w : Writing) (calls : List Call) (begun : List BegunCommit) → s.rests ≡ false → s.step ≡ Writes → IsWriting shape opened first Good s its w calls begun
+      → Holds (is_writing_after s.step was) s its w calls begun
+  still_writing s was its w calls begun none e is = awake (is_writing_after s.step was) s its w calls begun none (still s was its w calls begun Writes e (refl, is))
+
+  written_on : (s : KeeperState) (was : Bool) (its : Standing) (w : Writing) (calls : List Call) (begun : List BegunCommit) (found : Option Commit) (answer : WriteAnswer) → s.rests ≡ false → s.step ≡ Writes → s.commit ≡ found → commit_answer s.writes ≡ answer
+      → was ≡ true → IsWriting shape opened first Good s its w calls begun → (let a = write_ledto s found answer in Holds (is_writing_after a.step was) a its w calls begun)
+  unfolding write_ledto
+  written_on s was its w calls begun None answer none e in_hand its_answer writes is = let clash : None ≡ Some is.in_hand = sym in_hand ∙ is.found in cc
+  written_on s was its w calls begun (Some c) write.Written none e in_hand its_answer writes is =
+      let a : KeeperState = write_ledto s (Some c) write.Written in
+      awake true a its w calls begun none (
+        refl,
+        record {
+          left = is.left;
+          in_hand = is.in_hand;
+          found = is.found;
+          named = is.named;
+          called = is.called ∙ all_written s.writes.gate s.writes.step its_answer;
+        },
+      )
+  written_on s was its w calls begun (Some c) write.Device none e in_hand its_answer writes is = by (must_rest s)
+    where
+      resting : KeeperState
+      resting = turned (record s { rests = true })
+
+      by : (rests : Bool) → (let a = if rests then resting else s in Holds (is_writing_after a.step was) a its w calls begun)
+      by true = (writes, same_writing s resting its w calls begun (record { commit = refl; seek = refl; writes = refl; used = refl; last = refl; lost = refl }) is)
+      by false = still_writing s was its w calls begun none e is
+  written_on s was its w calls begun (Some c) (write.Broken why) none e in_hand its_answer writes is = still_writing s was its w calls begun none e is
+
+  writing_on : (p : Places) (s : KeeperState) (was : Bool) (its : Standing) (w : Writing) (calls : List Call) (begun : List BegunCommit) (event : KeeperEvent) → s.rests ≡ false → s.step ≡ Writes → (was ≡ true) × IsWriting shape opened first Good s its w calls begun
       → (let a = happens_at shape p s Writes event in Holds (is_writing_after a.step was) a its (writing_after Writes event a w) (calls_at shape s Writes event ++ calls) (begun_by s Writes event a.step begun))
   unfolding keeping_next keeping_given keeping_called keeping_calls
-  writing_on p s was its w calls begun BeginsTurn e is = still s was its w calls begun Writes e (refl, is.1)
-  writing_on p s was its w calls begun (BeginsCommit kind) e is = still s was its w calls begun Writes e (refl, is.1)
-  writing_on p s was its w calls begun (Replies reply granted) e is = still s was its w calls begun Writes e (refl, is.1)
-  writing_on p s was its w calls begun (Gets action) e is = still s was its w calls begun Writes e (refl, is.1)
-  writing_on p s was its w calls begun (Calls true bytes) e is =
-      written_on (record s { writes = commit_next s.writes true }) was its _ _ _ s.commit (commit_answer (commit_next s.writes true)) e refl refl is.0 (writes_on shape opened first Good s its w calls begun is.1)
-  writing_on p s was its w calls begun (Calls false bytes) e is =
+  writing_on p s was its w calls begun BeginsTurn none e is = still_writing s was its w calls begun none e is.1
+  writing_on p s was its w calls begun (BeginsCommit kind) none e is = still_writing s was its w calls begun none e is.1
+  writing_on p s was its w calls begun (Replies reply granted) none e is = still_writing s was its w calls begun none e is.1
+  writing_on p s was its w calls begun (Gets action) none e is = still_writing s was its w calls begun none e is.1
+  writing_on p s was its w calls begun (Calls true bytes) none e is =
+      written_on (record s { writes = commit_next s.writes true }) was its _ _ _ s.commit (commit_answer (commit_next s.writes true)) none e refl refl is.0 (writes_on shape opened first Good s its w calls begun is.1)
+  writing_on p s was its w calls begun (Calls false bytes) none e is =
       let left = left_after shape opened first Good s its w calls begun is.1 false in
       subst (λ (b : Bool). EndedAt (TurnRefused fault.Device) true b s.last its (record w { answers = false ∷ w.answers }) (with_call (commit_call s.writes false) [] ++ calls) (begun_at_writes s s.writes.step false begun)) (sym is.0) (refl, refl, left)
 
@@ -355,7 +421,7 @@ module _ (shape : Shape) (opened : List ℕ) (first : BegunCommit) (Good : Begun
       }
 
   finished_on : (s : KeeperState) (was : Bool) (its : Standing) (w : Writing) (calls : List Call) (begun : List BegunCommit) (found : Option Commit) → s.commit ≡ found → IsWritten shape opened first Good s its w calls begun
-      → (let a = finished s found in Holds (is_writing_after a.step was) a (standing_after Finishes a.step found w.first its) w calls (begun_at_end a.step begun))
+      → (let a = finished s found in Stands (is_writing_after a.step was) a (standing_after Finishes a.step found w.first its) w calls (begun_at_end a.step begun))
   finished_on s was its w calls begun None in_hand is = let clash : None ≡ Some is.in_hand = sym in_hand ∙ is.found in cc
   finished_on s was its w calls begun (Some c) in_hand is =
       let l = is.left in
@@ -364,18 +430,18 @@ module _ (shape : Shape) (opened : List ℕ) (first : BegunCommit) (Good : Begun
       (subst (λ (b : Bool). Lists b begun l.rest l.commit) is.called l.list)
 
   still_finishing : (s : KeeperState) (was : Bool) (its : Standing) (w : Writing) (calls : List Call) (begun : List BegunCommit) → s.step ≡ Finishes → IsWritten shape opened first Good s its w calls begun
-      → Holds (is_writing_after s.step was) s (standing_after Finishes s.step s.commit w.first its) w calls (begun_at_end s.step begun)
+      → Stands (is_writing_after s.step was) s (standing_after Finishes s.step s.commit w.first its) w calls (begun_at_end s.step begun)
   still_finishing s was its w calls begun e is =
       subst (λ (k : Keeping). At (is_writing_after k was) s (standing_after Finishes k s.commit w.first its) w calls (begun_at_end k begun) k) (sym e) (refl, is)
 
   finish_on : (s : KeeperState) (was : Bool) (its : Standing) (w : Writing) (calls : List Call) (begun : List BegunCommit) (ask : Ask FinishAnswer) → s.step ≡ Finishes → IsWritten shape opened first Good s its w calls begun
-      → (let a = finish_ledto s ask in Holds (is_writing_after a.step was) a (standing_after Finishes a.step s.commit w.first its) w calls (begun_at_end a.step begun))
+      → (let a = finish_ledto s ask in Stands (is_writing_after a.step was) a (standing_after Finishes a.step s.commit w.first its) w calls (begun_at_end a.step begun))
   unfolding finish_ledto
   finish_on s was its w calls begun (Done answer) e is = finished_on s was its w calls begun s.commit refl is
   finish_on s was its w calls begun ask e is = still_finishing s was its w calls begun e is
 
   finishing_on : (p : Places) (s : KeeperState) (was : Bool) (its : Standing) (w : Writing) (calls : List Call) (begun : List BegunCommit) (event : KeeperEvent) → s.step ≡ Finishes → IsWritten shape opened first Good s its w calls begun
-      → (let a = happens_at shape p s Finishes event in Holds (is_writing_after a.step was) a (standing_after Finishes a.step s.commit w.first its) w (calls_at shape s Finishes event ++ calls) (begun_at_end a.step begun))
+      → (let a = happens_at shape p s Finishes event in Stands (is_writing_after a.step was) a (standing_after Finishes a.step s.commit w.first its) w (calls_at shape s Finishes event ++ calls) (begun_at_end a.step begun))
   unfolding keeping_next keeping_given keeping_called keeping_calls
   finishing_on p s was its w calls begun BeginsTurn e is = still_finishing s was its w calls begun e is
   finishing_on p s was its w calls begun (BeginsCommit kind) e is = still_finishing s was its w calls begun e is
@@ -385,9 +451,13 @@ module _ (shape : Shape) (opened : List ℕ) (first : BegunCommit) (Good : Begun
   finishing_on p s was its w calls begun (Gets action) e is = still_finishing s was its w calls begun e is
   finishing_on p s was its w calls begun (Calls done bytes) e is = still_finishing s was its w calls begun e is
 
-  -- ---- each event
+  -- ---- a step
+  -- at the step of the call behind it, and where the keeper has come to then
   abbrev After : Places → KeeperState → Bool → Standing → Writing → List BegunCommit → KeeperEvent → Keeping → List Call → KeeperState → Type 0
-  After p s was its w begun event step calls a = Holds (is_writing_after a.step was) a (standing_after step a.step s.commit w.first its) (writing_after step event a w) calls (begun_by s step event a.step begun)
+  After p s was its w begun event step calls a = Stands (is_writing_after a.step was) a (standing_after step a.step s.commit w.first its) (writing_after step event a w) calls (begun_by s step event a.step begun)
+
+  abbrev Comes : Places → KeeperState → Bool → Standing → Writing → List BegunCommit → KeeperEvent → Keeping → List Call → KeeperState → Type 0
+  Comes p s was its w begun event step calls a = Holds (is_writing_after a.step was) a (standing_after step a.step s.commit w.first its) (writing_after step event a w) calls (begun_by s step event a.step begun)
 
   carried : (p : Places) (s : KeeperState) (was : Bool) (its : Standing) (w : Writing) (calls : List Call) (begun : List BegunCommit) (event : KeeperEvent) (step : Keeping) → s.step ≡ step
       → After p s was its w begun event step (calls_at shape s step event ++ calls) (happens_at shape p s step event) → After p s was its w begun event step (calls_of shape s event ++ calls) (keeper_happens shape p s event)
@@ -405,18 +475,128 @@ module _ (shape : Shape) (opened : List ℕ) (first : BegunCommit) (Good : Begun
       subst (λ (a : KeeperState). a.step ≡ Writes → BeginsSo shape opened first Good a (calls_at shape s Waits event ++ calls)) (sym (there shape p s event Waits e))
       (subst (λ (m : List Call). (let a = keeper_happens shape p s event in a.step ≡ Writes → BeginsSo shape opened first Good a (m ++ calls))) (sym (calls_there shape s event Waits e)) so)
 
-  pub event_on : (p : Places) (s : KeeperState) (was : Bool) (its : Standing) (w : Writing) (calls : List Call) (begun : List BegunCommit) (event : KeeperEvent) (step : Keeping) → s.step ≡ step → At was s its w calls begun step → BeginsAt p s calls event step
-      → After p s was its w begun event step (calls_of shape s event ++ calls) (keeper_happens shape p s event)
-  event_on p s was its w calls begun event (Ended told) e is so = carried p s was its w calls begun event (Ended told) e (ended_on p s was its w calls begun event told e is)
-  event_on p s was its w calls begun event Waits e is so = carried p s was its w calls begun event Waits e (waits_on p s was its w calls begun event e is (begins_at p s calls event e so))
-  event_on p s was its w calls begun event Writes e is so = carried p s was its w calls begun event Writes e (writing_on p s was its w calls begun event e is)
-  event_on p s was its w calls begun event Finishes e is so = carried p s was its w calls begun event Finishes e (finishing_on p s was its w calls begun event e is.1)
-  event_on p s was its w calls begun event Starts e is so = calm_on p s was its w _ begun event Starts e tt is
-  event_on p s was its w calls begun event Maintains e is so = calm_on p s was its w _ begun event Maintains e tt is
-  event_on p s was its w calls begun event LoadsPhase e is so = calm_on p s was its w _ begun event LoadsPhase e tt is
-  event_on p s was its w calls begun event Enters e is so = calm_on p s was its w _ begun event Enters e tt is
-  event_on p s was its w calls begun event Copies e is so = calm_on p s was its w _ begun event Copies e tt is
-  event_on p s was its w calls begun event Seeks e is so = calm_on p s was its w _ begun event Seeks e tt is
+  writes_carried : (p : Places) (s : KeeperState) (was : Bool) (its : Standing) (w : Writing) (calls : List Call) (begun : List BegunCommit) (event : KeeperEvent) → s.step ≡ Writes
+      → Comes p s was its w begun event Writes (calls_at shape s Writes event ++ calls) (happens_at shape p s Writes event) → Comes p s was its w begun event Writes (calls_of shape s event ++ calls) (keeper_happens shape p s event)
+  writes_carried p s was its w calls begun event e is =
+      subst (λ (a : KeeperState). Comes p s was its w begun event Writes (calls_of shape s event ++ calls) a) (there shape p s event Writes e)
+      (subst (λ (m : List Call). Comes p s was its w begun event Writes (m ++ calls) (happens_at shape p s Writes event)) (calls_there shape s event Writes e) is)
+
+  -- no writes begin to rest outside of the writes
+  no_rest : (p : Places) (s : KeeperState) (event : KeeperEvent) (step : Keeping) → s.rests ≡ false → s.step ≡ step → (step ≡ Writes → ⊥) → (keeper_happens shape p s event).rests ≡ false
+  no_rest p s event step none e other = by (keeper_happens shape p s event).rests refl
+    where
+      by : (rests : Bool) → (keeper_happens shape p s event).rests ≡ rests → rests ≡ false
+      by true is = let begun = begins_rest shape p s event none is in absurd (other (sym e ∙ begun.writes))
+      by false is = refl
+
+  outside : (p : Places) (s : KeeperState) (was : Bool) (its : Standing) (w : Writing) (calls : List Call) (begun : List BegunCommit) (event : KeeperEvent) (step : Keeping) → s.rests ≡ false → s.step ≡ step → (step ≡ Writes → ⊥)
+      → After p s was its w begun event step calls (keeper_happens shape p s event) → Comes p s was its w begun event step calls (keeper_happens shape p s event)
+  outside p s was its w calls begun event step none e other is = awake _ (keeper_happens shape p s event) _ _ calls _ (no_rest p s event step none e other) is
+
+  step_on : (p : Places) (s : KeeperState) (was : Bool) (its : Standing) (w : Writing) (calls : List Call) (begun : List BegunCommit) (event : KeeperEvent) (step : Keeping) → s.rests ≡ false → s.step ≡ step → At was s its w calls begun step
+      → BeginsAt p s calls event step → Comes p s was its w begun event step (calls_of shape s event ++ calls) (keeper_happens shape p s event)
+  step_on p s was its w calls begun event (Ended told) none e is so = outside p s was its w _ begun event (Ended told) none e (λ at. cc) (carried p s was its w calls begun event (Ended told) e (ended_on p s was its w calls begun event told none e is))
+  step_on p s was its w calls begun event Waits none e is so = outside p s was its w _ begun event Waits none e (λ at. cc) (carried p s was its w calls begun event Waits e (waits_on p s was its w calls begun event e is (begins_at p s calls event e so)))
+  step_on p s was its w calls begun event Writes none e is so = writes_carried p s was its w calls begun event e (writing_on p s was its w calls begun event none e is)
+  step_on p s was its w calls begun event Finishes none e is so = outside p s was its w _ begun event Finishes none e (λ at. cc) (carried p s was its w calls begun event Finishes e (finishing_on p s was its w calls begun event e is.1))
+  step_on p s was its w calls begun event Starts none e is so = outside p s was its w _ begun event Starts none e (λ at. cc) (calm_on p s was its w _ begun event Starts none e tt is)
+  step_on p s was its w calls begun event Maintains none e is so = outside p s was its w _ begun event Maintains none e (λ at. cc) (calm_on p s was its w _ begun event Maintains none e tt is)
+  step_on p s was its w calls begun event LoadsPhase none e is so = outside p s was its w _ begun event LoadsPhase none e (λ at. cc) (calm_on p s was its w _ begun event LoadsPhase none e tt is)
+  step_on p s was its w calls begun event Enters none e is so = outside p s was its w _ begun event Enters none e (λ at. cc) (calm_on p s was its w _ begun event Enters none e tt is)
+  step_on p s was its w calls begun event Copies none e is so = outside p s was its w _ begun event Copies none e (λ at. cc) (calm_on p s was its w _ begun event Copies none e tt is)
+  step_on p s was its w calls begun event Seeks none e is so = outside p s was its w _ begun event Seeks none e (λ at. cc) (calm_on p s was its w _ begun event Seeks none e tt is)
+
+  -- ---- while its writes rest
+  -- nothing is written, and no commit begins or is finished
+  rest_standing : (step after : Keeping) (found : Option Commit) (w : Writing) (its : Standing) → MayRest step → standing_after step after found w.first its ≡ its
+  rest_standing Finishes after found w its may = absurd may
+  rest_standing step after found w its may = refl
+
+  rest_writing : (step : Keeping) (event : KeeperEvent) (a : KeeperState) (w : Writing) → MayRest step → writing_after step event a w ≡ w
+  rest_writing Waits event a w may = absurd may
+  rest_writing Writes event a w may = absurd may
+  rest_writing step event a w may = refl
+
+  rest_begun : (s : KeeperState) (step : Keeping) (event : KeeperEvent) (after : Keeping) (begun : List BegunCommit) → MayRest step → begun_by s step event after begun ≡ begun
+  rest_begun s Writes event after begun may = absurd may
+  rest_begun s Finishes event after begun may = absurd may
+  rest_begun s step event after begun may = refl
+
+  serves_none : (s : KeeperState) (step : Maintaining) (done : Bool) → IsServing step → maintaining_calls shape s.maintain step done ≡ []
+  unfolding maintaining_calls
+  serves_none s part.Flushes done serving = absurd serving
+  serves_none s step done serving = refl
+
+  rest_none : (s : KeeperState) (step : Keeping) (done : Bool) → s.step ≡ step → MayRest step → (s.step ≡ Maintains → IsServing s.maintain.step) → keeping_calls shape s step done ≡ []
+  unfolding keeping_calls
+  rest_none s Maintains done e may serves = serves_none s s.maintain.step done (serves e)
+  rest_none s Writes done e may serves = absurd may
+  rest_none s step done e may serves = refl
+
+  rest_calls : (s : KeeperState) (event : KeeperEvent) → MayRest s.step → (s.step ≡ Maintains → IsServing s.maintain.step) → calls_of shape s event ≡ []
+  rest_calls s (Calls done bytes) may serves = rest_none s s.step done refl may serves
+  rest_calls s BeginsTurn may serves = refl
+  rest_calls s (BeginsCommit kind) may serves = refl
+  rest_calls s (Replies reply granted) may serves = refl
+  rest_calls s (Gets action) may serves = refl
+
+  rest_goes : (after : Keeping) → MayRest after → is_writing_after after true ≡ true
+  rest_goes (Ended (Turned true full)) may = absurd may
+  rest_goes (Ended told) may = refl
+  rest_goes Writes may = absurd may
+  rest_goes Finishes may = absurd may
+  rest_goes step may = refl
+
+  module _ (p : Places) (s : KeeperState) (was : Bool) (its : Standing) (w : Writing) (calls : List Call) (begun : List BegunCommit) (event : KeeperEvent) (rests : s.rests ≡ true) (resting : IsResting shape s w) (is : (was ≡ true) × IsWriting shape opened first Good s its w calls begun) where
+    abbrev after : KeeperState
+    after = keeper_happens shape p s event
+
+    abbrev Now : KeeperState → Type 0
+    Now a = Holds (is_writing_after a.step was) a its w calls begun
+
+    rest_still : RestsStill s after → after.rests ≡ true → Now after
+    rest_still kept still_rests =
+        subst (λ (x : Bool). At (is_writing_after after.step was) after its w calls begun (if x then Writes else after.step)) (sym still_rests)
+        (ap (λ (b : Bool). is_writing_after after.step b) is.0 ∙ rest_goes after.step kept.rests, same_writing s after its w calls begun (still_same s after kept) is.1)
+
+    taken_up : after ≡ record s { rests = false; is_granted = true; step = Writes } → Now after
+    taken_up taken =
+        let now : KeeperState = record s { rests = false; is_granted = true; step = Writes } in
+        subst Now (sym taken) (refl, same_writing s now its w calls begun (record { commit = refl; seek = refl; writes = refl; used = refl; last = refl; lost = refl }) is.1)
+
+    rest_breaks : BreaksInRest s after → after.rests ≡ false → Now after
+    rest_breaks broken none =
+        let writing = is.1 in
+        let told : KeeperTold = TurnRefused fault.Device in
+        let left : IsLeft shape opened first Good after.last its w calls begun = subst (λ (x : Finality). IsLeft shape opened first Good x its w calls begun) (sym broken.last) writing.left in
+        awake (is_writing_after after.step was) after its w calls begun none
+        (subst (λ (k : Keeping). At (is_writing_after k was) after its w calls begun k) (sym broken.step)
+        (subst (λ (b : Bool). EndedAt told after.is_broken b after.last its w calls begun) (sym is.0)
+        (subst (λ (b : Bool). EndedAt told b true after.last its w calls begun) (sym broken.broken) (refl, refl, left))))
+
+    by_end : after.rests ≡ false → EndsRest s event after → Now after
+    by_end none (inl taken) = taken_up taken
+    by_end none (inr broken) = rest_breaks broken none
+
+    rest_now : (b : Bool) → after.rests ≡ b → Now after
+    rest_now true e = rest_still (rests_still shape p s event rests resting.rests resting.serves e) e
+    rest_now false e = by_end e (rest_ends shape p s event rests resting.rests e)
+
+    rest_on : Comes p s was its w begun event s.step (calls_of shape s event ++ calls) after
+    rest_on =
+        subst (λ (x : Standing). Holds (is_writing_after after.step was) after x (writing_after s.step event after w) (calls_of shape s event ++ calls) (begun_by s s.step event after.step begun)) (sym (rest_standing s.step after.step s.commit w its resting.rests))
+        (subst (λ (x : Writing). Holds (is_writing_after after.step was) after its x (calls_of shape s event ++ calls) (begun_by s s.step event after.step begun)) (sym (rest_writing s.step event after w resting.rests))
+        (subst (λ (x : List Call). Holds (is_writing_after after.step was) after its w (x ++ calls) (begun_by s s.step event after.step begun)) (sym (rest_calls s event resting.rests resting.serves))
+        (subst (λ (x : List BegunCommit). Holds (is_writing_after after.step was) after its w calls x) (sym (rest_begun s s.step event after.step begun resting.rests)) (rest_now after.rests refl))))
+
+  -- ---- each event
+  pub event_on : (p : Places) (s : KeeperState) (was : Bool) (its : Standing) (w : Writing) (calls : List Call) (begun : List BegunCommit) (event : KeeperEvent) → (s.rests ≡ true → IsResting shape s w) → Holds was s its w calls begun → BeginsAt p s calls event s.step
+      → Comes p s was its w begun event s.step (calls_of shape s event ++ calls) (keeper_happens shape p s event)
+  event_on p s was its w calls begun event resting is so = by s.rests refl is
+    where
+      by : (rests : Bool) → s.rests ≡ rests → At was s its w calls begun (if rests then Writes else s.step) → Comes p s was its w begun event s.step (calls_of shape s event ++ calls) (keeper_happens shape p s event)
+      by true rests now = rest_on p s was its w calls begun event rests (resting rests) now
+      by false none now = step_on p s was its w calls begun event s.step none refl now so
 
   -- either no commit is written, or one is behind the newest finished one
   pub either : (was : Bool) (s : KeeperState) (its : Standing) (w : Writing) (calls : List Call) (begun : List BegunCommit) (step : Keeping) → At was s its w calls begun step
@@ -442,7 +622,7 @@ module _ (shape : Shape) (opened : List ℕ) (first : BegunCommit) (Good : Begun
       each_begun list.newest l.rest d (inl (subst Good (sym list.same) l.good)) before.each (subst (λ (x : List BegunCommit). IsIn d x) list.its is)
 
   pub known : (was : Bool) (s : KeeperState) (its : Standing) (w : Writing) (calls : List Call) (begun : List BegunCommit) → Holds was s its w calls begun → (d : BegunCommit) → IsIn d begun → Good (plain d) ⊎ (d ≡ first)
-  known was s its w calls begun holds d is = elim (either was s its w calls begun s.step holds) [
+  known was s its w calls begun holds d is = elim (either was s its w calls begun (come_to s) holds) [
     | inl none ↦ let last = none.1 in last.each d is
     | inr some ↦ let l = some.1 in known_left s.last its w calls begun l (is_called w) l.list d is
   ]

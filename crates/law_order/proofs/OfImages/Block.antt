@@ -21,8 +21,9 @@ use Rattle.law_commit.specs.Below.fkv_commit.Starting.{start_ask, start_next}
 use Rattle.law_commit.specs.Below.fkv_commit.Waiting.{wait_ask, wait_next}
 use Rattle.law_commit.specs.Below.fkv_keeper.TheKeeping.{Keeping}
 use Rattle.law_commit.specs.Below.fkv_keeper.TheKeeping.TheVariants.{Ended, Starts, Maintains, LoadsPhase, Enters, Copies, Seeks, Waits, Writes, Finishes}
-use Rattle.law_commit.specs.Below.fkv_keeper.Keeping.{KeeperState, commit_asked, turn_asked, copies, copies_next, copy_driven, copy_ledto, enter_ledto, finish_ledto, finished, keeping_called, keeping_given, keeping_next, maintain_ledto, part_begun, phase_ledto, seek_ledto, start_ledto, turned, wait_ledto, write_ledto, writes_begun, writes_called, is_copy_resting, copy_told}
+use Rattle.law_commit.specs.Below.fkv_keeper.Keeping.{KeeperState, come_to, commit_asked, must_rest, turn_asked, copies, copies_next, copy_driven, copy_ledto, enter_ledto, finish_ledto, finished, keeping_called, keeping_given, keeping_next, maintain_ledto, part_begun, phase_ledto, seek_ledto, start_ledto, turned, wait_ledto, write_ledto, writes_begun, writes_called, writes_taken_up, is_copy_resting, copy_told}
 use Rattle.law_commit.specs.Below.fkv_keeper.KeeperAsks.{keeping_calls}
+use Rattle.law_commit.proofs.Below.fkv_keeper.Shown.{BeginsRest}
 use Rattle.law_commit.specs.Below.fkv_keeper.KeeperRun.{BeginsCommit, BeginsTurn, Calls, Gets, IsOpened, KeeperEvent, Replies, begins, is_in_hand, keeper_happens, keeper_run}
 use Rattle.law_commit.specs.Below.fkv_keeper.LastCommits.{slot_place}
 use Rattle.law_commit.specs.Below.fkv_maintain.MaintainAnswer.{MaintainAnswer}
@@ -49,6 +50,7 @@ use Rattle.law_commit.specs.Below.fkv_world.OwnEvents.{keeper_events}
 use Rattle.law_commit.specs.Below.fkv_world.Runs.{World, run}
 use Rattle.law_commit.specs.Below.fkv_world.World.{Event}
 use Rattle.law_commit.proofs.Below.fkv_world.Shown.{keeper_runs}
+use Rattle.law_order.proofs.OfImages.Resting.{RestsWell, at_step, happens_well, kept_on, opened_at, opened_well}
 use Rattle.law_order.proofs.OfImages.Untouched.{AreAbove, MakesAbove, flush_calls_above}
 
 -- ---- while a commit is written, its slot and its triples lie above the block
@@ -71,7 +73,7 @@ turn_high : (s : KeeperState) → IsHigh (turn_asked s)
 turn_high s = either s.is_broken _ _ tt tt
 
 commit_high : (s : KeeperState) (kind : CommitKind) → IsHigh (commit_asked s kind)
-commit_high s kind = either s.is_broken _ _ tt tt
+commit_high s kind = either s.is_broken _ _ tt (either s.rests _ _ tt tt)
 
 begins_high : (s begun : KeeperState) (busy : Bool) → IsHigh s → IsHigh begun → IsHigh (begins s busy begun)
 begins_high s begun true one other = one
@@ -101,10 +103,14 @@ part_high p s c (Says phase.WaitPending version) granted = copies_high p s c gra
 part_high p s c (Says phase.WaitFlush version) granted = either s.has_points _ _ tt tt
 part_high p s c said granted = tt
 
-phase_high : (p : Places) (s : KeeperState) (found : Option Commit) (said : PhaseSaid) (granted : Bool) → IsHigh (phase_ledto p s found said granted)
+phase_high : (p : Places) (s : KeeperState) (found : Option Commit) (said : PhaseSaid) (granted : Bool) → s.rests ≡ false → IsHigh (phase_ledto p s found said granted)
 unfolding phase_ledto
-phase_high p s None said granted = tt
-phase_high p s (Some c) said granted = part_high p s c said granted
+phase_high p s None said granted none = tt
+phase_high p s (Some c) said granted none = by s.rests none
+  where
+    by : (rests : Bool) → rests ≡ false → IsHigh (if rests then writes_taken_up s granted else part_begun p s c said granted)
+    by true none = cc
+    by false none = part_high p s c said granted
 
 enter_high : (s : KeeperState) (ask : Ask EnterAnswer) → s.step ≡ Enters → IsHigh (enter_ledto s ask)
 unfolding enter_ledto
@@ -170,7 +176,7 @@ written_high : (s : KeeperState) (found : Option Commit) (answer : WriteAnswer) 
 unfolding write_ledto
 written_high s None answer high = tt
 written_high s (Some c) write.Written high = tt
-written_high s (Some c) write.Device high = high
+written_high s (Some c) write.Device high = either (must_rest s) (turned (record s { rests = true })) s tt high
 written_high s (Some c) (write.Broken why) high = high
 
 called_writes_high : (s : KeeperState) (done : Bool) → s.step ≡ Writes → WritesHigh Writes s.writes → IsHigh (writes_called s done)
@@ -178,18 +184,18 @@ called_writes_high s true at high = written_high (record s { writes = commit_nex
 called_writes_high s false at high = tt
 
 -- ---- each event of the keeper
-reply_high : (shape : Shape) (p : Places) (s : KeeperState) (step : Keeping) (reply : ℕ) (granted : Bool) → s.step ≡ step → WritesHigh step s.writes → IsHigh (keeping_next shape p s step reply granted)
+reply_high : (shape : Shape) (p : Places) (s : KeeperState) (step : Keeping) (reply : ℕ) (granted : Bool) → s.rests ≡ false → s.step ≡ step → WritesHigh step s.writes → IsHigh (keeping_next shape p s step reply granted)
 unfolding keeping_next
-reply_high shape p s (Ended its) reply granted at high = still s (Ended its) at tt
-reply_high shape p s Starts reply granted at high = start_high _ (start_ask (start_next s.start reply)) at
-reply_high shape p s Maintains reply granted at high = maintain_high _ (maintain_ask shape p (maintain_next shape p s.maintain reply)) at
-reply_high shape p s LoadsPhase reply granted at high = phase_high p s s.commit (phase_said reply) granted
-reply_high shape p s Enters reply granted at high = enter_high _ (enter_ask (enter_next s.enter reply)) at
-reply_high shape p s Copies reply granted at high = copy_high _ (copy_told (copy_driven s.copy reply)) at
-reply_high shape p s Seeks reply granted at high = seek_high _ (seek_ask (seek_next s.seek reply)) at
-reply_high shape p s Waits reply granted at high = wait_high shape _ (wait_ask (wait_next s.wait reply)) at
-reply_high shape p s Writes reply granted at high = still s Writes at high
-reply_high shape p s Finishes reply granted at high = finish_high _ (finish_ask s.seek.points (finish_next s.finish reply)) at
+reply_high shape p s (Ended its) reply granted none at high = still s (Ended its) at tt
+reply_high shape p s Starts reply granted none at high = start_high _ (start_ask (start_next s.start reply)) at
+reply_high shape p s Maintains reply granted none at high = maintain_high _ (maintain_ask shape p (maintain_next shape p s.maintain reply)) at
+reply_high shape p s LoadsPhase reply granted none at high = phase_high p s s.commit (phase_said reply) granted none
+reply_high shape p s Enters reply granted none at high = enter_high _ (enter_ask (enter_next s.enter reply)) at
+reply_high shape p s Copies reply granted none at high = copy_high _ (copy_told (copy_driven s.copy reply)) at
+reply_high shape p s Seeks reply granted none at high = seek_high _ (seek_ask (seek_next s.seek reply)) at
+reply_high shape p s Waits reply granted none at high = wait_high shape _ (wait_ask (wait_next s.wait reply)) at
+reply_high shape p s Writes reply granted none at high = still s Writes at high
+reply_high shape p s Finishes reply granted none at high = finish_high _ (finish_ask s.seek.points (finish_next s.finish reply)) at
 
 given_high : (shape : Shape) (p : Places) (s : KeeperState) (step : Keeping) (action : Action) → s.step ≡ step → WritesHigh step s.writes → IsHigh (keeping_given shape p s step action)
 unfolding keeping_given
@@ -202,18 +208,40 @@ called_high shape p s Maintains done bytes at high = maintain_high _ (maintain_a
 called_high shape p s Writes done bytes at high = called_writes_high s done at high
 called_high shape p s step done bytes at high = still s step at high
 
-happens_high : (shape : Shape) (p : Places) (s : KeeperState) (event : KeeperEvent) → IsHigh s → IsHigh (keeper_happens shape p s event)
+step_high : (shape : Shape) (p : Places) (s : KeeperState) (event : KeeperEvent) → s.rests ≡ false → IsHigh s → IsHigh (keeper_happens shape p s event)
 unfolding keeper_happens
-happens_high shape p s BeginsTurn high = begins_high s (turn_asked s) (is_in_hand s.step) high (turn_high s)
-happens_high shape p s (BeginsCommit kind) high = begins_high s (commit_asked s kind) (is_in_hand s.step) high (commit_high s kind)
-happens_high shape p s (Replies reply granted) high = reply_high shape p s s.step reply granted refl high
-happens_high shape p s (Gets action) high = given_high shape p s s.step action refl high
-happens_high shape p s (Calls done bytes) high = called_high shape p s s.step done bytes refl high
+step_high shape p s BeginsTurn none high = begins_high s (turn_asked s) (is_in_hand s.step) high (turn_high s)
+step_high shape p s (BeginsCommit kind) none high = begins_high s (commit_asked s kind) (is_in_hand s.step) high (commit_high s kind)
+step_high shape p s (Replies reply granted) none high = reply_high shape p s s.step reply granted none refl high
+step_high shape p s (Gets action) none high = given_high shape p s s.step action refl high
+step_high shape p s (Calls done bytes) none high = called_high shape p s s.step done bytes refl high
 
-run_high : (shape : Shape) (p : Places) (opening : KeeperState) (events : List KeeperEvent) → IsHigh opening → IsHigh (keeper_run shape p opening events)
+-- and so it is where the keeper has come to
+abbrev HighAt : KeeperState → Keeping → Type 0
+HighAt s step = WritesHigh step s.writes
+
+record StaysHigh (s : KeeperState) : Type 0 where
+  well : RestsWell s
+  high : HighAt s (come_to s)
+
+happens_high : (shape : Shape) (p : Places) (s : KeeperState) (event : KeeperEvent) → StaysHigh s → StaysHigh (keeper_happens shape p s event)
+happens_high shape p s event is = record {
+  well = happens_well shape p s event is.well;
+  high = kept_on HighAt shape p s event is.well (step_high shape p s event) resting (λ a same high. subst (λ (w : CommitWriter). WritesHigh Writes w) (sym same.writes) high)
+      (λ a broken high. subst (λ (k : Keeping). HighAt a k) (sym broken.step) tt) is.high;
+}
+  where
+    resting : (a : KeeperState) → BeginsRest s event a → HighAt s Writes → HighAt a Writes
+    resting a begun high = subst (λ (x : KeeperState). HighAt x Writes) (sym begun.same) (next_high s.writes true high)
+
+run_high : (shape : Shape) (p : Places) (opening : KeeperState) (events : List KeeperEvent) → StaysHigh opening → StaysHigh (keeper_run shape p opening events)
 unfolding keeper_run
 run_high shape p opening [] high = high
 run_high shape p opening (event ∷ before) high = happens_high shape p (keeper_run shape p opening before) event (run_high shape p opening before high)
+
+any_high : (w : CommitWriter) (step : Keeping) → WritesHigh Writes w → WritesHigh step w
+any_high w Writes high = high
+any_high w step high = tt
 
 opened_high : (s : KeeperState) → IsOpened s → IsHigh s
 opened_high s opened = at_rest s.step refl
@@ -229,6 +257,9 @@ opened_high s opened = at_rest s.step refl
     at_rest Seeks e = still s Seeks e tt
     at_rest Waits e = still s Waits e tt
     at_rest Finishes e = still s Finishes e tt
+
+opening_high : (s : KeeperState) → IsOpened s → StaysHigh s
+opening_high s opened = record { well = opened_well s opened; high = opened_at HighAt s opened (opened_high s opened) }
 
 -- ---- its calls
 gate_call_above : (place from : ℕ) (slot : List ℕ) (step : Gating) (done : Bool) → 512 ≤ place → AreAbove 512 (with_call (gate_step_call place from slot step done) [])
@@ -258,5 +289,7 @@ keeping_calls_above shape s step done high = tt
 pub slots_above : (opening : World) (events : List Event) → IsOpened opening.now.keeper → MakesAbove opening 512 events
 slots_above opening [] opened = tt
 slots_above opening (event ∷ before) opened =
-    let high : IsHigh (run opening before).now.keeper = subst IsHigh (sym (keeper_runs opening before)) (run_high opening.now.shape opening.now.places opening.now.keeper (keeper_events opening before) (opened_high opening.now.keeper opened)) in
-    (λ done. keeping_calls_above (run opening before).now.shape (run opening before).now.keeper (run opening before).now.keeper.step done high, slots_above opening before opened)
+    let s : KeeperState = (run opening before).now.keeper in
+    let is : StaysHigh s = subst StaysHigh (sym (keeper_runs opening before)) (run_high opening.now.shape opening.now.places opening.now.keeper (keeper_events opening before) (opening_high opening.now.keeper opened)) in
+    let high : HighAt s s.step = at_step HighAt s (λ step. any_high s.writes step) is.high in
+    (λ done. keeping_calls_above (run opening before).now.shape s s.step done high, slots_above opening before opened)

@@ -1,5 +1,5 @@
 -- Each commit whose writes begin in a life fits it.
-use Rattle.std.proofs.Common.{◌≡◌, inl, inr, ℕ, ◌<◌, ◌≤◌, ◌∙◌, arith, refl, sym, ap, subst, Bool, List, [], ◌∷◌, length}
+use Rattle.std.proofs.Common.{◌≡◌, inl, inr, ℕ, ◌<◌, ◌≤◌, ◌∙◌, arith, refl, sym, ap, subst, Bool, true, List, [], ◌∷◌, length}
 use Rattle.std.specs.Prelude.{Option, Some, None}
 use Rattle.fkv_base.specs.Limits.{last_of}
 use Rattle.fkv_base.specs.declared.classes.StoreClass.{StoreClass}
@@ -10,11 +10,11 @@ use Rattle.fkv_base.specs.declared.shapes.Shape.{Shape}
 use Rattle.fkv_marks.specs.Window.{InWindow}
 use Rattle.law_commit.specs.Below.fkv_commit.Commit.{Commit}
 use Rattle.law_commit.proofs.Below.fkv_commit.Shown.{last_low}
-use Rattle.law_commit.proofs.Below.fkv_keeper.Shown.{run_class}
+use Rattle.law_commit.proofs.Below.fkv_keeper.Shown.{come_behind, run_class}
 use Rattle.law_commit.specs.Below.fkv_keeper.CheckpointLaws.{IsBehindWait}
 use Rattle.law_opening.specs.Below.fkv_core.Openings.{IsOpeningWorld, beginning}
 use Rattle.law_commit.specs.Below.fkv_flush.GuardLevels.{Rises, levels_of}
-use Rattle.law_commit.specs.Below.fkv_keeper.Keeping.{Finality, KeeperState, lost_left}
+use Rattle.law_commit.specs.Below.fkv_keeper.Keeping.{Finality, KeeperState, come_to, lost_left}
 use Rattle.law_commit.specs.Below.fkv_keeper.KeeperRun.{IsOpened, KeeperEvent, keeper_run}
 use Rattle.law_commit.specs.Below.fkv_keeper.SlotLaws.{CommitHasRoom, HasRoom}
 use Rattle.law_commit.specs.Below.fkv_keeper.TheKeeping.{Keeping}
@@ -42,6 +42,7 @@ use Rattle.law_order.proofs.OfImages.LifeNamed.{AllOfLife}
 use Rattle.law_order.proofs.OfImages.LifeTails.{IsBelow, IsBelowNow, life_always, life_tails, tail_of}
 use Rattle.law_order.proofs.OfImages.LostHeld.{HandIsNewer, HoldsLost, UsesBy, left_held, run_held, run_uses}
 use Rattle.law_order.proofs.OfImages.NamedNow.{AllGood}
+use Rattle.law_order.proofs.OfImages.Resting.{at_writes, opened_at, opened_well}
 use Rattle.law_order.proofs.OfImages.WordsRead.{Always, always_map}
 use Rattle.law_order.proofs.OfImages.Tails.{AtTail, Below, Bounds, LastBelow, TakenAbove, UsedBelow}
 use Rattle.law_commit.specs.Below.law_world.Keeper.Lives.{IsLifeTold}
@@ -88,7 +89,7 @@ used_newer t s Finishes c at behind found = (let used : UsedBelow t s.used (Some
 used_newer t s step c at behind found = absurd behind
 
 hand_newer : (base least : ℕ) (s : KeeperState) → IsBelow base least s → HandIsNewer least s
-hand_newer base least s below = λ c found behind. (let newer = used_newer below.bounds s s.step c below.is behind found in let same = below.its_least in omega (arith, newer, same))
+hand_newer base least s below = λ c found behind. (let at = below.is in let newer = used_newer below.bounds s (come_to s) c at.at (come_behind s behind) found in let same = below.its_least in omega (arith, newer, same))
 
 -- a commit lies in the window of the checkpoint that it uses: a full one has made that itself
 full_window : (class : StoreClass) (checkpoint number : ℕ) → number < last_of class → checkpoint ≡ number → InWindow class checkpoint number
@@ -106,9 +107,10 @@ module _ (o : Opened) (n : Now) (flushed : ℕ) (shape : Shape) (p : Places) whe
       → NamesItsLost o n (commit_opening a c) → FitsLife o n flushed (commit_opening a c)
   fits_so a c writes found below ends room area window older lost =
       let t : Bounds = below.bounds in
-      let at : Below t a.has_points a.last a.commit × UsedBelow t a.used a.commit = subst (λ (k : Keeping). AtTail t a k) writes below.is in
+      let there = below.is in
+      let at : Below t true a.last a.commit × UsedBelow t a.used a.commit = at_writes (AtTail t) a writes there.at in
       let used : UsedBelow t a.used (Some c) = subst (λ (x : Option Commit). UsedBelow t a.used x) found at.1 in
-      let by : CommitEndsBy flushed a = subst (λ (k : Keeping). EndsAt flushed a k) writes ends in
+      let by : CommitEndsBy flushed a = at_writes (EndsAt flushed) a writes ends.ends in
       let has = room c found in
       let base = below.its_base in
       let least = below.its_least in
@@ -159,15 +161,20 @@ last_below o n t its least tail =
     let a = o.upwards in
     subst (λ (last : Finality). LastBelow t last) (sym its.its_keeper.newest) (o.some_first, omega (arith, a, tail), o.no_newer, omega (arith, least))
 
-opens_below : (o : Opened) (n : Now) (bytes : List ℕ) → IsOpeningWorld o n → IsBelowNow o.tail.0 o.number.0 (tail_of (beginning n bytes)) n.keeper
-opens_below o n bytes its =
+opens_below : (o : Opened) (n : Now) (bytes : List ℕ) → IsOpeningWorld o n → IsOpened n.keeper → IsBelowNow o.tail.0 o.number.0 (tail_of (beginning n bytes)) n.keeper
+opens_below o n bytes its opened =
     let there = tail_there o n its in
     let t : Bounds = record { base = o.tail.0; least = o.number.0; tail = word_at n.words (shared_place one.Tail); some = o.some_tail; up = omega (arith, there) } in
     let below : Below t n.keeper.has_points n.keeper.last n.keeper.commit =
     subst (λ (x : Option Commit). Below t n.keeper.has_points n.keeper.last x) (sym its.its_keeper.no_commit)
     (tt, subst (λ (b : Bool). TakenAbove b n.keeper.last None) (sym its.its_keeper.no_points) tt, last_below o n t its refl there) in
     record {
-      below = record { bounds = t; its_base = refl; its_least = refl; is = subst (λ (k : Keeping). AtTail t n.keeper k) (sym its.its_keeper.no_call) below };
+      below = record {
+        bounds = t;
+        its_base = refl;
+        its_least = refl;
+        is = record { well = opened_well n.keeper opened; at = opened_at (AtTail t) n.keeper opened (subst (λ (k : Keeping). AtTail t n.keeper k) (sym its.its_keeper.no_call) below) };
+      };
       its_tail = refl;
     }
 
@@ -182,7 +189,7 @@ life_fits o n bytes events its life room rises =
     let opening : World = beginning n bytes in
     let told = life.told in
     let opened : IsOpened n.keeper = told.is_opened in
-    let tails = life_tails opening o.tail.0 o.number.0 events (opens_below o n bytes its) (λ before event. (rises before event).tail) life.in_turn in
+    let tails = life_tails opening o.tail.0 o.number.0 events (opens_below o n bytes its opened) (λ before event. (rises before event).tail) life.in_turn in
     all_fit o n (flushed_so_far n bytes events) n.shape n.places n.keeper refl (its.its_keeper.class ∙ ap (λ (x : Shape). x.class) (sym its.its_shape)) (opened_older o n its) opened (λ past. room n.shape n.places n.keeper past opened)
     (λ event before c waits writes found. begun_fits n.shape n.places n.keeper event before c opened told.buckets told.overflow waits writes found)
     (keeper_events opening events) tails.always (life_always opening events opened (λ before event. (rises before event).flushed))

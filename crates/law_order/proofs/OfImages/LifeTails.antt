@@ -11,9 +11,9 @@ use Rattle.law_commit.specs.Below.fkv_world.OwnEvents.{keeper_events, keeper_par
 use Rattle.law_commit.specs.Below.fkv_world.Runs.{World, happens, run}
 use Rattle.law_commit.specs.Below.fkv_world.World.{Event}
 use Rattle.law_commit.proofs.Below.fkv_world.Shown.{keeper_runs_on}
-use Rattle.law_order.proofs.OfImages.EndsFlushed.{AllLoad, Ends, event_load, flushed_at, happens_ends, higher as ends_higher, opened_ends}
+use Rattle.law_order.proofs.OfImages.EndsFlushed.{AllLoad, Ends, all_higher, event_load, flushed_at, happens_ends, opening_ends}
 use Rattle.law_order.proofs.OfImages.WordsRead.{AllRead, Always, always_last, always_map, always_on, event_read, of_part}
-use Rattle.law_order.proofs.OfImages.Tails.{Bounds, IsAtTail, higher, raised, run_on}
+use Rattle.law_order.proofs.OfImages.Tails.{Bounds, IsAtTail, all_higher as tails_higher, raised, run_on}
 use Rattle.law_commit.specs.Below.law_world.Standing.Opening.{AreNumbersInTurn}
 
 abbrev pub tail_of : World → ℕ
@@ -73,7 +73,7 @@ event_tails opening base least event before high up turn past =
           bounds = raised t high more;
           its_base = below.its_base;
           its_least = below.its_least;
-          is = higher t high more (keeper_run shape p first (part ++ rest)) (keeper_run shape p first (part ++ rest)).step there;
+          is = tails_higher t high more (keeper_run shape p first (part ++ rest)) there;
         };
         its_tail = refl;
       },
@@ -101,7 +101,7 @@ run_ends most shape p s (event ∷ before) loads ends =
 pub life_always : (opening : World) (events : List Event) → IsOpened opening.now.keeper → ((before : List Event) (event : Event) → flushed_at (run opening before) ≤ flushed_at (happens (run opening before) event))
     → Always (λ (s : KeeperState). Ends (flushed_at (run opening events)) s) opening.now.shape opening.now.places opening.now.keeper (keeper_events opening events)
 unfolding run keeper_events Always
-life_always opening [] opened rises = opened_ends _ opening.now.keeper opening.now.keeper.step refl opened.none_in_hand
+life_always opening [] opened rises = opening_ends _ opening.now.keeper opened
 life_always opening (event ∷ before) opened rises =
     let w : World = run opening before in
     let shape : Shape = opening.now.shape in
@@ -112,7 +112,7 @@ life_always opening (event ∷ before) opened rises =
     let low : ℕ = flushed_at w in
     let most : ℕ = flushed_at (happens w event) in
     let past : Always (λ (s : KeeperState). Ends most s) shape p first rest =
-    always_map (λ (s : KeeperState). Ends low s) (λ (s : KeeperState). Ends most s) shape p first rest (λ s is. ends_higher low most s s.step (rises before event) is) (life_always opening before opened rises) in
+    always_map (λ (s : KeeperState). Ends low s) (λ (s : KeeperState). Ends most s) shape p first rest (λ s is. all_higher low most s (rises before event) is) (life_always opening before opened rises) in
     let loads : AllLoad most shape p (keeper_run shape p first rest) part = of_part opening before event (λ x q k events. AllLoad most x q k events) (event_load most w event (rises before event)) in
     always_on (λ (s : KeeperState). Ends most s) shape p first part rest
     (run_ends most shape p (keeper_run shape p first rest) part loads (always_last (λ (s : KeeperState). Ends most s) shape p first rest past)) past

@@ -9,7 +9,7 @@ use Rattle.law_commit.specs.Below.fkv_keeper.CheckpointLaws.{IsBehindWait, IsFin
 use Rattle.law_commit.specs.Below.fkv_keeper.Keeping.{Finality, KeeperState, lost_left}
 use Rattle.law_commit.specs.Below.fkv_keeper.KeeperRun.{IsOpened, KeeperEvent, Writing, keeper_happens, keeper_run, writing}
 use Rattle.law_commit.specs.Below.fkv_keeper.Checkpoint.{Checkpoint}
-use Rattle.law_commit.proofs.Below.fkv_keeper.Shown.{each_move, run_used}
+use Rattle.law_commit.proofs.Below.fkv_keeper.Shown.{come_behind, each_move, run_used}
 use Rattle.fkv_plane.specs.declared.places.Places.{Places}
 use Rattle.fkv_record.specs.declared.lost_ranges.LostRange.{LostRange}
 use Rattle.law_order.proofs.OfImages.WordsRead.{Always, always_last}
@@ -40,7 +40,7 @@ uses_by Full p replies w s c uses = ap (λ (x : Checkpoint). x.number.0) uses.us
 pub run_uses : (shape : Shape) (p : Places) (opening : KeeperState) (events : List KeeperEvent) (c : Commit) → IsOpened opening → IsBehindWait (keeper_run shape p opening events).step → (keeper_run shape p opening events).commit ≡ Some c
     → UsesBy c.kind (keeper_run shape p opening events) c
 run_uses shape p opening events c opened behind found =
-    let its = run_used shape p opening events opened behind in
+    let its = run_used shape p opening events opened (come_behind (keeper_run shape p opening events) behind) in
     let same : its.commit ≡ c = (let both : Some its.commit ≡ Some c = sym its.in_hand ∙ found in cc) in
     subst (λ (x : Commit). UsesBy x.kind (keeper_run shape p opening events) x) same (uses_by its.commit.kind p (copy_replies shape p opening events) (writing shape p opening events) (keeper_run shape p opening events) its.commit its.uses)
 

@@ -1,6 +1,6 @@
 -- Which commit an image names at each moment of a run.
 use Rattle.std.proofs.Common.{◌≡◌, ◌⊎◌, inl, inr, ℕ, ◌*◌, ◌≤◌, ◌∙◌, arith, refl, sym, ap, subst, Bool, true, false, List, [], ◌∷◌, ◌++◌, length}
-use Rattle.std.specs.Prelude.{⊤, Option, Some}
+use Rattle.std.specs.Prelude.{⊤, if◌then◌else◌, Option, Some}
 use Rattle.fkv_base.specs.declared.commits.CommitKind.{CommitKind}
 use Rattle.fkv_base.specs.declared.commits.CommitKind.TheVariants.{Full, Log}
 use Rattle.fkv_base.specs.declared.numbers.Version.{Version}
@@ -8,8 +8,9 @@ use Rattle.fkv_base.specs.declared.shapes.Shape.{Shape}
 use Rattle.law_commit.specs.Below.fkv_commit.Commit.{Commit}
 use Rattle.fkv_disk.specs.Bytes.{bytes_at}
 use Rattle.fkv_disk.specs.Calls.{Call, MayLeave, reads_as}
-use Rattle.law_commit.specs.Below.fkv_keeper.Keeping.{Finality, KeeperState}
+use Rattle.law_commit.specs.Below.fkv_keeper.Keeping.{Finality, KeeperState, come_to}
 use Rattle.law_commit.specs.Below.fkv_keeper.KeeperRun.{KeeperEvent, Writing, is_in_hand, keeper_run, writing}
+use Rattle.law_commit.proofs.Below.fkv_keeper.Shown.{run_rests}
 use Rattle.law_commit.specs.Below.fkv_keeper.LastCommits.{area_number, slot_place}
 use Rattle.law_commit.specs.Below.fkv_keeper.TheKeeping.{Keeping}
 use Rattle.law_commit.specs.Below.fkv_keeper.TheKeeping.TheVariants.{Ended, Waits, Writes}
@@ -213,7 +214,7 @@ module _ (shape : Shape) (opened : List ℕ) (first : BegunCommit) (Good : Begun
 
   pub named_now : StandsUncalled → ((c : BegunCommit) → Good c → c.parts.kind ≡ Full → c.parts.checkpoint.triples ≤ most_triples shape) → (was : Bool) (s : KeeperState) (its : Standing) (w : Writing) (calls : List Call) (begun : List BegunCommit) (image : List ℕ)
       → Holds shape opened first Good was s its w calls begun → SealedStands begun w.first image → MayLeave opened calls image → IsOneInForce was s.last its w.first image → TriplesStand shape s.last.checkpoint its image → Named begun image
-  named_now gates fits was s its w calls begun image holds seals left stands stand = elim (either shape opened first Good was s its w calls begun s.step holds) [
+  named_now gates fits was s its w calls begun image holds seals left stands stand = elim (either shape opened first Good was s its w calls begun (come_to s) holds) [
     | inl none ↦ named_last s.last its begun image none.1 (subst (λ (b : Bool). IsOneInForce b s.last its w.first image) none.0 stands) stand
     | inr some ↦
         let l = some.1 in
@@ -254,7 +255,9 @@ module _ (shape : Shape) (p : Places) (opened : List ℕ) (opening : KeeperState
   pub run_holds : (events : List KeeperEvent) → AreNumbersInTurn shape p opening events → AllGood shape p opening Good events
       → Holds shape opened first Good (is_writing shape p opening events) (keeper_run shape p opening events) (standing shape p opened opening events) (writing shape p opening events) (calls_made shape p opening events) (commits_begun shape p opening (first ∷ []) events)
   unfolding keeper_run is_writing standing writing calls_made commits_begun AreNumbersInTurn
-  run_holds [] turn good = at_rest opening.step told.is_opened.none_in_hand
+  run_holds [] turn good =
+      subst (λ (rests : Bool). At shape opened first Good false opening (standing_opened shape opened opening.last) (record { first = opening.writes; answers = [] }) [] (first ∷ []) (if rests then Writes else opening.step)) (sym told.is_opened.none_rest)
+      (at_rest opening.step told.is_opened.none_in_hand)
   run_holds (event ∷ before) turn good =
       event_on shape opened first Good p (keeper_run shape p opening before) (is_writing shape p opening before) (standing shape p opened opening before) (writing shape p opening before) (calls_made shape p opening before)
-      (commits_begun shape p opening (first ∷ []) before) event (keeper_run shape p opening before).step refl (run_holds before turn.1 good.1) (begins_so event before (keeper_run shape p opening before).step turn good refl)
+      (commits_begun shape p opening (first ∷ []) before) event (λ rests. run_rests shape p opening before told.is_opened rests) (run_holds before turn.1 good.1) (begins_so event before (keeper_run shape p opening before).step turn good refl)

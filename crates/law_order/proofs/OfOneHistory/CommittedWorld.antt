@@ -1,5 +1,5 @@
 -- The world of the life with two commits is one with which a new store opens: that of the worked lives, with a keeper of which all is known that a commit needs.
-use Rattle.std.proofs.Common.{◌≡◌, ℕ, List, [], ◌∷◌, true, false, refl, sym, ap}
+use Rattle.std.proofs.Common.{◌≡◌, List, [], ◌∷◌, true, false, refl, sym, ap}
 use Rattle.std.specs.Prelude.{None}
 use Rattle.fkv_base.specs.declared.classes.StoreClass.TheVariants.{Specified}
 use Rattle.fkv_base.specs.declared.numbers.Addr.{Addr}
@@ -41,6 +41,7 @@ new_keeper k = record k {
   is_broken = false;
   is_drain_full = false;
   has_finished = false;
+  rests = false;
   used = new_checkpoint;
   last = new_finality;
   lost = [];
@@ -117,6 +118,7 @@ module _ (o : Opened) (new : IsNewStore shape o) where
         none_left_out = refl;
         works = refl;
         granted = refl;
+        none_rest = refl;
       }
 
   pub committed_opens : (n : Now) (one other : SessionState) → IsOpeningWorld o n → IsOpeningWorld o (worked_now (new_keeper n.keeper) one other)

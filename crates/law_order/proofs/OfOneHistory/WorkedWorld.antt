@@ -167,6 +167,7 @@ module _ (o : Opened) (new : IsNewStore shape o) where
         none_left_out = was.none_left_out;
         works = refl;
         granted = was.granted;
+        none_rest = refl;
       }
 
   pub world_opens : (n : Now) (one other : SessionState) → IsOpeningWorld o n → IsOpeningWorld o (worked_now (resting_keeper n.keeper) one other)

@@ -8,7 +8,7 @@ use Rattle.law_commit.specs.Below.fkv_ops.Requests.{is_read}
 use Rattle.law_commit.specs.Below.law_local.Tries.OnWay.{ComesBelow}
 use Rattle.law_log.specs.Chains.{IsWithin, Logged, chain_from, first_such, has_key, head_of, value_at}
 use Rattle.law_log.specs.Enabled.{AreChains, AreEnabled, IsEnabled, IsFixed, IsLineEnabled, IsLinked, IsOpened}
-use Rattle.law_log.specs.Ghosts.{Called, FindsEntry, Ghosts, GhostEvent, HasValue, Log, NotCalled, Reading, TakesValue, Tells, Reserves, Publishes, Drops, Changes, Fixes, Walks, first_from, found, ghosts_after, ghost_run, log_after, read_called, set_at, took}
+use Rattle.law_log.specs.Ghosts.{Called, FindsEntry, Ghosts, GhostEvent, HasValue, Log, NotCalled, Reading, TakesValue, Tells, Reserves, Publishes, Drops, Changes, Fixes, Walks, first_from, found, ghosts_after, ghost_run, log_after, read_called, took}
 use Rattle.law_log.specs.Trace.{Effect, TraceLine, CallsRead}
 use Rattle.law_log.proofs.Shown.{Grows, Held, at_one, first_stays, fixed_stays, log_steps, run_held, set_else}
 use Rattle.law_order.proofs.OfReads.Touched.{AllTouch, IsItsRead, touches}

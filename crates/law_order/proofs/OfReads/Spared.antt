@@ -1,7 +1,6 @@
 -- No event of a life searches for a read that waits: polls try none again, and the call that a session has in hand is a later one.
-use Rattle.std.proofs.Common.{◌≡◌, ◌≢◌, ℕ, ◌<◌, ◌∙◌, Bool, true, false, List, [], ◌∷◌, ◌++◌, length, refl, sym, ap, subst, inl, inr, arith, append_assoc}
+use Rattle.std.proofs.Common.{◌≡◌, ◌≢◌, ℕ, ◌<◌, ◌∙◌, Bool, true, false, List, [], ◌∷◌, ◌++◌, length, refl, sym, ap, subst, inr, arith, append_assoc}
 use Rattle.std.specs.Prelude.{◌==◌, if◌then◌else◌, map, Option, None, Some, slice_get}
-use Rattle.fkv_epoch.proofs.Shown.{some_same}
 use Rattle.fkv_map.specs.declared.operations.Op.{Op}
 use Rattle.fkv_map.specs.declared.operations.Op.TheVariants.{Read}
 use Rattle.law_commit.specs.Below.fkv_ops.Requests.{is_read}
@@ -19,7 +18,7 @@ use Rattle.law_commit.specs.Below.fkv_session.Told.{Told}
 use Rattle.law_commit.specs.Below.fkv_session.Sitting.{Sitting}
 use Rattle.law_commit.specs.Below.fkv_session.Sitting.TheVariants.{Attempts, Idle, Polls}
 use Rattle.law_commit.specs.Below.fkv_world.Opened.{IsOpenedWorld}
-use Rattle.law_commit.specs.Below.fkv_world.Past.{TraceEvent, Traced}
+use Rattle.law_commit.specs.Below.fkv_world.Past.{Traced}
 use Rattle.law_commit.specs.Below.fkv_world.Runs.{World, happens, run}
 use Rattle.law_commit.specs.Below.fkv_world.World.{Event, Moves, seat_at}
 use Rattle.law_commit.proofs.Below.fkv_world.Shown.{is_over}
@@ -33,7 +32,7 @@ use Rattle.law_order.proofs.OfReads.Turns.{BeginsOne, Goes, Begins, GoesOne, Res
 use Rattle.law_commit.proofs.Below.law_refine.OfCalls.Called.{with_called}
 use Rattle.law_commit.proofs.Below.law_refine.OfCalls.Life.{AreOthers, keepers_other}
 use Rattle.law_commit.specs.Below.law_refine.Events.GhostEvents.{fixed_ghosts, ghost_events, mapped, moved_ghosts, own_ghosts, safe_at, serials_in}
-use Rattle.law_commit.specs.Below.law_refine.Events.Lines.{last_call, lines_added, number_of_call, read_in_hand, read_waiting}
+use Rattle.law_commit.specs.Below.law_refine.Events.Lines.{lines_added, read_in_hand, read_waiting}
 use Rattle.law_commit.specs.Below.law_refine.Events.Sessions.{attempt_ghosts, sitting_ghosts, step_ghosts, ticket_of, tried_ghosts, value_ghosts}
 use Rattle.law_commit.specs.Below.law_world.Runs.Added.{call_answered, told_at, told_by}
 use Rattle.law_commit.proofs.Below.law_world.OfRuns.Added.{trace_so}

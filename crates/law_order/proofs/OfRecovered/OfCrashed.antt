@@ -1,10 +1,10 @@
 -- Where no commit is being written the current one is the newest, and finished. And a new store has no key.
 use Rattle.std.proofs.Common.{◌≡◌, ◌≤◌, ◌∙◌, ℕ, zero, suc, inl, inr, arith, ap, refl, sym, subst, Bool, true, false, List, [], ◌∷◌}
-use Rattle.std.specs.Prelude.{None}
-use Rattle.law_commit.specs.Below.fkv_keeper.Keeping.{Finality, KeeperState}
+use Rattle.std.specs.Prelude.{None, if◌then◌else◌}
+use Rattle.law_commit.specs.Below.fkv_keeper.Keeping.{Finality, KeeperState, come_to}
 use Rattle.law_commit.specs.Below.fkv_keeper.KeeperTold.{KeeperTold}
 use Rattle.law_commit.specs.Below.fkv_keeper.TheKeeping.{Keeping}
-use Rattle.law_commit.specs.Below.fkv_keeper.TheKeeping.TheVariants.{Ended}
+use Rattle.law_commit.specs.Below.fkv_keeper.TheKeeping.TheVariants.{Ended, Writes}
 use Rattle.law_opening.specs.Below.fkv_opening.TheOpened.{Opened}
 use Rattle.law_commit.specs.BegunCommits.{AreInTurn, BegunCommit}
 use Rattle.law_commit.specs.HeldCommits.{AreFinished, AtEnd, AtKeeping, HaveFinished, IsAsLast}
@@ -14,9 +14,10 @@ use Rattle.law_log.specs.Trace.{IsIn}
 use Rattle.law_opening.specs.Log.OpeningLog.{cell_at, chain_down, chain_of, entry_of, logged_at, opening_log}
 use Rattle.law_order.proofs.OfRecovered.OfUses.Numbers.{newest_most}
 
-pub all_finished : (begun : List BegunCommit) (s : KeeperState) (told : KeeperTold) → s.step ≡ Ended told → s.is_broken ≡ false → AtKeeping begun s s.step → HaveFinished begun s.last
-all_finished begun s told ends works at =
-    let ended : AtEnd begun s s.is_broken = subst (λ (step : Keeping). AtKeeping begun s step) ends at in
+pub all_finished : (begun : List BegunCommit) (s : KeeperState) (told : KeeperTold) → s.rests ≡ false → s.step ≡ Ended told → s.is_broken ≡ false → AtKeeping begun s (come_to s) → HaveFinished begun s.last
+all_finished begun s told none ends works at =
+    let here : AtKeeping begun s s.step = subst (λ (rests : Bool). AtKeeping begun s (if rests then Writes else s.step)) none at in
+    let ended : AtEnd begun s s.is_broken = subst (λ (step : Keeping). AtKeeping begun s step) ends here in
     subst (λ (broken : Bool). AtEnd begun s broken) works ended
 
 pub is_newest : (begun : List BegunCommit) (last : Finality) (c : BegunCommit) → AreInTurn begun → HaveFinished begun last → IsIn c begun → ((d : BegunCommit) → IsIn d begun → d.is_finished ≡ true → d.number.0 ≤ c.number.0) → IsAsLast last c

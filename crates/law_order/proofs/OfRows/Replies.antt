@@ -1,11 +1,9 @@
 -- What a session knows of the log before a step, or a call that begins, it knows of the log behind it, by the head that it had seen until then.
-use Rattle.std.proofs.Common.{◌≡◌, ℕ, ◌≤◌, ◌∙◌, refl, arith, sym, ap, subst, Bool, true, false}
-use Rattle.std.specs.Prelude.{Some, None, if◌then◌else◌, not, ◌==◌, slice_get}
-use Rattle.std.proofs.lemmas.Bool.Decides.{nat_tests}
+use Rattle.std.proofs.Common.{◌≡◌, ℕ, ◌≤◌, ◌∙◌, refl, sym, ap, subst, Bool, true, false}
+use Rattle.std.specs.Prelude.{Some, None, if◌then◌else◌, not, slice_get}
 use Rattle.fkv_base.specs.declared.faults.Fault.TheVariants as fault
 use Rattle.fkv_map.specs.declared.operations.Call.{Call}
 use Rattle.fkv_map.specs.declared.operations.Op.{Op}
-use Rattle.fkv_map.specs.declared.operations.Op.TheVariants as op
 use Rattle.fkv_map.specs.Map.{IsReserved, is_reserved}
 use Rattle.fkv_map.proofs.Shown.{free_by_test}
 use Rattle.law_log.specs.Ghosts.{Log}

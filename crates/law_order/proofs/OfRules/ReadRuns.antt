@@ -5,7 +5,7 @@ use Rattle.fkv_map.specs.History.{content}
 use Rattle.fkv_map.specs.Map.{Map, reply_to_read}
 use Rattle.fkv_map.specs.declared.history.HistoryEntry.{HistoryEntry}
 use Rattle.fkv_map.specs.declared.operations.Reply.{Reply}
-use Rattle.law_log.specs.Trace.{Effect, TraceLine, CallsUpdate, RefusesUpdate, GivesResult, CallsRead, AnswersRead, history_of, value_in}
+use Rattle.law_log.specs.Trace.{Effect, TraceLine, CallsUpdate, RefusesUpdate, GivesResult, CallsRead, AnswersRead, history_of}
 use Rattle.law_log.specs.Ghosts.{Log, Reading, NotCalled, Called, Walks, HasValue, Ghosts, GhostEvent, Tells, FindsEntry, TakesValue, Reserves, Publishes, Drops, Changes, Fixes, found, took, read_called, set_at, ghosts_after, ghost_run}
 use Rattle.law_log.specs.Enabled.{AreEnabled, IsOpened, IsEnabled, IsLineEnabled}
 use Rattle.law_log.proofs.Shown.{HadValue, IsSound, KnowsRead, at_one, run_sound}

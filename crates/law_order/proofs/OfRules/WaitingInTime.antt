@@ -1,12 +1,11 @@
 -- A read that waits has its value settled, at a moment at which its session rests. So its answer is the value that it has by then.
-use Rattle.std.proofs.Common.{◌≡◌, ℕ, zero, suc, ◌≤◌, ◌∙◌, append_assoc, Bool, true, false, Option, List, [], ◌∷◌, ◌++◌, refl, sym, ap, subst, inl, inr}
+use Rattle.std.proofs.Common.{◌≡◌, ℕ, zero, suc, ◌≤◌, ◌∙◌, append_assoc, true, false, Option, List, [], ◌∷◌, ◌++◌, refl, sym, ap, subst}
 use Rattle.std.specs.Prelude.{None, Some, slice_get}
 use Rattle.std.specs.Option.{is_some}
-use Rattle.law_opening.specs.Below.fkv_core.Openings.{IsOpeningWorld, beginning}
+use Rattle.law_opening.specs.Below.fkv_core.Openings.{beginning}
 use Rattle.law_opening.specs.Below.fkv_filling.OpeningIndex.{opening_lists}
 use Rattle.fkv_index.specs.Slots.{entry_addr}
 use Rattle.fkv_map.specs.Map.{Map, reply_to_read}
-use Rattle.fkv_map.specs.declared.history.HistoryEntry.{HistoryEntry}
 use Rattle.fkv_map.specs.declared.operations.Reply.{Reply}
 use Rattle.law_opening.specs.Below.fkv_opening.TheOpened.{Opened}
 use Rattle.law_commit.specs.Below.fkv_ops.Requests.{is_read}
@@ -16,7 +15,6 @@ use Rattle.law_commit.specs.Below.fkv_pending.Ticket.{Ticket}
 use Rattle.law_commit.specs.Below.fkv_session.Sessions.{SessionState, is_busy}
 use Rattle.law_commit.specs.Below.fkv_session.Sitting.{Sitting}
 use Rattle.law_commit.specs.Below.fkv_session.Sitting.TheVariants.{Polls}
-use Rattle.law_commit.specs.Below.fkv_world.Past.{Traced}
 use Rattle.law_commit.specs.Below.fkv_world.Runs.{World, run}
 use Rattle.law_commit.specs.Below.fkv_world.World.{Event, Now}
 use Rattle.law_commit.specs.Below.law_local.Tries.AttemptRows.{PendingKnows}
@@ -28,16 +26,14 @@ use Rattle.law_log.specs.Enabled.{AreEnabled, IsLineEnabled, IsOpened}
 use Rattle.law_log.specs.Ghosts.{Ghosts, GhostEvent, HasValue, Log, Reading, Tells, Walks, first_from, ghost_run}
 use Rattle.law_log.specs.Trace.{AnswersRead, CallsRead, Effect, IsIn, history_of}
 use Rattle.law_log.proofs.Shown.{HadValue, Held, IsSound, KnowsRead, enabled_before, run_held, run_sound}
-use Rattle.law_opening.specs.Log.Lives.{ghosts_beside}
 use Rattle.law_opening.specs.Log.Maps.{opening_map}
 use Rattle.law_opening.specs.Log.OpeningLog.{opening_ghosts}
 use Rattle.law_order.specs.Known.Begins.{BeginsLife, home_of_world}
-use Rattle.law_order.specs.Known.Knows.{AllKnowBehind}
 use Rattle.law_order.specs.OneHistory.Beside.{HasItsHistory}
 use Rattle.law_order.specs.OneHistory.EachLife.{InEachLife, IsLife, Life}
 use Rattle.law_order.specs.Ordered.Keeps.{KeepsItsOrder, KeepsOrder}
-use Rattle.law_order.specs.Ordered.Met.{AllReadsSeek, PollsTryNoRead, SeeksItsReads}
-use Rattle.law_order.specs.Reads.Reads.{ReadsKnown, WaitsSo, readings_of}
+use Rattle.law_order.specs.Ordered.Met.{PollsTryNoRead, SeeksItsReads}
+use Rattle.law_order.specs.Reads.Reads.{readings_of}
 use Rattle.law_order.specs.Rules.InTime.{IsInTime}
 use Rattle.law_order.specs.Rules.Openings.{BeginsItsLife}
 use Rattle.law_order.specs.Rules.Ordered.{effects_so_far}

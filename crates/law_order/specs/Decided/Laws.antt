@@ -7,6 +7,7 @@ use Rattle.law_opening.specs.Below.fkv_core.Openings.{IsOpeningWorld, beginning}
 use Rattle.law_opening.specs.Below.fkv_opening.Opened.{IsStoreOf}
 use Rattle.law_opening.specs.Below.fkv_opening.TheOpened.{Opened}
 use Rattle.fkv_words.specs.PhaseWords.{phase_said}
+use Rattle.law_commit.specs.Below.fkv_keeper.Keeping.{come_to}
 use Rattle.law_commit.specs.Below.fkv_world.Runs.{World, run}
 use Rattle.law_commit.specs.Below.fkv_world.World.{Event, Now}
 use Rattle.law_log.specs.Ghosts.{Ghosts}
@@ -46,7 +47,7 @@ HadDecidedFirst opening ghosts events =
 -- and below its end, as it is written
 abbrev pub HasDecidedEnd : World → Ghosts → List Event → Type 0
 HasDecidedEnd opening ghosts events =
-    (c : Commit) → (run opening events).now.keeper.commit ≡ Some c → EndIsSafe (run opening events).now c ⊎ IsWritten (run opening events).now.keeper.step → DecidedBelow c.end.0 (life_ghosts opening ghosts events).log
+    (c : Commit) → (run opening events).now.keeper.commit ≡ Some c → EndIsSafe (run opening events).now c ⊎ IsWritten (come_to (run opening events).now.keeper) → DecidedBelow c.end.0 (life_ghosts opening ghosts events).log
 
 -- so each record from the first tail to its first address stands or was given up
 abbrev pub HasSettledFirst : World → Ghosts → List Event → Type 0
@@ -57,7 +58,7 @@ HasSettledFirst opening ghosts events =
 -- and to its end
 abbrev pub HasSettledEnd : World → Ghosts → List Event → Type 0
 HasSettledEnd opening ghosts events =
-    (c : Commit) → (run opening events).now.keeper.commit ≡ Some c → EndIsSafe (run opening events).now c ⊎ IsWritten (run opening events).now.keeper.step
+    (c : Commit) → (run opening events).now.keeper.commit ≡ Some c → EndIsSafe (run opening events).now c ⊎ IsWritten (come_to (run opening events).now.keeper)
     → (c.end.0 ≤ tail_at (run opening events).now) × SettledFrom (tail_at opening.now) c.end.0 (life_ghosts opening ghosts events).log
 
 -- each address that stands in a chain lies below the tail

@@ -7,6 +7,7 @@ use Rattle.law_order.specs.Below.fkv_core.Worlds.{WorldModel, took_place}
 use Rattle.law_order.specs.Below.fkv_core.Event as events
 use Rattle.law_order.specs.Below.fkv_core.TheTold as tells
 use Rattle.law_order.specs.Below.fkv_core.TheTold.TheVariants as told
+use Rattle.fkv_disk.specs.Kinds.{Foretold, Kind}
 use Rattle.fkv_disk.specs.Device.{IsAfter}
 use Rattle.fkv_epoch.proofs.Shown.{none_some, some_same}
 use Rattle.law_order.specs.Below.fkv_keeper.KeeperRun.{is_in_hand}
@@ -51,9 +52,9 @@ abbrev pub LeadsLives : {D : Type 0} → (D → List ℕ) → (D → List ℕ �
 LeadsLives {D} seen may_leave engine =
     (its : events.Event) (world after : WorldModel D) (said : Option tells.Told) (broken : Bool) → engine its world after said broken → IsLeading seen may_leave its world after said
 
-pub engine_leads : {D : Type 0} (honest : D → Type 0) (seen : D → List ℕ) (may_leave : D → List ℕ → Type 0) (failed : D → ℕ) (refuses : D → ℕ → Bool) (broken : D → Bool) → ((device : D) → honest device)
-    → LeadsLives seen may_leave (EngineStep honest seen may_leave failed refuses broken)
-engine_leads honest seen may_leave failed refuses broken all = λ its world after said is_broken step.
+pub engine_leads : {D : Type 0} (honest : D → Type 0) (seen : D → List ℕ) (may_leave : D → List ℕ → Type 0) (failed : D → ℕ) (refuses : D → ℕ → Bool) (expects : D → List Kind → Foretold) (broken : D → Bool) → ((device : D) → honest device)
+    → LeadsLives seen may_leave (EngineStep honest seen may_leave failed refuses expects broken)
+engine_leads honest seen may_leave failed refuses expects broken all = λ its world after said is_broken step.
     record { granted = step.0.granted; done = step.0.done; leads = step.0.life (all world.device); tells = step.0.tells }
 
 -- ---- the event of a beat

@@ -6,6 +6,7 @@ use Rattle.law_order.specs.Below.fkv_core.Worlds.{WorldModel}
 use Rattle.law_order.specs.Below.fkv_core.Event as events
 use Rattle.law_order.specs.Below.fkv_core.TheTold as tells
 use Rattle.law_order.specs.Below.fkv_core.TheTold.TheVariants as told
+use Rattle.fkv_disk.specs.Kinds.{Foretold, Kind}
 use Rattle.fkv_epoch.proofs.Shown.{none_some, some_same}
 use Rattle.fkv_map.specs.declared.operations.Call.{Call}
 use Rattle.fkv_runs.specs.Below.fkv_playing.Beats.{event_of}
@@ -39,10 +40,10 @@ GoesByRules {D} engine =
     (at : Stage) (number : ℕ) (call : Call) (world after : WorldModel D) (told : Option tells.Told) (broken : Bool) → engine (event_of at (Session number call)) world after told broken
     → IsRuled (stage_event at number call) world.now after.now told
 
-pub engine_rules : {D : Type 0} (honest : D → Type 0) (seen : D → List ℕ) (may_leave : D → List ℕ → Type 0) (failed : D → ℕ) (refuses : D → ℕ → Bool) (broken : D → Bool)
-    → GoesByRules (EngineStep honest seen may_leave failed refuses broken)
-engine_rules honest seen may_leave failed refuses broken stage.Begins number call world after told is_broken step = record { read = step.0.read; now = step.0.now; tells = step.0.tells }
-engine_rules honest seen may_leave failed refuses broken stage.Moves number call world after told is_broken step = record { read = step.0.read; now = step.0.now; tells = step.0.tells }
+pub engine_rules : {D : Type 0} (honest : D → Type 0) (seen : D → List ℕ) (may_leave : D → List ℕ → Type 0) (failed : D → ℕ) (refuses : D → ℕ → Bool) (expects : D → List Kind → Foretold) (broken : D → Bool)
+    → GoesByRules (EngineStep honest seen may_leave failed refuses expects broken)
+engine_rules honest seen may_leave failed refuses expects broken stage.Begins number call world after told is_broken step = record { read = step.0.read; now = step.0.now; tells = step.0.tells }
+engine_rules honest seen may_leave failed refuses expects broken stage.Moves number call world after told is_broken step = record { read = step.0.read; now = step.0.now; tells = step.0.tells }
 
 -- ---- where it leads
 -- whatever the device reads as, a session's step leads to the same world

@@ -36,19 +36,19 @@ use Rattle.law_world.specs.Below.fkv_manifest.WriteAnswer.TheVariants as write
 use Rattle.law_world.specs.Below.fkv_manifest.Committing.{commit_next, commit_answer}
 use Rattle.law_world.specs.Below.fkv_maintain.MaintainAnswer.{MaintainAnswer}
 use Rattle.law_world.specs.Below.fkv_maintain.MaintainAnswer.TheVariants as maintain
-use Rattle.law_world.specs.Below.fkv_maintain.Maintaining.{maintain_begun, maintain_ask, maintain_next, maintain_given, maintain_called}
+use Rattle.law_world.specs.Below.fkv_maintain.Maintaining.{MaintainState, maintain_ask, maintain_next, maintain_given, maintain_called}
 use Rattle.law_world.specs.Below.fkv_keeper.KeeperTold.{KeeperTold}
 use Rattle.law_world.specs.Below.fkv_keeper.KeeperTold.TheVariants.{TurnRefused, CommitRefused}
 use Rattle.law_world.specs.Below.fkv_keeper.TheKeeping.{Keeping}
 use Rattle.law_world.specs.Below.fkv_keeper.TheKeeping.TheVariants.{Ended, Starts, Maintains, LoadsPhase, Enters, Copies, Seeks, Waits, Writes, Finishes}
-use Rattle.law_world.specs.Below.fkv_keeper.Keeping.{KeeperState, copy_asked, device_passed, write_asked, keeping_ask, keeper_ask, ended, turned, commit_asked, turn_asked, start_ledto, maintain_ledto, copies, copies_next, part_begun, phase_ledto, enter_ledto, copy_ledto, seek_ledto, writes_begun, wait_ledto, finished, finish_ledto, copy_driven, keeping_next, keeping_given, write_ledto, writes_called, keeping_called, copy_taken, is_copy_resting, asked_for}
+use Rattle.law_world.specs.Below.fkv_keeper.Keeping.{KeeperState, copy_asked, device_passed, write_asked, keeping_ask, keeper_ask, ended, turned, commit_asked, turn_asked, start_ledto, maintain_ledto, copies, copies_next, parts_begun, part_begun, writes_taken_up, phase_ledto, enter_ledto, copy_ledto, seek_ledto, writes_begun, wait_ledto, finished, finish_ledto, copy_driven, keeping_next, keeping_given, must_rest, write_ledto, writes_called, keeping_called, copy_taken, is_copy_resting, asked_for}
 use Rattle.law_world.specs.Below.fkv_keeper.KeeperRun.{KeeperEvent, BeginsTurn, BeginsCommit, Replies, Gets, Calls, IsOpened, is_in_hand, begins, keeper_happens, keeper_run}
 use Rattle.law_refine.specs.Mail.Servers.{keeper_serving}
 use Rattle.law_refine.specs.Footprint.{Part, ThePhase, HasSeats, Spares}
 use Rattle.law_refine.proofs.Footprint.Latching.{passed_spares}
 use Rattle.law_refine.proofs.Footprint.Serves.{IsServedNot}
 use Rattle.law_refine.proofs.Footprint.Commits.{IsStartSparing, start_stores, start_spares, start_next_spares, start_begun_spares, IsEnterSparing, enter_spares, enter_next_spares, enter_begun_spares, IsSeekSparing, seek_stores, seek_spares, seek_next_spares, seek_begun_spares, wait_spares, FinishBounds, IsStoredNot, finish_stores, finish_spares, finish_next_spares, finish_begun_spares}
-use Rattle.law_refine.proofs.Footprint.Maintains.{IsMaintainSparing, maintain_stores, maintain_spares, maintain_next_spares, maintain_given_spares, maintain_called_spares, maintain_begun_spares}
+use Rattle.law_refine.proofs.Footprint.Maintains.{IsMaintainSparing, maintain_stores, maintain_spares, maintain_next_spares, maintain_given_spares, maintain_called_spares, maintain_begun_spares, serving_begun_spares}
 
 -- the machine of its step keeps to its bounds
 abbrev pub KeeperBounds : ℕ → KeeperState → Keeping → Type 0
@@ -163,7 +163,10 @@ module _ (count : ℕ) where
   phase_spares : (p : Places) (n : ℕ) (s : KeeperState) (found : Option Commit) (said : PhaseSaid) (granted : Bool) → s.finish.sessions ≡ count → IsKeeperSparing n count (phase_ledto p s found said granted)
   unfolding phase_ledto
   phase_spares p n s None said granted counts = ended_spares n s _ counts
-  phase_spares p n s (Some c) said granted counts = part_spares p n s c said granted counts
+  phase_spares p n s (Some c) said granted counts =
+      either_spares s.rests n (writes_taken_up s granted) (part_begun p s c said granted)
+      (either_spares granted n (record s { rests = false; is_granted = true; step = Writes }) (turned (record s { is_granted = false })) (record { counts = counts; bounds = tt }) (record { counts = counts; bounds = tt }))
+      (part_spares p n s c said granted counts)
 
   entered_spares : (n : ℕ) (s : KeeperState) (ask : Ask EnterAnswer) → s.step ≡ Enters → s.finish.sessions ≡ count → IsEnterSparing s.enter → IsKeeperSparing n count (enter_ledto s ask)
   unfolding enter_ledto
@@ -231,7 +234,7 @@ module _ (count : ℕ) where
   unfolding write_ledto
   written_spares n s None answer at counts = ended_spares n s _ counts
   written_spares n s (Some c) write.Written at counts = record { counts = counts; bounds = finish_begun_spares s.finish c.number }
-  written_spares n s (Some c) write.Device at counts = stays_spares n s Writes at counts tt
+  written_spares n s (Some c) write.Device at counts = either_spares (must_rest s) n (turned (record s { rests = true })) s (record { counts = counts; bounds = tt }) (stays_spares n s Writes at counts tt)
   written_spares n s (Some c) (write.Broken why) at counts = stays_spares n s Writes at counts tt
 
   writes_called_spares : (n : ℕ) (s : KeeperState) (done : Bool) → s.step ≡ Writes → s.finish.sessions ≡ count → IsKeeperSparing n count (writes_called s done)
@@ -245,15 +248,19 @@ module _ (count : ℕ) where
   called_spares shape p n s step done bytes at counts bounds = stays_spares n s step at counts bounds
 
   -- what is begun
-  turn_spares : (n : ℕ) (s : KeeperState) → s.finish.sessions ≡ count → IsKeeperSparing n count (turn_asked s)
-  turn_spares n s counts =
-      either_spares s.is_broken n (ended s (TurnRefused fault.Broken)) (record s { maintain = maintain_begun s.maintain; is_drain_full = false; step = Maintains }) (ended_spares n s _ counts)
-      (record { counts = counts; bounds = maintain_begun_spares n s.maintain })
+  parts_spares : (shape : Shape) (rests : Bool) (m : MaintainState) → IsMaintainSparing shape.sessions (parts_begun rests m)
+  parts_spares shape true m = serving_begun_spares shape m
+  parts_spares shape false m = maintain_begun_spares shape.sessions m
+
+  turn_spares : (shape : Shape) (s : KeeperState) → s.finish.sessions ≡ count → IsKeeperSparing shape.sessions count (turn_asked s)
+  turn_spares shape s counts =
+      either_spares s.is_broken shape.sessions (ended s (TurnRefused fault.Broken)) (record s { maintain = parts_begun s.rests s.maintain; is_drain_full = false; step = Maintains }) (ended_spares shape.sessions s _ counts)
+      (record { counts = counts; bounds = parts_spares shape s.rests s.maintain })
 
   commit_spares : (n : ℕ) (s : KeeperState) (kind : CommitKind) → s.finish.sessions ≡ count → IsKeeperSparing n count (commit_asked s kind)
   commit_spares n s kind counts =
-      either_spares s.is_broken n (ended s (CommitRefused fault.Broken)) (record s { start = start_begun s.start (asked_for s kind); step = Starts }) (ended_spares n s _ counts)
-      (record { counts = counts; bounds = start_begun_spares s kind })
+      either_spares s.is_broken n (ended s (CommitRefused fault.Broken)) (if s.rests then ended s (CommitRefused fault.CommitRunning) else record s { start = start_begun s.start (asked_for s kind); step = Starts }) (ended_spares n s _ counts)
+      (either_spares s.rests n (ended s (CommitRefused fault.CommitRunning)) (record s { start = start_begun s.start (asked_for s kind); step = Starts }) (ended_spares n s _ counts) (record { counts = counts; bounds = start_begun_spares s kind }))
 
   begins_spares : (n : ℕ) (s : KeeperState) (busy : Bool) (begun : KeeperState) → IsKeeperSparing n count s → IsKeeperSparing n count begun → IsKeeperSparing n count (begins s busy begun)
   begins_spares n s true begun one other = one
@@ -261,7 +268,7 @@ module _ (count : ℕ) where
 
   happens_spares : (shape : Shape) (p : Places) (s : KeeperState) (event : KeeperEvent) → IsKeeperSparing shape.sessions count s → IsKeeperSparing shape.sessions count (keeper_happens shape p s event)
   unfolding keeper_happens
-  happens_spares shape p s BeginsTurn its = begins_spares shape.sessions s (is_in_hand s.step) (turn_asked s) its (turn_spares shape.sessions s its.counts)
+  happens_spares shape p s BeginsTurn its = begins_spares shape.sessions s (is_in_hand s.step) (turn_asked s) its (turn_spares shape s its.counts)
   happens_spares shape p s (BeginsCommit kind) its = begins_spares shape.sessions s (is_in_hand s.step) (commit_asked s kind) its (commit_spares shape.sessions s kind its.counts)
   happens_spares shape p s (Replies reply granted) its = next_spares shape p s s.step reply granted refl its.counts its.bounds
   happens_spares shape p s (Gets action) its = given_spares shape p shape.sessions s s.step action refl its.counts its.bounds

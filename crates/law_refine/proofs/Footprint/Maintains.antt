@@ -21,7 +21,7 @@ use Rattle.law_world.specs.Below.fkv_log.Shifting.{shift_next}
 use Rattle.law_world.specs.Below.fkv_log.Turning.{turn_next}
 use Rattle.law_world.specs.Below.fkv_maintain.TheMaintaining.{Maintaining}
 use Rattle.law_world.specs.Below.fkv_maintain.TheMaintaining.TheVariants.{Through, Spent, Broken, Scans, Claims, Flushes, Shifts, Turns, Serves}
-use Rattle.law_world.specs.Below.fkv_maintain.Maintaining.{MaintainState, maintain_begun, device_asked, maintaining_ask, maintain_ask, scan_ledto, claim_ledto, flush_ledto, shift_ledto, serve_ledto, serve_begun, turn_ledto, maintaining_next, maintain_next, maintaining_given, maintain_given, maintaining_called, maintain_called}
+use Rattle.law_world.specs.Below.fkv_maintain.Maintaining.{MaintainState, maintain_begun, maintain_serving as serving_begun, device_asked, maintaining_ask, maintain_ask, scan_ledto, claim_ledto, flush_ledto, shift_ledto, serve_ledto, serve_begun, turn_ledto, maintaining_next, maintain_next, maintaining_given, maintain_given, maintaining_called, maintain_called}
 use Rattle.law_refine.specs.Mail.Servers.{maintain_serving}
 use Rattle.law_refine.specs.Footprint.{Part, ThePhase, HasSeats, Spares, stores_phase}
 use Rattle.law_refine.proofs.Footprint.Latching.{passed_spares}
@@ -147,3 +147,6 @@ maintain_called_spares shape p n s done bytes bounds = called_spares shape p n s
 
 pub maintain_begun_spares : (n : ℕ) (s : MaintainState) → IsMaintainSparing n (maintain_begun s)
 maintain_begun_spares n s = tt
+
+pub serving_begun_spares : (shape : Shape) (s : MaintainState) → IsMaintainSparing shape.sessions (serving_begun s)
+serving_begun_spares shape s = shape.limits.some_session

@@ -23,7 +23,7 @@ use Rattle.law_world.specs.Below.fkv_keeper.KeeperTold.TheVariants.{Device}
 use Rattle.law_world.specs.Below.fkv_keeper.TheKeeping.{Keeping}
 use Rattle.law_world.specs.Below.fkv_keeper.TheKeeping.TheVariants.{Ended, Maintains}
 use Rattle.law_world.specs.Below.fkv_keeper.KeeperRun.{KeeperEvent, Replies, Gets, Calls, is_in_hand, keeper_happens, keeper_run}
-use Rattle.law_world.specs.Below.fkv_keeper.Keeping.{KeeperState, end_told, turn_over, device_passed, keeping_ask, keeper_ask, keeper_next, keeper_called, maintain_ledto, keeping_next, keeping_called}
+use Rattle.law_world.specs.Below.fkv_keeper.Keeping.{KeeperState, end_told, parts_begun, turn_over, device_passed, keeping_ask, keeper_ask, keeper_next, keeper_called, maintain_ledto, keeping_next, keeping_called}
 use Rattle.law_world.specs.Below.fkv_world.Moves.{Near}
 use Rattle.law_world.specs.Below.fkv_world.OwnEvents.{keeper_got, keeper_slots, keeper_steps}
 use Rattle.law_world.proofs.Below.fkv_world.Shown.{keeper_runs_on}
@@ -108,11 +108,16 @@ serves_none s other = by_step s.step other
     by_step Maintains e = by_part s.maintain.step e
     by_step step e = refl
 
+-- as a turn begins, whether or not it serves alone
+parts_idle : (rests : Bool) (m : MaintainState) → PartIsIdle (parts_begun rests m)
+parts_idle true m = tt
+parts_idle false m = tt
+
 -- outside of a turn's last part: at most it comes to the first mailbox
 keeper_idle : (shape : Shape) (p : Places) (s : KeeperState) (event : KeeperEvent) → is_at_serve s s.step ≡ false → IsIdle (serving_of (keeper_happens shape p s event))
 keeper_idle shape p s event other =
     let a : KeeperState = keeper_happens shape p s event in
-    turn_idle a a.step (happens_with PartIsIdle shape p s event (not_serving s s.step other) tt
+    turn_idle a a.step (happens_with PartIsIdle shape p s event (not_serving s s.step other) (parts_idle s.rests s.maintain)
     (λ at next. part_idle shape p s.maintain next (subst (λ (x : Keeping). is_at_serve s x ≡ false) at other)))
 
 no_run : (shape : Shape) (p : Places) (s : KeeperState) → keeper_run shape p s [] ≡ s

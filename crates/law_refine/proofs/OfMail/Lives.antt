@@ -4,14 +4,13 @@ use Rattle.std.specs.Prelude.{if◌then◌else◌, slice_get}
 use Rattle.fkv_base.specs.declared.faults.Fault.TheVariants as fault
 use Rattle.fkv_base.specs.declared.commits.CommitKind.{CommitKind}
 use Rattle.law_world.specs.Below.fkv_commit.Starting.{start_begun}
-use Rattle.law_world.specs.Below.fkv_maintain.Maintaining.{maintain_begun}
 use Rattle.law_world.specs.Below.fkv_flush.TheServing.{Serving}
 use Rattle.law_world.specs.Below.fkv_flush.TheServing.TheVariants as serve
 use Rattle.law_world.specs.Below.fkv_keeper.KeeperTold.TheVariants.{TurnRefused, CommitRefused}
 use Rattle.law_world.specs.Below.fkv_keeper.TheKeeping.{Keeping}
 use Rattle.law_world.specs.Below.fkv_keeper.TheKeeping.TheVariants.{Ended, Starts, Maintains}
 use Rattle.law_world.specs.Below.fkv_keeper.KeeperRun.{is_in_hand}
-use Rattle.law_world.specs.Below.fkv_keeper.Keeping.{KeeperState, ended, commit_asked, turn_asked, asked_for}
+use Rattle.law_world.specs.Below.fkv_keeper.Keeping.{KeeperState, ended, commit_asked, parts_begun, turn_asked, asked_for}
 use Rattle.law_world.specs.Below.fkv_pending.MailAnswer.TheVariants.{NotReady}
 use Rattle.law_world.specs.Below.fkv_pending.TheMailing.TheVariants as mailing
 use Rattle.law_world.specs.Below.fkv_pending.MailWorld.{mailbox_of, FindsState, MailWorld, mail_run}
@@ -21,15 +20,16 @@ use Rattle.law_world.specs.Below.fkv_world.Runs.{World, read_by_keeper, happens,
 use Rattle.law_world.specs.Below.fkv_world.World.{Event, Calls, Moves, Commits, Turns, KeeperMoves, Crashes, Now, life_goes}
 use Rattle.law_world.proofs.Below.fkv_world.Shown.{is_over, lives}
 use Rattle.law_refine.specs.Mail.MailEvents.{called_events, moved_events, life_events, mail_events, mapped}
-use Rattle.law_refine.specs.Mail.Servers.{serving_of, keeper_serving, KeepsUp}
+use Rattle.law_refine.specs.Mail.Servers.{maintain_serving, serving_of, keeper_serving, KeepsUp}
 use Rattle.law_refine.specs.Mail.Shows.{IsPermitted, IsOpened, Shows, mail_opening, seen_by_mailbox}
 use Rattle.law_refine.proofs.OfMail.Permitted.{is_permitted, broken_rests, its_seat}
 use Rattle.law_refine.proofs.OfMail.KeeperKeeps.{FindsAsked}
+use Rattle.law_refine.proofs.OfMail.KeeperServes.{IsIdle}
 use Rattle.law_refine.proofs.OfMail.MailSteps.{runs_on}
 use Rattle.law_refine.proofs.OfMail.SessionSits.{idle_sits, sits_far}
 use Rattle.law_refine.proofs.OfMail.Worlds.{Holds, called_holds, moved_holds, keeper_holds, asked_holds}
 
--- what is asked of the keeper begins no last part of a turn
+-- no last part of a turn is under way where something is asked of the keeper
 idle_serving : (s : KeeperState) → is_in_hand s.step ≡ false → serving_of s ≡ serve.AtRest
 idle_serving s idle = by_step s.step idle
   where
@@ -37,25 +37,32 @@ idle_serving s idle = by_step s.step idle
     by_step (Ended its) e = refl
     by_step step e = cc
 
-either_rests : (c : Bool) (a b : KeeperState) → serving_of a ≡ serve.AtRest → serving_of b ≡ serve.AtRest → serving_of (if c then a else b) ≡ serve.AtRest
-either_rests true a b one other = one
-either_rests false a b one other = other
+-- and what is asked for has found nothing yet
+either_idle : (c : Bool) (a b : KeeperState) → IsIdle (serving_of a) → IsIdle (serving_of b) → IsIdle (serving_of (if c then a else b))
+either_idle true a b one other = one
+either_idle false a b one other = other
 
 either_broken : (c before : Bool) (a b : KeeperState) → a.is_broken ≡ before → b.is_broken ≡ before → (if c then a else b).is_broken ≡ before
 either_broken true before a b one other = one
 either_broken false before a b one other = other
 
-commit_rests : (s : KeeperState) (kind : CommitKind) → serving_of (commit_asked s kind) ≡ serve.AtRest
-commit_rests s kind = either_rests s.is_broken (ended s (CommitRefused fault.Broken)) (record s { start = start_begun s.start (asked_for s kind); step = Starts }) refl refl
+commit_idle : (s : KeeperState) (kind : CommitKind) → IsIdle (serving_of (commit_asked s kind))
+commit_idle s kind = either_idle s.is_broken (ended s (CommitRefused fault.Broken)) (if s.rests then ended s (CommitRefused fault.CommitRunning) else record s { start = start_begun s.start (asked_for s kind); step = Starts }) tt (either_idle s.rests (ended s (CommitRefused fault.CommitRunning)) (record s { start = start_begun s.start (asked_for s kind); step = Starts }) tt tt)
 
 commit_broken : (s : KeeperState) (kind : CommitKind) → (commit_asked s kind).is_broken ≡ s.is_broken
-commit_broken s kind = either_broken s.is_broken s.is_broken (ended s (CommitRefused fault.Broken)) (record s { start = start_begun s.start (asked_for s kind); step = Starts }) refl refl
+commit_broken s kind =
+    either_broken s.is_broken s.is_broken (ended s (CommitRefused fault.Broken)) (if s.rests then ended s (CommitRefused fault.CommitRunning) else record s { start = start_begun s.start (asked_for s kind); step = Starts }) refl
+    (either_broken s.rests s.is_broken (ended s (CommitRefused fault.CommitRunning)) (record s { start = start_begun s.start (asked_for s kind); step = Starts }) refl refl)
 
-turn_rests : (s : KeeperState) → serving_of (turn_asked s) ≡ serve.AtRest
-turn_rests s = either_rests s.is_broken (ended s (TurnRefused fault.Broken)) (record s { maintain = maintain_begun s.maintain; is_drain_full = false; step = Maintains }) refl refl
+turn_idle : (s : KeeperState) → IsIdle (serving_of (turn_asked s))
+turn_idle s = either_idle s.is_broken (ended s (TurnRefused fault.Broken)) (record s { maintain = parts_begun s.rests s.maintain; is_drain_full = false; step = Maintains }) tt (parts_idle s.rests)
+  where
+    parts_idle : (rests : Bool) → IsIdle (maintain_serving (parts_begun rests s.maintain) (parts_begun rests s.maintain).step)
+    parts_idle true = tt
+    parts_idle false = tt
 
 turn_broken : (s : KeeperState) → (turn_asked s).is_broken ≡ s.is_broken
-turn_broken s = either_broken s.is_broken s.is_broken (ended s (TurnRefused fault.Broken)) (record s { maintain = maintain_begun s.maintain; is_drain_full = false; step = Maintains }) refl refl
+turn_broken s = either_broken s.is_broken s.is_broken (ended s (TurnRefused fault.Broken)) (record s { maintain = parts_begun s.rests s.maintain; is_drain_full = false; step = Maintains }) refl refl
 
 -- each event
 goes_holds : (v : World) (session : ℕ) (w : MailWorld) (past : MailPast) (event : Event) → v.now.crashed ≡ false → session < v.now.places.sessions → IsPermitted v.now session event → (v.now.keeper.is_broken ≡ true → is_in_hand v.now.keeper.step ≡ false)
@@ -68,10 +75,10 @@ goes_holds v session w past (Moves number) alive seated permitted rests holds so
 goes_holds v session w past (KeeperMoves granted done) alive seated permitted rests holds sound = keeper_holds v session w past granted done alive rests holds sound seated permitted
 goes_holds v session w past (Commits kind) alive seated permitted rests holds sound =
     subst (λ (n : Now). Holds n session w) (sym (lives v (Commits kind) alive))
-    (asked_holds v.now session w (commit_asked v.now.keeper kind) holds (commit_rests v.now.keeper kind) (λ works. sym (commit_broken v.now.keeper kind) ∙ works) (λ idle. idle_serving v.now.keeper idle))
+    (asked_holds v.now session w (commit_asked v.now.keeper kind) holds (commit_idle v.now.keeper kind) (λ works. sym (commit_broken v.now.keeper kind) ∙ works) (λ idle. idle_serving v.now.keeper idle))
 goes_holds v session w past Turns alive seated permitted rests holds sound =
     subst (λ (n : Now). Holds n session w) (sym (lives v Turns alive))
-    (asked_holds v.now session w (turn_asked v.now.keeper) holds (turn_rests v.now.keeper) (λ works. sym (turn_broken v.now.keeper) ∙ works) (λ idle. idle_serving v.now.keeper idle))
+    (asked_holds v.now session w (turn_asked v.now.keeper) holds (turn_idle v.now.keeper) (λ works. sym (turn_broken v.now.keeper) ∙ works) (λ idle. idle_serving v.now.keeper idle))
 goes_holds v session w past Crashes alive seated permitted rests holds sound =
     subst (λ (n : Now). Holds n session w) (sym (lives v Crashes alive)) (record { session_same = holds.session_same; words = holds.words; sits = holds.sits; serves = holds.serves; finds = holds.finds })
 

@@ -360,9 +360,9 @@ module _ (v : World) (session : ℕ) (w : MailWorld) (past : MailPast) (granted 
       by_serving false e = serves_other e seated (permitted e)
 
 -- a turn, or a commit, is asked for
-pub asked_holds : (n : Now) (session : ℕ) (w : MailWorld) (begun_keeper : KeeperState) → Holds n session w → serving_of begun_keeper ≡ serve.AtRest → (begun_keeper.is_broken ≡ false → n.keeper.is_broken ≡ false)
+pub asked_holds : (n : Now) (session : ℕ) (w : MailWorld) (begun_keeper : KeeperState) → Holds n session w → IsIdle (serving_of begun_keeper) → (begun_keeper.is_broken ≡ false → n.keeper.is_broken ≡ false)
     → (is_in_hand n.keeper.step ≡ false → serving_of n.keeper ≡ serve.AtRest) → Holds (record n { keeper = keeper_asked n.keeper begun_keeper }) session w
-asked_holds n session w begun_keeper holds at_rest worked idle = by_hand (is_in_hand n.keeper.step) refl
+asked_holds n session w begun_keeper holds at_first worked idle = by_hand (is_in_hand n.keeper.step) refl
   where
     by_hand : (c : Bool) → is_in_hand n.keeper.step ≡ c → Holds (record n { keeper = if c then n.keeper else begun_keeper }) session w
     by_hand true e = record { session_same = holds.session_same; words = holds.words; sits = holds.sits; serves = holds.serves; finds = holds.finds }
@@ -371,7 +371,7 @@ asked_holds n session w begun_keeper holds at_rest worked idle = by_hand (is_in_
       words = holds.words;
       sits = holds.sits;
       serves = λ works.
-          let keeps : KeepsUp session serve.AtRest w.keeping = subst (λ (x : Serving). KeepsUp session x w.keeping) (idle e) (holds.serves (worked works)) in
-          subst (λ (x : Serving). KeepsUp session x w.keeping) (sym at_rest) keeps;
-      finds = λ works. subst (λ (x : Serving). FindsAsked session x (mailbox_of n.words session)) (sym at_rest) tt;
+          let none : w.keeping ≡ FindsState = subst (λ (x : Serving). KeepsUp session x w.keeping) (idle e) (holds.serves (worked works)) in
+          subst (λ (x : Keeping). KeepsUp session (serving_of begun_keeper) x) (sym none) (idle_keeps session (serving_of begun_keeper) at_first);
+      finds = λ works. idle_finds session (serving_of begun_keeper) (mailbox_of n.words session) at_first;
     }

@@ -3,7 +3,7 @@ use Rattle.std.proofs.Common.{◌≡◌, ◌≢◌, ◌⊎◌, ℕ, ◌<◌, ◌
 use Rattle.std.specs.Prelude.{Option, Some, None, slice_get, nat_lt, nat_le, not, ◌==◌, ◌&&◌, if◌then◌else◌}
 use Rattle.std.proofs.lemmas.Bool.Decides.{nat_tests}
 use Rattle.fkv_map.specs.declared.operations.Call.{Call}
-use Rattle.fkv_epoch.specs.EpochWorld.{ToScan, is_at_rest, own_epoch}
+use Rattle.fkv_epoch.specs.EpochWorld.{is_at_rest, own_epoch}
 use Rattle.fkv_epoch.proofs.Shown.{same_or, some_same}
 use Rattle.fkv_plane.specs.declared.places.Places.{Places}
 use Rattle.fkv_plane.specs.Asked.{word_at}
@@ -11,7 +11,7 @@ use Rattle.fkv_plane.specs.Places.{frames_start}
 use Rattle.law_world.specs.Below.fkv_flush.GuardCalm.{IsOther}
 use Rattle.law_world.specs.Below.fkv_flush.Guarded.{event_writes, IsPermittedEvent, ArePermittedEvents}
 use Rattle.law_world.specs.Below.fkv_flush.GuardWorld as guard
-use Rattle.law_world.specs.Below.fkv_flush.GuardWorld.{Actor, Work, GuardWorld, GuardEvent, ToDo, Begins, Resumes, Publishes, Updates, RaisesReadOnly, RaisesFor, Changes, guard_happens, guard_run, is_idle, may_update}
+use Rattle.law_world.specs.Below.fkv_flush.GuardWorld.{Actor, Work, GuardWorld, GuardEvent, Begins, Resumes, Publishes, Updates, RaisesReadOnly, RaisesFor, Changes, guard_happens, guard_run, is_idle, may_update}
 use Rattle.law_world.proofs.Below.fkv_flush.Shown.{IsSound, Spares, unwritten}
 use Rattle.law_world.specs.Below.fkv_keeper.TheKeeping.{Keeping}
 use Rattle.law_world.specs.Below.fkv_keeper.TheKeeping.TheVariants as keeping
@@ -23,7 +23,7 @@ use Rattle.law_world.specs.Below.fkv_maintain.Maintaining.{MaintainState}
 use Rattle.law_world.specs.Below.fkv_session.Sessions.{SessionState, is_busy, session_begun}
 use Rattle.law_world.specs.GuardSessions.Sessions.{sitting_onward}
 use Rattle.law_world.specs.GuardSessions.Steps.{onward_events}
-use Rattle.law_world.specs.GuardKeeper.KeeperEvents.{keeper_move_events, turn_asked_events}
+use Rattle.law_world.specs.GuardKeeper.KeeperEvents.{keeper_move_events, turn_asked_events, turn_task}
 use Rattle.law_world.specs.GuardKeeper.KeeperShown.{keeping_work}
 use Rattle.law_world.specs.GuardKeeper.MaintainShown.{maintaining_work}
 use Rattle.law_world.specs.Below.fkv_world.Moves.{session_moved}
@@ -174,7 +174,7 @@ called_none n w place number call (Some s) its = by_test (is_busy s.step) its
 asked_none : (w : GuardWorld) (place a : ℕ) (s : KeeperState) → Writes w place (turn_asked_events a s) → ⊥
 asked_none w place a s its = by_tests (is_in_hand s.step) s.is_broken its
   where
-    by_tests : (b c : Bool) → Writes w place (if b then [] else (if c then [] else Begins a (ToDo ToScan) ∷ [])) → ⊥
+    by_tests : (b c : Bool) → Writes w place (if b then [] else (if c then [] else Begins a (turn_task s.rests) ∷ [])) → ⊥
     by_tests true c its = its
     by_tests false true its = its
     by_tests false false (inl e) = writes_none place e

@@ -1,6 +1,6 @@
 -- A step of a commit that copies the index, waits, is written or finishes, as the keeper makes it.
 use Rattle.std.proofs.Common.{◌≡◌, ℕ, List, [], refl, ap, sym, subst, ◌∙◌, Bool, true, false}
-use Rattle.std.specs.Prelude.{Option, Some, None, slice_get, ◌+◌}
+use Rattle.std.specs.Prelude.{Option, Some, None, slice_get, ◌+◌, if◌then◌else◌}
 use Rattle.fkv_index.specs.Slots.{bucket_slots}
 use Rattle.std.proofs.lemmas.List.{set-get_or}
 use Rattle.fkv_base.specs.declared.numbers.Serial.{Serial}
@@ -29,7 +29,7 @@ use Rattle.fkv_manifest.specs.declared.answers.WriteAnswer.{WriteAnswer}
 use Rattle.fkv_manifest.specs.declared.answers.WriteAnswer.TheVariants as write
 use Rattle.fkv_manifest.specs.Committing.{commit_next, commit_answer}
 use Rattle.fkv_keeper.specs.declared.keepers.Keeping.TheVariants as keeping
-use Rattle.fkv_keeper.specs.Keeping.{KeeperState, copy_asked, copy_ledto, copy_driven, finished, finish_ledto, keeping_ask, turn_over, wait_ledto, writes_begun, writes_called, write_ledto, copy_told}
+use Rattle.fkv_keeper.specs.Keeping.{must_rest, turned, KeeperState, copy_asked, copy_ledto, copy_driven, finished, finish_ledto, keeping_ask, turn_over, wait_ledto, writes_begun, writes_called, write_ledto, copy_told}
 use Rattle.law_world.specs.GuardKeeper.CommitShown.{FinishKnows}
 use Rattle.law_world.specs.GuardKeeper.KeeperEvents.{write_events}
 use Rattle.law_world.specs.GuardKeeper.Settled.{is_of_slot}
@@ -121,7 +121,11 @@ unfolding write_ledto
 write_shows n a seen events s None answer at same f = quiet_led n a events seen (write_ledto s None answer) n.words n.actions refl same f
 write_shows n a seen events s (Some c) write.Written at same f =
     record { follows = f; knows = record { sessions = same; its = durable_known (record s.finish { number = c.number; step = durable_from s.finish.sessions 0 }) 0 } }
-write_shows n a seen events s (Some c) write.Device at same f = quiet_led n a events seen s n.words n.actions (ap is_quiet at) same f
+write_shows n a seen events s (Some c) write.Device at same f = by (must_rest s)
+  where
+    by : (rests : Bool) → KeeperLed n a events seen (if rests then turned (record s { rests = true }) else s) n.words n.actions
+    by true = quiet_led n a events seen (turned (record s { rests = true })) n.words n.actions refl same f
+    by false = quiet_led n a events seen s n.words n.actions (ap is_quiet at) same f
 write_shows n a seen events s (Some c) (write.Broken why) at same f = quiet_led n a events seen s n.words n.actions (ap is_quiet at) same f
 
 pub writes_kept : (n : GuardNow) (a : ℕ) (x : Actor) (seen : LastSeen) (s : KeeperState) (call : Option Call) (done : Bool) → slice_get n.actors a ≡ Some x → Fits (likeness seen None None) x → s.finish.sessions ≡ n.places.sessions

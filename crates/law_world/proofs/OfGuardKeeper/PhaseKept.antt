@@ -73,7 +73,7 @@ part_so p s c said granted = inl (record { quiet = refl; sessions = refl })
 pub phase_so : (p : Places) (s : KeeperState) (its : Option Commit) (said : PhaseSaid) (granted : Bool) → HasBegun s (phase_ledto p s its said granted)
 unfolding phase_ledto
 phase_so p s None said granted = inl (record { quiet = refl; sessions = refl })
-phase_so p s (Some c) said granted = part_so p s c said granted
+phase_so p s (Some c) said granted = either s.rests s _ _ (either granted s _ _ (inl (record { quiet = refl; sessions = refl })) (inl (record { quiet = refl; sessions = refl }))) (part_so p s c said granted)
 
 enters_phase : (n : GuardNow) (a : ℕ) (x : Actor) (seen : LastSeen) (granted : Bool) (there : KeeperState) (from : EnterState) (number : Version) → slice_get n.actors a ≡ Some x → Fits (likeness seen None None) x
     → there.finish.sessions ≡ n.places.sessions

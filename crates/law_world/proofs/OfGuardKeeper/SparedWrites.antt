@@ -37,7 +37,7 @@ use Rattle.fkv_keeper.specs.KeeperLaws.{AreWritesOfCommit}
 use Rattle.fkv_keeper.specs.KeeperRun.{IsOpened, KeeperEvent, Writing, has_failed, keeper_run, number_open, writing}
 use Rattle.fkv_keeper.specs.Keeping.{KeeperState, lost_left}
 use Rattle.fkv_keeper.specs.LastCommits.{area_number, slot_said, slot_written, point_written}
-use Rattle.fkv_keeper.proofs.Shown.{IsSound, run_sound, run_used}
+use Rattle.fkv_keeper.proofs.Shown.{come_behind, IsSound, run_sound, run_used}
 use Rattle.law_world.specs.GuardKeeper.DeviceCalls.{SparesLog, WritesSpareLog}
 
 -- sixteen bytes for each triple
@@ -163,7 +163,7 @@ module _ (shape : Shape) (p : Places) (buckets : p.buckets ≡ 2 ^ shape.bucket_
     -- it is known of the state at its writes that they are what is left of the commit's
     writes_fit : now.step ≡ Writes → FitsBelow shape now.writes
     writes_fit at =
-        let used = run_used shape p opening events opened (subst IsBehindWait (sym at) tt) in
+        let used = run_used shape p opening events opened (come_behind now (subst IsBehindWait (sym at) tt)) in
         let there : KeeperState = record now { step = Writes } in
         let sound = subst (λ (x : KeeperState). IsSound shape (has_failed shape p opening events) its (number_open shape p opening events) x) (ap (λ (step : Keeping). record now { step = step }) at) (run_sound shape p opening events opened) in
         let knows = sound.knows.1 in

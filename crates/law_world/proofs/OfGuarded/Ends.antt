@@ -145,7 +145,7 @@ life_keeper_ended opening start events opened none =
     let placed : keeper_asks_left n.shape opening.now.places ran ≡ 0 = subst (λ (p : Places). keeper_asks_left n.shape p ran ≡ 0) (places_stay opening events) its in
     let shaped : keeper_asks_left opening.now.shape opening.now.places ran ≡ 0 = subst (λ (shape : Shape). keeper_asks_left shape opening.now.places ran ≡ 0) (shape_stays opening events) placed in
     let buckets : 0 < opening.now.places.buckets = subst (λ (count : ℕ). 0 < count) (sym opened.buckets) (pow_pos opening.now.shape.bucket_bits) in
-    subst (λ (s : KeeperState). is_in_hand s.step ≡ false) (sym same) (keeper_ended opening.now.shape opening.now.places opening.now.keeper own buckets opened.keeper.none_in_hand shaped)
+    subst (λ (s : KeeperState). is_in_hand s.step ≡ false) (sym same) (keeper_ended opening.now.shape opening.now.places opening.now.keeper own buckets opened.keeper.none_in_hand opened.keeper.none_rest shaped)
 
 pub life_keeper_alone : (opening : World) (start : ℕ) (events moves : List Event) → IsOpened opening.now start → asks_left_of_keeper (run (run opening events) moves).now ≡ 0
     → is_in_hand (run (run opening events) moves).now.keeper.step ≡ false

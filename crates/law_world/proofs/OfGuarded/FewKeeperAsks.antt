@@ -7,14 +7,14 @@ use Rattle.fkv_base.specs.declared.shapes.Shape.{Shape}
 use Rattle.fkv_base.specs.declared.commits.CommitKind.{CommitKind}
 use Rattle.fkv_plane.specs.declared.places.Places.{Places}
 use Rattle.fkv_plane.proofs.Shown.{sum_most}
-use Rattle.fkv_maintain.specs.AsksLeft.{maintain_asks_left}
-use Rattle.fkv_maintain.specs.Maintaining.{maintain_begun}
-use Rattle.fkv_maintain.proofs.Shown.{maintain_begun_left}
+use Rattle.fkv_maintain.specs.AsksLeft.{most_maintain_asks, maintain_asks_left}
+use Rattle.fkv_maintain.specs.Maintaining.{MaintainState, maintain_begun}
+use Rattle.fkv_maintain.proofs.Shown.{maintain_begun_left, maintain_serving_left}
 use Rattle.fkv_keeper.specs.declared.keepers.Keeping.{Keeping}
 use Rattle.fkv_keeper.specs.declared.keepers.Keeping.TheVariants.{Ended}
 use Rattle.fkv_keeper.specs.KeeperAsks.{keeper_asks_left, keeping_asks_left, most_part_asks}
 use Rattle.fkv_keeper.specs.KeeperRun.{is_in_hand}
-use Rattle.fkv_keeper.specs.Keeping.{KeeperState, commit_asked, turn_asked}
+use Rattle.fkv_keeper.specs.Keeping.{parts_begun, KeeperState, commit_asked, turn_asked}
 use Rattle.fkv_keeper.proofs.Shown.{begin_bounded}
 use Rattle.fkv_world.specs.Actors.{is_of_keeper}
 use Rattle.law_world.specs.Runs.Ends.{asks_left_of_keeper}
@@ -33,11 +33,15 @@ either : (shape : Shape) (p : Places) (b : Bool) (x y : KeeperState) (n : ℕ) �
 either shape p true x y n first second = first
 either shape p false x y n first second = second
 
+parts_begun_left : (shape : Shape) (rests : Bool) (m : MaintainState) → maintain_asks_left shape (parts_begun rests m) ≤ most_maintain_asks shape
+parts_begun_left shape true m = maintain_serving_left shape m
+parts_begun_left shape false m = maintain_begun_left shape (maintain_begun m) refl refl
+
 turn_most : (shape : Shape) (p : Places) (s : KeeperState) → keeper_asks_left shape p (turn_asked s) ≤ most_keeper_asks shape p s
 unfolding keeping_asks_left
 turn_most shape p s =
-    let begun = maintain_begun_left shape (maintain_begun s.maintain) refl refl in
-    let most = sum_most (maintain_asks_left shape (maintain_begun s.maintain)) (most_part_asks s.seek.sessions s.finish.sessions + 1) in
+    let begun = parts_begun_left shape s.rests s.maintain in
+    let most = sum_most (maintain_asks_left shape (parts_begun s.rests s.maintain)) (most_part_asks s.seek.sessions s.finish.sessions + 1) in
     either shape p s.is_broken _ _ _ (omega arith) (omega (arith, begun, most))
 
 commit_most : (shape : Shape) (p : Places) (s : KeeperState) (kind : CommitKind) → keeper_asks_left shape p (commit_asked s kind) ≤ most_keeper_asks shape p s

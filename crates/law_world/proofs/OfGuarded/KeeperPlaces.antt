@@ -18,7 +18,7 @@ use Rattle.fkv_commit.specs.Deferring.{defer_next}
 use Rattle.fkv_commit.specs.Seeking.{SeekState, cut_met, defer_led, other_met, owing_from, point_taken, with_point, points_from, seek_next, seeking_next, slot_led}
 use Rattle.fkv_keeper.specs.CheckpointLaws.{CopiesOnce, IsCopyAfter}
 use Rattle.fkv_keeper.specs.KeeperRun.{BeginsCommit, BeginsTurn, Calls, Gets, IsOpened, KeeperEvent, Replies, begins, is_in_hand, keeper_happens, keeper_run}
-use Rattle.fkv_keeper.specs.Keeping.{KeeperState, commit_asked, copies, copies_next, copy_driven, copy_ledto, enter_ledto, finish_ledto, finished, keeping_called, keeping_given, keeping_next, maintain_ledto, part_begun, phase_ledto, seek_ledto, start_ledto, turn_asked, wait_ledto, write_ledto, writes_begun, writes_called, is_copy_resting}
+use Rattle.fkv_keeper.specs.Keeping.{must_rest, KeeperState, commit_asked, copies, copies_next, copy_driven, copy_ledto, enter_ledto, finish_ledto, finished, keeping_called, keeping_given, keeping_next, maintain_ledto, part_begun, phase_ledto, seek_ledto, start_ledto, turn_asked, wait_ledto, write_ledto, writes_begun, writes_called, is_copy_resting}
 use Rattle.fkv_base.specs.declared.phases.Phase.TheVariants as phase
 use Rattle.fkv_base.specs.declared.shapes.Shape.{Shape}
 use Rattle.fkv_words.specs.declared.phase_words.PhaseSaid.{PhaseSaid}
@@ -231,7 +231,7 @@ part_led p s c said granted rest = tt
 phase_led : (p : Places) (s : KeeperState) (commit : Option Commit) (said : PhaseSaid) (granted : Bool) → s.commit ≡ commit → RestRow p s → IsKeeperRow p (phase_ledto p s commit said granted)
 unfolding phase_ledto
 phase_led p s None said granted in_hand rest = tt
-phase_led p s (Some c) said granted in_hand rest = part_led p s c said granted (rest c in_hand)
+phase_led p s (Some c) said granted in_hand rest = either s.rests p _ _ (either granted p _ _ tt tt) (part_led p s c said granted (rest c in_hand))
 
 enter_led : (p : Places) (s : KeeperState) (ask : Ask EnterAnswer) → s.step ≡ Enters → IsKeeperRow p (enter_ledto s ask)
 unfolding enter_ledto
@@ -279,7 +279,7 @@ write_led : (p : Places) (s : KeeperState) (commit : Option Commit) (answer : Wr
 unfolding write_ledto
 write_led p s None answer at = tt
 write_led p s (Some c) write.Written at = tt
-write_led p s (Some c) write.Device at = stays p s Writes at tt
+write_led p s (Some c) write.Device at = either (must_rest s) p _ _ tt (stays p s Writes at tt)
 write_led p s (Some c) (write.Broken why) at = stays p s Writes at tt
 
 -- so it is behind each event
@@ -333,7 +333,7 @@ begins_row p s begun false row other = other
 happens_row : (shape : Shape) (p : Places) (s : KeeperState) (event : KeeperEvent) → RestRow p s → IsKeeperRow p s → IsKeeperRow p (keeper_happens shape p s event)
 unfolding keeper_happens
 happens_row shape p s BeginsTurn rest row = begins_row p s (turn_asked s) (is_in_hand s.step) row (either s.is_broken p _ _ tt tt)
-happens_row shape p s (BeginsCommit kind) rest row = begins_row p s (commit_asked s kind) (is_in_hand s.step) row (either s.is_broken p _ _ tt tt)
+happens_row shape p s (BeginsCommit kind) rest row = begins_row p s (commit_asked s kind) (is_in_hand s.step) row (either s.is_broken p _ _ tt (either s.rests p _ _ tt tt))
 happens_row shape p s (Replies reply granted) rest row = next_row shape p s s.step reply granted refl rest row
 happens_row shape p s (Gets action) rest row = given_row shape p s s.step action refl row
 happens_row shape p s (Calls done bytes) rest row = called_row shape p s s.step done bytes refl row

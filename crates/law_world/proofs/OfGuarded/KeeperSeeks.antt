@@ -35,7 +35,7 @@ use Rattle.fkv_maintain.specs.Maintaining.{MaintainState, maintain_ask, maintain
 use Rattle.fkv_keeper.specs.declared.keepers.Keeping.{Keeping}
 use Rattle.fkv_keeper.specs.declared.keepers.Keeping.TheVariants.{Ended, Starts, Maintains, LoadsPhase, Enters, Copies, Seeks, Waits, Writes, Finishes}
 use Rattle.fkv_keeper.specs.KeeperRun.{BeginsCommit, BeginsTurn, Calls, Gets, KeeperEvent, Replies, begins, is_in_hand, keeper_happens, keeper_run}
-use Rattle.fkv_keeper.specs.Keeping.{KeeperState, commit_asked, copies, copies_next, copy_driven, copy_ledto, enter_ledto, finish_ledto, finished, keeping_called, keeping_given, keeping_next, maintain_ledto, part_begun, phase_ledto, seek_ledto, start_ledto, turn_asked, wait_ledto, write_ledto, writes_begun, writes_called, is_copy_resting, copy_told}
+use Rattle.fkv_keeper.specs.Keeping.{must_rest, KeeperState, commit_asked, copies, copies_next, copy_driven, copy_ledto, enter_ledto, finish_ledto, finished, keeping_called, keeping_given, keeping_next, maintain_ledto, part_begun, phase_ledto, seek_ledto, start_ledto, turn_asked, wait_ledto, write_ledto, writes_begun, writes_called, is_copy_resting, copy_told}
 
 abbrev sought : KeeperState → ℕ
 sought s = s.seek.sessions
@@ -74,7 +74,7 @@ part_led p s c said granted = refl
 phase_led : (p : Places) (s : KeeperState) (commit : Option Commit) (said : PhaseSaid) (granted : Bool) → sought (phase_ledto p s commit said granted) ≡ sought s
 unfolding phase_ledto
 phase_led p s None said granted = refl
-phase_led p s (Some c) said granted = part_led p s c said granted
+phase_led p s (Some c) said granted = either s.rests _ _ (sought s) (either granted _ _ (sought s) refl refl) (part_led p s c said granted)
 
 enter_led : (s : KeeperState) (ask : Ask EnterAnswer) → sought (enter_ledto s ask) ≡ sought s
 unfolding enter_ledto
@@ -122,7 +122,7 @@ write_led : (s : KeeperState) (commit : Option Commit) (answer : WriteAnswer) �
 unfolding write_ledto
 write_led s None answer = refl
 write_led s (Some c) write.Written = refl
-write_led s (Some c) write.Device = refl
+write_led s (Some c) write.Device = either (must_rest s) _ _ (sought s) refl refl
 write_led s (Some c) (write.Broken why) = refl
 
 -- so of each event
@@ -161,7 +161,7 @@ begins_seeks s begun false same = same
 happens_seeks : (shape : Shape) (p : Places) (s : KeeperState) (event : KeeperEvent) → sought (keeper_happens shape p s event) ≡ sought s
 unfolding keeper_happens
 happens_seeks shape p s BeginsTurn = begins_seeks s (turn_asked s) (is_in_hand s.step) (either s.is_broken _ _ (sought s) refl refl)
-happens_seeks shape p s (BeginsCommit kind) = begins_seeks s (commit_asked s kind) (is_in_hand s.step) (either s.is_broken _ _ (sought s) refl refl)
+happens_seeks shape p s (BeginsCommit kind) = begins_seeks s (commit_asked s kind) (is_in_hand s.step) (either s.is_broken _ _ (sought s) refl (either s.rests _ _ (sought s) refl refl))
 happens_seeks shape p s (Replies reply granted) = next_seeks shape p s s.step reply granted
 happens_seeks shape p s (Gets action) = given_seeks shape p s s.step action
 happens_seeks shape p s (Calls done bytes) = called_seeks shape p s s.step done bytes

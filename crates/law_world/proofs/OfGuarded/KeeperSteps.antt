@@ -48,7 +48,7 @@ use Rattle.fkv_keeper.specs.declared.answers.KeeperTold.TheVariants.{Device}
 use Rattle.fkv_keeper.specs.declared.keepers.Keeping.{Keeping}
 use Rattle.fkv_keeper.specs.declared.keepers.Keeping.TheVariants as keeping
 use Rattle.law_world.specs.GuardKeeper.CommitEvents.{defer_events, start_begins, enter_begins, seek_begins, starting_events, entered_events, entering_events, seeking_events, finishing_events}
-use Rattle.law_world.specs.GuardKeeper.KeeperEvents.{part_begins, keeping_events, write_events, keeping_called_events, keeper_events_at, keeper_move_events, turn_asked_events}
+use Rattle.law_world.specs.GuardKeeper.KeeperEvents.{part_begins, keeping_events, write_events, keeping_called_events, keeper_events_at, keeper_move_events, turn_asked_events, turn_task}
 use Rattle.law_world.specs.GuardKeeper.MaintainEvents.{scan_events, claim_events, flush_events, shift_events, turn_events, maintain_events, maintain_called_events}
 use Rattle.law_world.proofs.OfGuarded.OneStep.{IsStep, IsStepOf, IsOwn, OfKeeper, mine, one_of, then_quiet_of, nobodys, by_test_of, keeper_step}
 
@@ -188,7 +188,11 @@ keeper_steps a shape p granted done read s words = keeper_step a _ (keeper_makes
 
 -- and a turn that is asked for
 pub turn_asked_makes : (a : ℕ) (s : KeeperState) → IsStepOf (OfKeeper a) a (turn_asked_events a s)
-turn_asked_makes a s = by_test_of (OfKeeper a) a (is_in_hand s.step) [] _ tt (by_test_of (OfKeeper a) a s.is_broken [] _ tt (one_of (OfKeeper a) a _ (mine a) tt))
+turn_asked_makes a s = by_test_of (OfKeeper a) a (is_in_hand s.step) [] _ tt (by_test_of (OfKeeper a) a s.is_broken [] _ tt (one_of (OfKeeper a) a _ (mine a) (begins s.rests)))
+  where
+    begins : (rests : Bool) → OfKeeper a (Begins a (turn_task rests))
+    begins true = tt
+    begins false = tt
 
 pub turn_asked_steps : (a : ℕ) (s : KeeperState) → IsStep a a (turn_asked_events a s)
 turn_asked_steps a s = keeper_step a _ (turn_asked_makes a s)

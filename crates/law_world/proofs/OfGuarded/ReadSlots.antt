@@ -107,7 +107,7 @@ module _ (first : Now) (start : ℕ) (opened : IsOpened first start) where
         let placed : keeper_asks_left n.shape first.places ran ≡ 0 = subst (λ (p : Places). keeper_asks_left n.shape p ran ≡ 0) its.places there in
         let shaped : keeper_asks_left first.shape first.places ran ≡ 0 = subst (λ (shape : Shape). keeper_asks_left shape first.places ran ≡ 0) its.shape placed in
         let buckets : 0 < first.places.buckets = subst (λ (count : ℕ). 0 < count) (sym opened.buckets) (pow_pos first.shape.bucket_bits) in
-        subst (λ (s : KeeperState). is_in_hand s.step ≡ false) (sym its.keeper.ran) (keeper_ended first.shape first.places first.keeper its.keeper.came buckets opened.keeper.none_in_hand shaped)
+        subst (λ (s : KeeperState). is_in_hand s.step ≡ false) (sym its.keeper.ran) (keeper_ended first.shape first.places first.keeper its.keeper.came buckets opened.keeper.none_in_hand opened.keeper.none_rest shaped)
 
     -- whose the slots are
     holder_shown : (a slot : ℕ) → IsHolder w.now a slot → (let v : GuardWorld = world_of n w.now.actors w.past in IsHolder v.now a slot)

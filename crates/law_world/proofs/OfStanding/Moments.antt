@@ -1,6 +1,6 @@
 -- What is known of a store at each moment of a run, by how far the keeper's call has come.
 use Rattle.std.proofs.Common.{◌≡◌, ℕ, List, Bool, true, false, refl, sym, subst}
-use Rattle.std.specs.Prelude.{⊤, Option, Some, None}
+use Rattle.std.specs.Prelude.{⊤, Option, Some, None, if◌then◌else◌}
 use Rattle.fkv_base.specs.declared.shapes.Shape.{Shape}
 use Rattle.fkv_record.specs.Places.{number_at}
 use Rattle.fkv_disk.specs.Calls.{Call, MayLeave}
@@ -19,7 +19,7 @@ use Rattle.fkv_keeper.specs.declared.answers.KeeperTold.{KeeperTold}
 use Rattle.fkv_keeper.specs.declared.answers.KeeperTold.TheVariants.{Turned}
 use Rattle.fkv_keeper.specs.declared.keepers.Keeping.{Keeping}
 use Rattle.fkv_keeper.specs.declared.keepers.Keeping.TheVariants.{Ended, Maintains, Writes, Finishes}
-use Rattle.fkv_keeper.specs.Keeping.{Finality, KeeperState}
+use Rattle.fkv_keeper.specs.Keeping.{Finality, KeeperState, come_to}
 use Rattle.fkv_keeper.specs.KeeperLaws.{IsRefusal}
 use Rattle.fkv_keeper.specs.KeeperRun.{Writing}
 use Rattle.law_world.specs.Standing.Standing.{Standing, is_at_writes, IsOneInForce, TriplesStand, is_writing_after}
@@ -92,7 +92,7 @@ module _ (shape : Shape) (p : Places) (opened : List ℕ) where
 
   abbrev pub Along : KeeperState → Bool → Standing → Writing → List Call → Bool → Type 0
   Along s is_written its w calls true = IsBrokenNow s is_written its w calls
-  Along s is_written its w calls false = (is_written ≡ is_at_writes s.step) × Knows s its w calls s.step
+  Along s is_written its w calls false = (is_written ≡ is_at_writes (come_to s)) × Knows s its w calls (come_to s)
 
   pub record IsSound (s : KeeperState) (is_written : Bool) (its : Standing) (w : Writing) (calls : List Call) : Type 0 where
     pub commit : CommitKnown s.last s.commit
@@ -103,10 +103,20 @@ module _ (shape : Shape) (p : Places) (opened : List ℕ) where
   abbrev pub GoesTo : Bool → Standing → Writing → List Call → KeeperState → Type 0
   GoesTo was its w calls after = IsSound after (is_writing_after after.step was) its w calls
 
+  -- the device works, and no writes rest
+  abbrev pub IsAwake : KeeperState → Type 0
+  IsAwake s = (s.is_broken ≡ false) × (s.rests ≡ false)
+
+  -- there a keeper has come to its step
+  pub along_awake : (s : KeeperState) (is_written : Bool) (its : Standing) (w : Writing) (calls : List Call) → IsAwake s → (is_written ≡ is_at_writes s.step) × Knows s its w calls s.step → Along s is_written its w calls s.is_broken
+  along_awake s is_written its w calls awake knows =
+      subst (λ (b : Bool). Along s is_written its w calls b) (sym awake.0)
+      (subst (λ (rests : Bool). (is_written ≡ is_at_writes (if rests then Writes else s.step)) × Knows s its w calls (if rests then Writes else s.step)) (sym awake.1) knows)
+
   -- at a step while no commit is written, and the device works
   pub record IsAt (s : KeeperState) (is_written : Bool) (step : Keeping) : Type 0 where
     pub at : s.step ≡ step
-    pub works : s.is_broken ≡ false
+    pub works : IsAwake s
     pub unwritten : is_written ≡ false
     pub commit : CommitKnown s.last s.commit
     pub copy : CopyKnown s.copy
@@ -159,25 +169,25 @@ module _ (shape : Shape) (p : Places) (opened : List ℕ) where
   plain_unwritten step was plain e = e
 
   -- what leads to a plain step, where the device works
-  pub goes_plain : (s after : KeeperState) (was : Bool) (its : Standing) (w : Writing) (calls : List Call) (step to : Keeping) → IsAt s was step → IsCalm shape opened s.last its calls → IsPlain to → after.step ≡ to → after.is_broken ≡ false → after.last ≡ s.last
+  pub goes_plain : (s after : KeeperState) (was : Bool) (its : Standing) (w : Writing) (calls : List Call) (step to : Keeping) → IsAt s was step → IsCalm shape opened s.last its calls → IsPlain to → after.step ≡ to → IsAwake after → after.last ≡ s.last
       → CommitKnown s.last after.commit → CopyKnown after.copy → GoesTo was its w calls after
   goes_plain s after was its w calls step to now calm plain e works same commit copy = record {
     commit = subst (λ (f : Finality). CommitKnown f after.commit) (sym same) commit;
     copy = copy;
     along =
-        subst (λ (b : Bool). Along after (is_writing_after after.step was) its w calls b) (sym works)
+        along_awake after (is_writing_after after.step was) its w calls works
         (subst (λ (k : Keeping). (is_writing_after k was ≡ is_at_writes k) × Knows after its w calls k) (sym e)
         (plain_unwritten to was plain now.unwritten, plain_knows after its w calls to plain (subst (λ (f : Finality). IsCalm shape opened f its calls) (sym same) calm)));
   }
 
   -- and to a turn's parts
-  pub goes_maintains : (s after : KeeperState) (was : Bool) (its : Standing) (w : Writing) (calls : List Call) → was ≡ false → after.step ≡ Maintains → after.is_broken ≡ false → CommitKnown after.last after.commit → CopyKnown after.copy
+  pub goes_maintains : (s after : KeeperState) (was : Bool) (its : Standing) (w : Writing) (calls : List Call) → was ≡ false → after.step ≡ Maintains → IsAwake after → CommitKnown after.last after.commit → CopyKnown after.copy
       → MaintainKnows after.last its calls after.maintain.step after.maintain.flushing → GoesTo was its w calls after
   goes_maintains s after was its w calls unwritten e works commit copy knows = record {
     commit = commit;
     copy = copy;
     along =
-        subst (λ (b : Bool). Along after (is_writing_after after.step was) its w calls b) (sym works)
+        along_awake after (is_writing_after after.step was) its w calls works
         (subst (λ (k : Keeping). (is_writing_after k was ≡ is_at_writes k) × Knows after its w calls k) (sym e) (unwritten, knows));
   }
 

@@ -1,5 +1,5 @@
 -- One event after another: one commit stands at each moment.
-use Rattle.std.proofs.Common.{◌≡◌, ℕ, ◌^◌, List, [], ◌∷◌, ◌++◌, Bool, true, false, refl, sym, ◌∙◌, ap, subst}
+use Rattle.std.proofs.Common.{◌≡◌, ◌⊎◌, inl, inr, ℕ, ◌^◌, List, [], ◌∷◌, ◌++◌, Bool, true, false, refl, sym, ◌∙◌, ap, subst}
 use Rattle.std.specs.Prelude.{if◌then◌else◌, Option}
 use Rattle.fkv_base.specs.declared.faults.Fault.TheVariants as fault
 use Rattle.fkv_base.specs.declared.shapes.Shape.{Shape}
@@ -20,14 +20,17 @@ use Rattle.fkv_manifest.specs.Kept.{Begins, NewStands}
 use Rattle.fkv_manifest.specs.Made.{commit_made}
 use Rattle.fkv_maintain.specs.declared.maintaining.Maintaining.{Maintaining}
 use Rattle.fkv_maintain.specs.declared.maintaining.Maintaining.TheVariants as part
-use Rattle.fkv_maintain.specs.Maintaining.{maintain_begun, maintain_ask, maintaining_ask, maintain_next, maintain_given, maintaining_called, maintaining_calls}
+use Rattle.fkv_maintain.specs.Parts.{IsServing}
+use Rattle.fkv_maintain.specs.Maintaining.{maintain_ask, maintaining_ask, maintain_next, maintain_given, maintaining_called, maintaining_calls}
 use Rattle.fkv_keeper.specs.declared.answers.KeeperTold.{KeeperTold}
 use Rattle.fkv_keeper.specs.declared.answers.KeeperTold.TheVariants.{Turned, TurnRefused, CommitRefused}
 use Rattle.fkv_keeper.specs.declared.keepers.Keeping.{Keeping}
 use Rattle.fkv_keeper.specs.declared.keepers.Keeping.TheVariants.{Ended, Starts, Maintains, LoadsPhase, Enters, Copies, Seeks, Waits, Writes, Finishes}
-use Rattle.fkv_keeper.specs.Keeping.{KeeperState, ended, copy_driven, commit_asked, turn_asked, maintain_ledto, keeping_next, keeping_given, keeping_called, copy_told, asked_for}
+use Rattle.fkv_keeper.specs.declared.last_commits.Checkpoint.{Checkpoint}
+use Rattle.fkv_keeper.specs.Keeping.{Finality, KeeperState, come_to, parts_begun, ended, copy_driven, commit_asked, turn_asked, maintain_ledto, keeping_next, keeping_given, keeping_called, copy_told, asked_for}
 use Rattle.fkv_keeper.specs.KeeperAsks.{keeping_calls}
-use Rattle.fkv_keeper.specs.KeeperLaws.{IsRefusal}
+use Rattle.fkv_keeper.specs.KeeperLaws.{IsRefusal, IsResting, MayRest}
+use Rattle.fkv_keeper.proofs.Shown.{BreaksInRest, EndsRest, rest_ends, rests_still, run_rests}
 use Rattle.fkv_keeper.specs.KeeperRun.{KeeperEvent, BeginsTurn, BeginsCommit, Replies, Gets, Calls, is_in_hand, begins, keeper_happens, keeper_run, Writing, writing_after, writing}
 use Rattle.fkv_keeper.specs.LastCommits.{slot_place}
 use Rattle.law_world.specs.Standing.CallsMade.{calls_of, calls_made}
@@ -35,10 +38,10 @@ use Rattle.law_world.specs.Standing.Opening.{IsToldBy, IsNumberInTurn, AreNumber
 use Rattle.law_world.specs.Standing.Standing.{Standing, is_at_writes, IsOneInForce, TriplesStand, standing_opened, standing_after, standing, is_writing_after, is_writing}
 use Rattle.law_world.proofs.OfStanding.Fronts.{Has}
 use Rattle.law_world.proofs.OfStanding.Flushed.{IsCalm, calm_left}
-use Rattle.law_world.proofs.OfStanding.Moments.{IsRefused, CopyKnown, CommitKnown, MaintainKnows, IsWritingNow, IsWrittenNow, IsBrokenNow, Along, Knows, IsSound, GoesTo, IsAt, maintain_left, maintain_named, goes_plain, goes_maintains, goes_broken}
+use Rattle.law_world.proofs.OfStanding.Moments.{IsRefused, CopyKnown, CommitKnown, MaintainKnows, IsWritingNow, IsWrittenNow, IsBrokenNow, Along, Knows, IsSound, GoesTo, IsAt, IsAwake, along_awake, calm_knows, maintain_left, maintain_named, goes_plain, goes_maintains, goes_broken}
 use Rattle.law_world.proofs.OfStanding.Stepped.{maintain_on, start_on, phase_on, enter_on, copy_on, seek_on}
 use Rattle.law_world.proofs.OfStanding.Turned.{replied, given, called, failed}
-use Rattle.law_world.proofs.OfStanding.Written.{under_way_stands, under_way_triples, written_stands}
+use Rattle.law_world.proofs.OfStanding.Written.{IsUnderWay, under_way_stands, under_way_triples, written_stands}
 use Rattle.law_world.proofs.OfStanding.WritesStepped.{wait_on, write_on, finish_on}
 
 -- the state with its step told beside it, so that tables by step compute
@@ -95,13 +98,6 @@ module _ (shape : Shape) (p : Places) (opened : List ℕ) (buckets : p.buckets �
     refused_same (Ended (Turned false full)) refused = refl
     refused_same step refused = absurd refused
 
-    still : is_writing_after s.step was ≡ was
-    still = by_broken s.is_broken is.along
-      where
-        by_broken : (b : Bool) → Along shape p opened s was its w calls b → is_writing_after s.step was ≡ was
-        by_broken true broken = refused_same s.step broken.refused
-        by_broken false along = ap (λ (b : Bool). is_writing_after s.step b) along.0 ∙ goes_on_same s.step ∙ sym along.0
-
     same_standing : (step : Keeping) → standing_after step step s.commit w.first its ≡ its
     same_standing (Ended told) = refl
     same_standing Starts = refl
@@ -114,15 +110,21 @@ module _ (shape : Shape) (p : Places) (opened : List ℕ) (buckets : p.buckets �
     same_standing Writes = refl
     same_standing Finishes = refl
 
-    stays : (step : Keeping) → s.step ≡ step → Shows step s w calls
-    stays step e =
+    stays_at : is_writing_after s.step was ≡ was → (step : Keeping) → s.step ≡ step → Shows step s w calls
+    stays_at still step e =
         subst (λ (k : Keeping). IsSound shape p opened s (is_writing_after s.step was) (standing_after k s.step s.commit w.first its) w calls) e
         (subst (λ (b : Bool). IsSound shape p opened s b (standing_after s.step s.step s.commit w.first its) w calls) (sym still)
         (subst (λ (x : Standing). IsSound shape p opened s was x w calls) (sym (same_standing s.step)) is))
 
-    module _ (works : s.is_broken ≡ false) where
+    -- while the device works, and no writes rest
+    module _ (works : IsAwake shape p opened s) where
       along : (was ≡ is_at_writes s.step) × Knows shape p opened s its w calls s.step
-      along = subst (λ (b : Bool). Along shape p opened s was its w calls b) works is.along
+      along =
+          subst (λ (rests : Bool). (was ≡ is_at_writes (if rests then Writes else s.step)) × Knows shape p opened s its w calls (if rests then Writes else s.step)) works.1
+          (subst (λ (b : Bool). Along shape p opened s was its w calls b) works.0 is.along)
+
+      stays : (step : Keeping) → s.step ≡ step → Shows step s w calls
+      stays step e = stays_at (ap (λ (b : Bool). is_writing_after s.step b) along.0 ∙ goes_on_same s.step ∙ sym along.0) step e
 
       knows_at : (step : Keeping) → s.step ≡ step → (was ≡ is_at_writes step) × Knows shape p opened s its w calls step
       knows_at step e = subst (λ (k : Keeping). (was ≡ is_at_writes k) × Knows shape p opened s its w calls k) e along
@@ -181,14 +183,17 @@ module _ (shape : Shape) (p : Places) (opened : List ℕ) (buckets : p.buckets �
 
       -- a turn or a commit is begun
       turn_on : (told : KeeperTold) (broken : Bool) → s.step ≡ Ended told → s.is_broken ≡ broken
-          → GoesTo shape p opened was its w calls (if broken then ended s (TurnRefused fault.Broken) else record s { maintain = maintain_begun s.maintain; is_drain_full = false; step = Maintains })
-      turn_on told true e b = let clash : true ≡ false = sym b ∙ works in absurd (cc)
-      turn_on told false e b = goes_maintains shape p opened s (record s { maintain = maintain_begun s.maintain; is_drain_full = false; step = Maintains }) was its w calls (knows_at (Ended told) e).0 refl works is.commit is.copy (knows_at (Ended told) e).1
+          → GoesTo shape p opened was its w calls (if broken then ended s (TurnRefused fault.Broken) else record s { maintain = parts_begun s.rests s.maintain; is_drain_full = false; step = Maintains })
+      turn_on told true e b = let clash : true ≡ false = sym b ∙ works.0 in absurd (cc)
+      turn_on told false e b =
+          let begun : KeeperState = record s { maintain = parts_begun s.rests s.maintain; is_drain_full = false; step = Maintains } in
+          goes_maintains shape p opened s begun was its w calls (knows_at (Ended told) e).0 refl works is.commit is.copy (calm_knows shape p opened s.last its calls begun.maintain.step begun.maintain.flushing (knows_at (Ended told) e).1)
 
-      commit_on : (kind : CommitKind) (told : KeeperTold) (broken : Bool) → s.step ≡ Ended told → s.is_broken ≡ broken
-          → GoesTo shape p opened was its w calls (if broken then ended s (CommitRefused fault.Broken) else record s { start = start_begun s.start (asked_for s kind); step = Starts })
-      commit_on kind told true e b = let clash : true ≡ false = sym b ∙ works in absurd (cc)
-      commit_on kind told false e b =
+      commit_on : (kind : CommitKind) (told : KeeperTold) (broken rests : Bool) → s.step ≡ Ended told → s.is_broken ≡ broken → s.rests ≡ rests
+          → GoesTo shape p opened was its w calls (if broken then ended s (CommitRefused fault.Broken) else (if rests then ended s (CommitRefused fault.CommitRunning) else record s { start = start_begun s.start (asked_for s kind); step = Starts }))
+      commit_on kind told true rests e b awake = let clash : true ≡ false = sym b ∙ works.0 in absurd (cc)
+      commit_on kind told false true e b awake = let clash : true ≡ false = sym awake ∙ works.1 in absurd (cc)
+      commit_on kind told false false e b awake =
           goes_plain shape p opened s (record s { start = start_begun s.start (asked_for s kind); step = Starts }) was its w calls (Ended told) Starts (at (Ended told) e refl) (knows_at (Ended told) e).1 tt refl works refl is.commit is.copy
 
       begins_turn_on : (step : Keeping) → s.step ≡ step → Shows step (begins s (is_in_hand step) (turn_asked s)) (writing_after step BeginsTurn (begins s (is_in_hand step) (turn_asked s)) w) calls
@@ -198,7 +203,7 @@ module _ (shape : Shape) (p : Places) (opened : List ℕ) (buckets : p.buckets �
       begins_turn_on step e = stays step e
 
       begins_commit_on : (kind : CommitKind) (step : Keeping) → s.step ≡ step → Shows step (begins s (is_in_hand step) (commit_asked s kind)) (writing_after step (BeginsCommit kind) (begins s (is_in_hand step) (commit_asked s kind)) w) calls
-      begins_commit_on kind (Ended told) e = commit_on kind told s.is_broken e refl
+      begins_commit_on kind (Ended told) e = commit_on kind told s.is_broken s.rests e refl refl
       begins_commit_on kind Waits e = stays Waits e
       begins_commit_on kind Writes e = stays Writes e
       begins_commit_on kind step e = stays step e
@@ -224,30 +229,169 @@ module _ (shape : Shape) (p : Places) (opened : List ℕ) (buckets : p.buckets �
             (subst (λ (b : Bool). IsBrokenNow shape p opened (ended s told) b its w calls) (sym same) (record { refused = refusal; stands = broken_now.stands; triples = broken_now.triples; named = broken_now.named }));
       }
 
-      refuses_turn : (b : Bool) → s.is_broken ≡ b → GoesTo shape p opened was its w calls (if b then ended s (TurnRefused fault.Broken) else record s { maintain = maintain_begun s.maintain; is_drain_full = false; step = Maintains })
+      refuses_turn : (b : Bool) → s.is_broken ≡ b → GoesTo shape p opened was its w calls (if b then ended s (TurnRefused fault.Broken) else record s { maintain = parts_begun s.rests s.maintain; is_drain_full = false; step = Maintains })
       refuses_turn true e = refuses (TurnRefused fault.Broken) tt refl
       refuses_turn false e = let clash : true ≡ false = sym broken ∙ e in absurd (cc)
 
-      refuses_commit : (kind : CommitKind) (b : Bool) → s.is_broken ≡ b → GoesTo shape p opened was its w calls (if b then ended s (CommitRefused fault.Broken) else record s { start = start_begun s.start (asked_for s kind); step = Starts })
+      refuses_commit : (kind : CommitKind) (b : Bool) → s.is_broken ≡ b
+          → GoesTo shape p opened was its w calls (if b then ended s (CommitRefused fault.Broken) else (if s.rests then ended s (CommitRefused fault.CommitRunning) else record s { start = start_begun s.start (asked_for s kind); step = Starts }))
       refuses_commit kind true e = refuses (CommitRefused fault.Broken) tt refl
       refuses_commit kind false e = let clash : true ≡ false = sym broken ∙ e in absurd (cc)
+
+      stays_broken : (step : Keeping) → s.step ≡ step → Shows step s w calls
+      stays_broken step e = stays_at (refused_same s.step broken_now.refused) step e
 
       broken_on : (step : Keeping) (event : KeeperEvent) → s.step ≡ step → IsRefused step → Shows step (happens_at shape p s step event) (writing_after step event (happens_at shape p s step event) w) (calls_at shape s step event ++ calls)
       unfolding keeping_next keeping_given keeping_called keeping_calls
       broken_on (Ended told) BeginsTurn e refused = refuses_turn s.is_broken refl
       broken_on (Ended told) (BeginsCommit kind) e refused = refuses_commit kind s.is_broken refl
-      broken_on (Ended told) (Replies reply granted) e refused = stays (Ended told) e
-      broken_on (Ended told) (Gets action) e refused = stays (Ended told) e
-      broken_on (Ended told) (Calls done bytes) e refused = stays (Ended told) e
+      broken_on (Ended told) (Replies reply granted) e refused = stays_broken (Ended told) e
+      broken_on (Ended told) (Gets action) e refused = stays_broken (Ended told) e
+      broken_on (Ended told) (Calls done bytes) e refused = stays_broken (Ended told) e
       broken_on step event e refused = absurd refused
 
-    event_on : (event : KeeperEvent) → IsNumberInTurn s.last.number s.step (happens_at shape p s s.step event).step
+    -- while writes rest
+    module _ (rests : s.rests ≡ true) (resting : IsResting shape s w) where
+      resting_now : (was ≡ true) × IsWritingNow shape p opened s its w calls
+      resting_now =
+          subst (λ (x : Bool). (was ≡ is_at_writes (if x then Writes else s.step)) × Knows shape p opened s its w calls (if x then Writes else s.step)) rests
+          (subst (λ (b : Bool). Along shape p opened s was its w calls b) resting.works is.along)
+
+      -- nothing is written, and no commit is finished
+      rest_standing : (step after : Keeping) → MayRest step → standing_after step after s.commit w.first its ≡ its
+      rest_standing Finishes after may = absurd may
+      rest_standing step after may = refl
+
+      rest_writing : (step : Keeping) (event : KeeperEvent) (after : KeeperState) → MayRest step → writing_after step event after w ≡ w
+      rest_writing Waits event after may = absurd may
+      rest_writing Writes event after may = absurd may
+      rest_writing step event after may = refl
+
+      serves_none : (part_at : Maintaining) (done : Bool) → IsServing part_at → maintaining_calls shape s.maintain part_at done ≡ []
+      unfolding maintaining_calls
+      serves_none part.Flushes done serving = absurd serving
+      serves_none part_at done serving = refl
+
+      rest_none : (step : Keeping) (done : Bool) → s.step ≡ step → MayRest step → keeping_calls shape s step done ≡ []
+      unfolding keeping_calls
+      rest_none Maintains done e may = serves_none s.maintain.step done (resting.serves e)
+      rest_none Writes done e may = absurd may
+      rest_none step done e may = refl
+
+      rest_calls : (event : KeeperEvent) → calls_at shape s s.step event ≡ []
+      rest_calls (Calls done bytes) = rest_none s.step done refl resting.rests
+      rest_calls event = refl
+
+      writing_still : (after : Keeping) → MayRest after → is_writing_after after true ≡ true
+      writing_still (Ended (Turned true full)) may = absurd may
+      writing_still (Ended told) may = refl
+      writing_still Writes may = absurd may
+      writing_still Finishes may = absurd may
+      writing_still step may = refl
+
+      module _ (event : KeeperEvent) where
+        abbrev a : KeeperState
+        a = keeper_happens shape p s event
+
+        abbrev Rested : Type 0
+        Rested = Shows s.step a (writing_after s.step event a w) (calls_at shape s s.step event ++ calls)
+
+        -- what is shown where the lists beside the run are as they were
+        as_it_was : IsSound shape p opened a (is_writing_after a.step was) its w calls → Rested
+        as_it_was sound =
+            subst (λ (x : Standing). IsSound shape p opened a (is_writing_after a.step was) x (writing_after s.step event a w) (calls_at shape s s.step event ++ calls)) (sym (rest_standing s.step a.step resting.rests))
+            (subst (λ (x : Writing). IsSound shape p opened a (is_writing_after a.step was) its x (calls_at shape s s.step event ++ calls)) (sym (rest_writing s.step event a resting.rests))
+            (subst (λ (x : List Call). IsSound shape p opened a (is_writing_after a.step was) its w (x ++ calls)) (sym (rest_calls event)) sound))
+
+        known_commit : a.last ≡ s.last → a.commit ≡ s.commit → CommitKnown shape p opened a.last a.commit
+        known_commit last commit = subst (λ (x : Finality). CommitKnown shape p opened x a.commit) (sym last) (subst (λ (x : Option Commit). CommitKnown shape p opened s.last x) (sym commit) is.commit)
+
+        known_copy : a.copy ≡ s.copy → CopyKnown shape p opened a.copy
+        known_copy copy = subst (λ (x : Option Copier). CopyKnown shape p opened x) (sym copy) is.copy
+
+        writing_on : a.commit ≡ s.commit → a.writes ≡ s.writes → a.used ≡ s.used → a.last ≡ s.last → IsWritingNow shape p opened a its w calls
+        writing_on commit writes used last =
+            let known = resting_now.1 in
+            record {
+              commit = known.commit;
+              in_hand = commit ∙ known.in_hand;
+              under_way = subst (λ (x : Finality). IsUnderWay shape opened x its known.commit a.used w calls) (sym last) (subst (λ (x : Checkpoint). IsUnderWay shape opened s.last its known.commit x w calls) (sym used) known.under_way);
+              run = writes ∙ known.run;
+            }
+
+        -- they rest still
+        rest_still : a.rests ≡ true → Rested
+        rest_still is_resting =
+            let kept = rests_still shape p s event rests resting.rests resting.serves is_resting in
+            let still : is_writing_after a.step was ≡ true = ap (λ (b : Bool). is_writing_after a.step b) resting_now.0 ∙ writing_still a.step kept.rests in
+            as_it_was (record {
+              commit = known_commit kept.last kept.commit;
+              copy = known_copy kept.copy;
+              along =
+                  subst (λ (b : Bool). Along shape p opened a (is_writing_after a.step was) its w calls b) (sym (kept.works ∙ resting.works))
+                  (subst (λ (x : Bool). (is_writing_after a.step was ≡ is_at_writes (if x then Writes else a.step)) × Knows shape p opened a its w calls (if x then Writes else a.step)) (sym is_resting)
+                  (still, writing_on kept.commit kept.writes kept.used kept.last));
+            })
+
+        -- they are taken up
+        taken_up : a ≡ record s { rests = false; is_granted = true; step = Writes } → Rested
+        taken_up same =
+            let step : a.step ≡ Writes = ap (λ (x : KeeperState). x.step) same in
+            let last : a.last ≡ s.last = ap (λ (x : KeeperState). x.last) same in
+            let commit : a.commit ≡ s.commit = ap (λ (x : KeeperState). x.commit) same in
+            let now : IsWritingNow shape p opened a its w calls = writing_on commit (ap (λ (x : KeeperState). x.writes) same) (ap (λ (x : KeeperState). x.used) same) last in
+            as_it_was (record {
+              commit = known_commit last commit;
+              copy = known_copy (ap (λ (x : KeeperState). x.copy) same);
+              along = along_awake shape p opened a (is_writing_after a.step was) its w calls (ap (λ (x : KeeperState). x.is_broken) same ∙ resting.works, ap (λ (x : KeeperState). x.rests) same)
+                  (subst (λ (k : Keeping). (is_writing_after k was ≡ is_at_writes k) × Knows shape p opened a its w calls k) (sym step) (refl, now));
+            })
+
+        -- the device fails
+        rest_breaks : BreaksInRest s a → Rested
+        rest_breaks breaks =
+            let under_way = resting_now.1.under_way in
+            let c = resting_now.1.commit in
+            as_it_was (subst (λ (b : Bool). IsSound shape p opened a b its w calls) (sym (ap (λ (k : Keeping). is_writing_after k was) breaks.step)) (record {
+              commit = known_commit breaks.last breaks.commit;
+              copy = known_copy breaks.copy;
+              along = subst (λ (b : Bool). Along shape p opened a was its w calls b) (sym breaks.broken) (record {
+                refused = subst (λ (k : Keeping). IsRefused k) (sym breaks.step) tt;
+                stands = λ image left. subst (λ (x : Finality). IsOneInForce was x its w.first image) (sym breaks.last)
+                    (subst (λ (b : Bool). IsOneInForce b s.last its w.first image) (sym resting_now.0) (under_way_stands shape opened s.last its c s.used w calls under_way image left));
+                triples = λ image left. subst (λ (x : Finality). TriplesStand shape x.checkpoint its image) (sym breaks.last) (under_way_triples shape opened s.last its c s.used w calls under_way image left);
+                named = under_way.has.named ∙ ap (λ (x : Finality). x.number.0) (sym breaks.last);
+              });
+            }))
+
+        by_end : EndsRest s event a → Rested
+        by_end (inl same) = taken_up same
+        by_end (inr breaks) = rest_breaks breaks
+
+        rest_on : Rested
+        rest_on = by a.rests refl
+          where
+            by : (is_resting : Bool) → a.rests ≡ is_resting → Rested
+            by true e = rest_still e
+            by false e = by_end (rest_ends shape p s event rests resting.rests e)
+
+    event_on : (event : KeeperEvent) → (s.rests ≡ true → IsResting shape s w) → IsNumberInTurn s.last.number s.step (happens_at shape p s s.step event).step
         → Shows s.step (happens_at shape p s s.step event) (writing_after s.step event (happens_at shape p s s.step event) w) (calls_at shape s s.step event ++ calls)
-    event_on event turn = by_broken s.is_broken refl
+    event_on event resting turn = by_broken s.is_broken refl
       where
-        by_broken : (b : Bool) → s.is_broken ≡ b → Shows s.step (happens_at shape p s s.step event) (writing_after s.step event (happens_at shape p s s.step event) w) (calls_at shape s s.step event ++ calls)
+        Shown : KeeperState → Type 0
+        Shown a = Shows s.step a (writing_after s.step event a w) (calls_at shape s s.step event ++ calls)
+
+        same : happens_at shape p s s.step event ≡ keeper_happens shape p s event
+        same = happens_so shape p s event
+
+        by_rest : s.is_broken ≡ false → (rests : Bool) → s.rests ≡ rests → Shown (happens_at shape p s s.step event)
+        by_rest works true rests = subst Shown (sym same) (rest_on rests (resting rests) event)
+        by_rest works false awake = works_on (works, awake) s.step event refl turn
+
+        by_broken : (b : Bool) → s.is_broken ≡ b → Shown (happens_at shape p s s.step event)
         by_broken true broken = broken_on broken s.step event refl (broken_now broken).refused
-        by_broken false works = works_on works s.step event refl turn
+        by_broken false works = by_rest works s.rests refl
 
     -- what a crash leaves at each moment
     pub sound_stands : (image : List ℕ) → MayLeave opened calls image → IsOneInForce was s.last its w.first image × TriplesStand shape s.last.checkpoint its image
@@ -270,7 +414,7 @@ module _ (shape : Shape) (p : Places) (opened : List ℕ) (buckets : p.buckets �
 
         by_broken : (b : Bool) → Along shape p opened s was its w calls b → IsOneInForce was s.last its w.first image × TriplesStand shape s.last.checkpoint its image
         by_broken true broken = (broken.stands image left, broken.triples image left)
-        by_broken false along = by_step s.step along.0 along.1
+        by_broken false along = by_step (come_to s) along.0 along.1
 
     pub sound_named : number_at its.slot 8 ≡ s.last.number.0
     sound_named = by_broken s.is_broken is.along
@@ -283,29 +427,37 @@ module _ (shape : Shape) (p : Places) (opened : List ℕ) (buckets : p.buckets �
 
         by_broken : (b : Bool) → Along shape p opened s was its w calls b → number_at its.slot 8 ≡ s.last.number.0
         by_broken true broken = broken.named
-        by_broken false along = by_step s.step along.1
+        by_broken false along = by_step (come_to s) along.1
 
-    pub sound_at : s.is_broken ≡ false → was ≡ is_at_writes s.step
-    sound_at works = (along works).0
+    pub sound_at : s.is_broken ≡ false → was ≡ is_at_writes (come_to s)
+    sound_at works = (subst (λ (b : Bool). Along shape p opened s was its w calls b) works is.along).0
 
-    pub sound_written : s.step ≡ Finishes → (image : List ℕ) → MayLeave opened calls image → NewStands w.first image
-    sound_written e image left = by_broken s.is_broken is.along
+    -- a keeper that is at such a step has come to it
+    here : (step : Keeping) → s.step ≡ step → (MayRest step → ⊥) → (s.rests ≡ true → MayRest s.step) → Knows shape p opened s its w calls (come_to s) → Knows shape p opened s its w calls step
+    here step e not may knows = by s.rests refl knows
+      where
+        by : (rests : Bool) → s.rests ≡ rests → Knows shape p opened s its w calls (if rests then Writes else s.step) → Knows shape p opened s its w calls step
+        by true rests now = absurd (not (subst MayRest e (may rests)))
+        by false awake now = subst (λ (k : Keeping). Knows shape p opened s its w calls k) e now
+
+    pub sound_written : (s.rests ≡ true → MayRest s.step) → s.step ≡ Finishes → (image : List ℕ) → MayLeave opened calls image → NewStands w.first image
+    sound_written may e image left = by_broken s.is_broken is.along
       where
         by_broken : (b : Bool) → Along shape p opened s was its w calls b → NewStands w.first image
         by_broken true broken = absurd (subst (λ (k : Keeping). IsRefused k) e broken.refused)
         by_broken false along =
-            let knows : IsWrittenNow shape p opened s its w calls = subst (λ (k : Keeping). Knows shape p opened s its w calls k) e along.1 in
+            let knows : IsWrittenNow shape p opened s its w calls = here Finishes e (λ no. no) may along.1 in
             written_stands shape opened s.last its knows.commit s.used w calls knows.under_way knows.answered image left
 
     -- where the writes have just begun
-    pub sound_begins : s.step ≡ Writes → w ≡ record { first = s.writes; answers = [] } → Begins s.writes opened calls (slot_place s.last.number)
+    pub sound_begins : (s.rests ≡ true → MayRest s.step) → s.step ≡ Writes → w ≡ record { first = s.writes; answers = [] } → Begins s.writes opened calls (slot_place s.last.number)
     unfolding commit_made
-    sound_begins e begun = by_broken s.is_broken is.along
+    sound_begins may e begun = by_broken s.is_broken is.along
       where
         by_broken : (b : Bool) → Along shape p opened s was its w calls b → Begins s.writes opened calls (slot_place s.last.number)
         by_broken true broken = absurd (subst (λ (k : Keeping). IsRefused k) e broken.refused)
         by_broken false along =
-            let knows : IsWritingNow shape p opened s its w calls = subst (λ (k : Keeping). Knows shape p opened s its w calls k) e along.1 in
+            let knows : IsWritingNow shape p opened s its w calls = here Writes e (λ no. no) may along.1 in
             let before : calls ≡ knows.under_way.before = knows.under_way.made ∙ ap (λ (x : Writing). commit_made x.first x.answers ++ knows.under_way.before) begun in
             subst (λ (x : Writing). Begins x.first opened calls (slot_place s.last.number)) begun
             (subst (λ (m : List Call). Begins w.first opened m (slot_place s.last.number)) (sym before) knows.under_way.begins)
@@ -337,7 +489,7 @@ module _ (shape : Shape) (p : Places) (opened : List ℕ) (opening : KeeperState
   opening_sound = record {
     commit = subst (λ (x : Option Commit). CommitKnown shape p opened opening.last x) (sym told.is_opened.no_commit) tt;
     copy = subst (λ (x : Option Copier). CopyKnown shape p opened x) (sym told.no_copy) tt;
-    along = subst (λ (b : Bool). Along shape p opened opening false first_standing first_writing [] b) (sym told.is_opened.works) (by_step opening.step told.is_opened.none_in_hand);
+    along = along_awake shape p opened opening false first_standing first_writing [] (told.is_opened.works, told.is_opened.none_rest) (by_step opening.step told.is_opened.none_in_hand);
   }
     where
       by_step : (step : Keeping) → is_in_hand step ≡ false → (false ≡ is_at_writes step) × Knows shape p opened opening first_standing first_writing [] step
@@ -352,7 +504,7 @@ module _ (shape : Shape) (p : Places) (opened : List ℕ) (opening : KeeperState
   run_sound (event ∷ before) turns =
       subst (λ (after : KeeperState). IsSound shape p opened after (is_writing_after after.step was) (standing_after s.step after.step s.commit w.first its) (writing_after s.step event after w) (calls_of shape s event ++ calls)) (happens_so shape p s event)
       (subst (λ (made : List Call). Shown_after (happens_at shape p s s.step event) (made ++ calls)) (calls_so shape s event)
-      (event_on shape p opened told.buckets told.overflow s was its w calls (run_sound before turns.1) event
+      (event_on shape p opened told.buckets told.overflow s was its w calls (run_sound before turns.1) event (λ rests. run_rests shape p opening before told.is_opened rests)
       (subst (λ (after : KeeperState). IsNumberInTurn s.last.number s.step after.step) (sym (happens_so shape p s event)) turns.0)))
     where
       s : KeeperState
@@ -386,16 +538,19 @@ module _ (shape : Shape) (p : Places) (opened : List ℕ) (opening : KeeperState
       sound_named shape p opened told.buckets told.overflow (keeper_run shape p opening events) (is_writing shape p opening events) (standing shape p opened opening events) (writing shape p opening events) (calls_made shape p opening events)
       (run_sound events turns)
 
-  pub run_at : (events : List KeeperEvent) → AreNumbersInTurn shape p opening events → (keeper_run shape p opening events).is_broken ≡ false → is_writing shape p opening events ≡ is_at_writes (keeper_run shape p opening events).step
+  pub run_at : (events : List KeeperEvent) → AreNumbersInTurn shape p opening events → (keeper_run shape p opening events).is_broken ≡ false → is_writing shape p opening events ≡ is_at_writes (come_to (keeper_run shape p opening events))
   run_at events turns works =
       sound_at shape p opened told.buckets told.overflow (keeper_run shape p opening events) (is_writing shape p opening events) (standing shape p opened opening events) (writing shape p opening events) (calls_made shape p opening events)
       (run_sound events turns) works
+
+  may_rest : (events : List KeeperEvent) → (keeper_run shape p opening events).rests ≡ true → MayRest (keeper_run shape p opening events).step
+  may_rest events rests = (run_rests shape p opening events told.is_opened rests).rests
 
   pub run_written : (events : List KeeperEvent) (image : List ℕ) → AreNumbersInTurn shape p opening events → MayLeave opened (calls_made shape p opening events) image → (keeper_run shape p opening events).step ≡ Finishes
       → NewStands (writing shape p opening events).first image
   run_written events image turns left e =
       sound_written shape p opened told.buckets told.overflow (keeper_run shape p opening events) (is_writing shape p opening events) (standing shape p opened opening events) (writing shape p opening events) (calls_made shape p opening events)
-      (run_sound events turns) e image left
+      (run_sound events turns) (may_rest events) e image left
 
   -- only a reply leads from the wait to the writes
   from_wait : (s : KeeperState) (event : KeeperEvent) (w : Writing) → s.step ≡ Waits → (happens_at shape p s Waits event).step ≡ Writes
@@ -417,7 +572,7 @@ module _ (shape : Shape) (p : Places) (opened : List ℕ) (opening : KeeperState
   unfolding keeper_run writing
   run_begins events event turns waits begins_writes =
       sound_begins shape p opened told.buckets told.overflow (keeper_run shape p opening (event ∷ events)) (is_writing shape p opening (event ∷ events)) (standing shape p opened opening (event ∷ events)) (writing shape p opening (event ∷ events))
-      (calls_made shape p opening (event ∷ events)) (run_sound (event ∷ events) turns) begins_writes (begun begins_writes)
+      (calls_made shape p opening (event ∷ events)) (run_sound (event ∷ events) turns) (may_rest (event ∷ events)) begins_writes (begun begins_writes)
     where
       s : KeeperState
       s = keeper_run shape p opening events

@@ -27,7 +27,7 @@ use Rattle.fkv_keeper.specs.declared.answers.KeeperTold.{KeeperTold}
 use Rattle.fkv_keeper.specs.declared.answers.KeeperTold.TheVariants.{Turned, TurnRefused, Begun, CommitRefused}
 use Rattle.fkv_keeper.specs.declared.keepers.Keeping.{Keeping}
 use Rattle.fkv_keeper.specs.declared.keepers.Keeping.TheVariants.{Ended, Starts, Maintains, LoadsPhase, Enters, Copies, Seeks, Waits}
-use Rattle.fkv_keeper.specs.Keeping.{Finality, KeeperState, copied, copy_driven, points_known, ended, start_ledto, maintain_ledto, copies, part_begun, phase_ledto, enter_ledto, copy_ledto, seek_ledto, is_copy_resting}
+use Rattle.fkv_keeper.specs.Keeping.{Finality, KeeperState, copied, copy_driven, points_known, ended, start_ledto, maintain_ledto, copies, part_begun, writes_taken_up, phase_ledto, enter_ledto, copy_ledto, seek_ledto, is_copy_resting}
 use Rattle.fkv_keeper.specs.KeeperRun.{Writing}
 use Rattle.fkv_maintain.specs.declared.maintaining.MaintainAnswer.{MaintainAnswer}
 use Rattle.fkv_maintain.specs.declared.maintaining.MaintainAnswer.TheVariants as maintain
@@ -35,7 +35,7 @@ use Rattle.fkv_maintain.specs.Maintaining.{MaintainState, maintain_ask}
 use Rattle.law_world.specs.Standing.Opening.{IsNumberInTurn}
 use Rattle.law_world.specs.Standing.Standing.{Standing}
 use Rattle.law_world.proofs.OfStanding.Flushed.{IsCalm, calm_left}
-use Rattle.law_world.proofs.OfStanding.Moments.{IsPlain, CopyKnown, CommitKnown, MaintainKnows, GoesTo, IsAt, goes_plain, goes_maintains, goes_broken}
+use Rattle.law_world.proofs.OfStanding.Moments.{IsAwake, IsPlain, CopyKnown, CommitKnown, MaintainKnows, GoesTo, IsAt, goes_plain, goes_maintains, goes_broken}
 use Rattle.law_world.proofs.OfStanding.Turned.{calm_at_end}
 
 module _ (shape : Shape) (p : Places) (opened : List ℕ) where
@@ -66,7 +66,7 @@ module _ (shape : Shape) (p : Places) (opened : List ℕ) where
     maintain_on m ask e is asks = goes_maintains shape p opened s (record s { maintain = m }) was its w calls now.unwritten (now.at ∙ e) now.works now.commit now.copy is
 
     module _ (calm : IsCalm shape opened s.last its calls) where
-      on : (after : KeeperState) (to : Keeping) → IsPlain to → after.step ≡ to → after.is_broken ≡ false → after.last ≡ s.last → CommitKnown shape p opened s.last after.commit → CopyKnown shape p opened after.copy → Goes after
+      on : (after : KeeperState) (to : Keeping) → IsPlain to → after.step ≡ to → IsAwake shape p opened after → after.last ≡ s.last → CommitKnown shape p opened s.last after.commit → CopyKnown shape p opened after.copy → Goes after
       on after to plain e works same commit copy = goes_plain shape p opened s after was its w calls step to now calm plain e works same commit copy
 
       ends : (told : KeeperTold) → Goes (ended s told)
@@ -74,7 +74,7 @@ module _ (shape : Shape) (p : Places) (opened : List ℕ) where
 
       pub start_on : (x : StartState) (ask : Ask StartAnswer) → IsPlain step → IsNumberInTurn s.last.number Starts (start_ledto (record s { start = x }) ask).step → Goes (start_ledto (record s { start = x }) ask)
       unfolding start_ledto
-      start_on x (Done (start.Begun number first)) plain turn = on _ (Ended (Begun number)) tt refl now.works refl (record { next = turn.0; fits = turn.1 }) tt
+      start_on x (Done (start.Begun number first)) plain turn = on _ (Ended (Begun number)) tt refl (now.works.0, refl) refl (record { next = turn.0; fits = turn.1 }) tt
       start_on x (Done (start.Refused why)) plain turn = on _ (Ended (CommitRefused why)) tt refl now.works refl now.commit now.copy
       start_on x (Done start.Idle) plain turn = on _ (Ended (CommitRefused fault.CommitRunning)) tt refl now.works refl now.commit now.copy
       start_on x ask plain turn = on _ step plain now.at now.works refl now.commit now.copy
@@ -104,7 +104,11 @@ module _ (shape : Shape) (p : Places) (opened : List ℕ) where
       pub phase_on : (found : Option Commit) (said : PhaseSaid) (granted : Bool) → Goes (phase_ledto p s found said granted)
       unfolding phase_ledto
       phase_on None said granted = ends (Turned false s.is_drain_full)
-      phase_on (Some c) said granted = part_on c said granted
+      phase_on (Some c) said granted = by s.rests now.works.1
+        where
+          by : (rests : Bool) → rests ≡ false → Goes (if rests then writes_taken_up s granted else part_begun p s c said granted)
+          by true awake = cc
+          by false awake = part_on c said granted
 
       pub enter_on : (x : EnterState) (ask : Ask EnterAnswer) → IsPlain step → Goes (enter_ledto (record s { enter = x }) ask)
       unfolding enter_ledto

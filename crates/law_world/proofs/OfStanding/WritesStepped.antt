@@ -1,6 +1,6 @@
 -- What the steps lead to in which a commit is written and finished.
 use Rattle.std.proofs.Common.{◌≡◌, ℕ, ◌*◌, ◌^◌, ◌≤◌, List, [], ◌∷◌, ◌++◌, length, Bool, true, false, refl, sym, ◌∙◌, ap, subst, arith}
-use Rattle.std.specs.Prelude.{Option, Some, None}
+use Rattle.std.specs.Prelude.{Option, Some, None, if◌then◌else◌}
 use Rattle.std.proofs.lemmas.List.{length-append}
 use Rattle.std.proofs.lemmas.List.Concat.{flat_map-cons}
 use Rattle.fkv_base.specs.declared.shapes.Shape.{Shape}
@@ -29,11 +29,11 @@ use Rattle.fkv_keeper.specs.declared.answers.KeeperTold.TheVariants.{Turned}
 use Rattle.fkv_keeper.specs.declared.keepers.Keeping.{Keeping}
 use Rattle.fkv_keeper.specs.declared.keepers.Keeping.TheVariants.{Ended, Waits, Writes, Finishes}
 use Rattle.fkv_keeper.specs.declared.last_commits.Checkpoint.{Checkpoint}
-use Rattle.fkv_keeper.specs.Keeping.{Finality, KeeperState, triples_copied, bytes_copied, checkpoint_used, triples_written, writes_of, writes_begun, wait_ledto, finished, finish_ledto, write_ledto, writes_called, lost_left}
+use Rattle.fkv_keeper.specs.Keeping.{Finality, KeeperState, triples_copied, bytes_copied, checkpoint_used, triples_written, writes_of, writes_begun, wait_ledto, finished, finish_ledto, turned, must_rest, write_ledto, writes_called, lost_left}
 use Rattle.fkv_keeper.specs.KeeperRun.{Writing}
 use Rattle.law_world.specs.Standing.Standing.{Standing, is_at_writes, IsOneInForce, standing_after, is_writing_after}
 use Rattle.law_world.proofs.OfStanding.Flushed.{IsCalm}
-use Rattle.law_world.proofs.OfStanding.Moments.{CopyKnown, CommitKnown, IsWritingNow, IsWrittenNow, Along, Knows, IsSound, GoesTo, IsAt, goes_plain}
+use Rattle.law_world.proofs.OfStanding.Moments.{CopyKnown, CommitKnown, IsWritingNow, IsWrittenNow, Along, Knows, IsSound, GoesTo, IsAt, IsAwake, along_awake, goes_plain}
 use Rattle.law_world.proofs.OfStanding.Written.{IsNext, Lies, IsUnderWay, slot_names, writes_begin, under_way_stands, under_way_triples, finished_calm}
 
 -- sixteen bytes for each triple
@@ -78,7 +78,7 @@ module _ (shape : Shape) (p : Places) (opened : List ℕ) (buckets : p.buckets �
   begun_on s was its calls (Some c) now calm e = record {
     commit = now.commit;
     copy = tt;
-    along = subst (λ (b : Bool). Along shape p opened after true its begun calls b) (sym now.works) (refl, writing);
+    along = along_awake shape p opened after true its begun calls now.works (refl, writing);
   }
     where
       after : KeeperState
@@ -137,36 +137,45 @@ module _ (shape : Shape) (p : Places) (opened : List ℕ) (buckets : p.buckets �
     lies = is.lies;
   }
 
-  module _ (s : KeeperState) (was : Bool) (its : Standing) (w : Writing) (calls : List Call) (copy : CopyKnown shape p opened s.copy) (commit : CommitKnown shape p opened s.last s.commit) (works : s.is_broken ≡ false) where
-    written_on : (known : IsWritingNow shape p opened s its w calls) (found : Option Commit) (answer : WriteAnswer) → s.step ≡ Writes → s.commit ≡ found → commit_answer s.writes ≡ answer → GoesTo shape p opened was its w calls (write_ledto s found answer)
-    unfolding write_ledto
-    written_on known None answer e in_hand its_answer = let clash : None ≡ Some known.commit = sym in_hand ∙ known.in_hand in absurd (cc)
-    written_on known (Some c) write.Written e in_hand its_answer = record {
+  module _ (s : KeeperState) (was : Bool) (its : Standing) (w : Writing) (calls : List Call) (copy : CopyKnown shape p opened s.copy) (commit : CommitKnown shape p opened s.last s.commit) (works : IsAwake shape p opened s) where
+    written_still : IsWritingNow shape p opened s its w calls → s.step ≡ Writes → GoesTo shape p opened was its w calls s
+    written_still known e = record {
       commit = commit;
       copy = copy;
-      along = subst (λ (b : Bool). Along shape p opened (record s { finish = finish_begun s.finish c.number; step = Finishes }) true its w calls b) (sym works) (refl, written);
+      along = along_awake shape p opened s (is_writing_after s.step was) its w calls works (subst (λ (k : Keeping). (is_writing_after k was ≡ is_at_writes k) × Knows shape p opened s its w calls k) (sym e) (refl, known));
+    }
+
+    written_on : (known : IsWritingNow shape p opened s its w calls) (found : Option Commit) (answer : WriteAnswer) → s.step ≡ Writes → was ≡ true → s.commit ≡ found → commit_answer s.writes ≡ answer → GoesTo shape p opened was its w calls (write_ledto s found answer)
+    unfolding write_ledto
+    written_on known None answer e writes in_hand its_answer = let clash : None ≡ Some known.commit = sym in_hand ∙ known.in_hand in absurd (cc)
+    written_on known (Some c) write.Written e writes in_hand its_answer = record {
+      commit = commit;
+      copy = copy;
+      along = along_awake shape p opened (record s { finish = finish_begun s.finish c.number; step = Finishes }) true its w calls works (refl, written);
     }
       where
         written : IsWrittenNow shape p opened (record s { finish = finish_begun s.finish c.number; step = Finishes }) its w calls
         written = record { commit = known.commit; in_hand = known.in_hand; under_way = known.under_way; answered = ap commit_answer (sym known.run) ∙ its_answer }
-    written_on known (Some c) write.Device e in_hand its_answer = record {
-      commit = commit;
-      copy = copy;
-      along = subst (λ (b : Bool). Along shape p opened s (is_writing_after s.step was) its w calls b) (sym works) (subst (λ (k : Keeping). (is_writing_after k was ≡ is_at_writes k) × Knows shape p opened s its w calls k) (sym e) (refl, known));
-    }
-    written_on known (Some c) (write.Broken why) e in_hand its_answer = record {
-      commit = commit;
-      copy = copy;
-      along = subst (λ (b : Bool). Along shape p opened s (is_writing_after s.step was) its w calls b) (sym works) (subst (λ (k : Keeping). (is_writing_after k was ≡ is_at_writes k) × Knows shape p opened s its w calls k) (sym e) (refl, known));
-    }
+    written_on known (Some c) write.Device e writes in_hand its_answer = by (must_rest s)
+      where
+        rested_now : KeeperState
+        rested_now = turned (record s { rests = true })
 
-  module _ (s : KeeperState) (was : Bool) (its : Standing) (w : Writing) (calls : List Call) (copy : CopyKnown shape p opened s.copy) (commit : CommitKnown shape p opened s.last s.commit) (works : s.is_broken ≡ false) where
+        resting : IsWritingNow shape p opened rested_now its w calls
+        resting = record { commit = known.commit; in_hand = known.in_hand; under_way = known.under_way; run = known.run }
+
+        by : (rests : Bool) → GoesTo shape p opened was its w calls (if rests then rested_now else s)
+        by true = record { commit = commit; copy = copy; along = subst (λ (b : Bool). Along shape p opened rested_now was its w calls b) (sym works.0) (writes, resting) }
+        by false = written_still known e
+    written_on known (Some c) (write.Broken why) e writes in_hand its_answer = written_still known e
+
+  module _ (s : KeeperState) (was : Bool) (its : Standing) (w : Writing) (calls : List Call) (copy : CopyKnown shape p opened s.copy) (commit : CommitKnown shape p opened s.last s.commit) (works : IsAwake shape p opened s) where
     abbrev called : Bool → Writing
     called done = record w { answers = done ∷ w.answers }
 
     pub write_on : (done : Bool) → s.step ≡ Writes → was ≡ true → IsWritingNow shape p opened s its w calls → GoesTo shape p opened was its (called done) (with_call (commit_call s.writes done) [] ++ calls) (writes_called s done)
     unfolding commit_run
-    write_on true e writes known = written_on t was its (called true) after copy commit works now s.commit (commit_answer t.writes) e refl refl
+    write_on true e writes known = written_on t was its (called true) after copy commit works now s.commit (commit_answer t.writes) e writes refl refl
       where
         t : KeeperState
         t = record s { writes = commit_next s.writes true }
@@ -205,7 +214,7 @@ module _ (shape : Shape) (p : Places) (opened : List ℕ) (buckets : p.buckets �
     finished_on x (Some c) in_hand e known = record {
       commit = tt;
       copy = copy;
-      along = subst (λ (b : Bool). Along shape p opened (finished (record s { finish = x }) (Some c)) false (standing_after Finishes (Ended (Turned true s.is_drain_full)) (Some c) w.first its) w calls b) (sym works) (refl, calm);
+      along = along_awake shape p opened (finished (record s { finish = x }) (Some c)) false (standing_after Finishes (Ended (Turned true s.is_drain_full)) (Some c) w.first its) w calls works (refl, calm);
     }
       where
         same : known.commit ≡ c
@@ -227,7 +236,7 @@ module _ (shape : Shape) (p : Places) (opened : List ℕ) (buckets : p.buckets �
     finish_on x ask e writes known = record {
       commit = commit;
       copy = copy;
-      along = subst (λ (b : Bool). Along shape p opened (record s { finish = x }) (is_writing_after s.step was) (standing_after Finishes s.step s.commit w.first its) w calls b) (sym works)
+      along = along_awake shape p opened (record s { finish = x }) (is_writing_after s.step was) (standing_after Finishes s.step s.commit w.first its) w calls works
           (subst (λ (k : Keeping). (is_writing_after k was ≡ is_at_writes k) × Knows shape p opened (record s { finish = x }) (standing_after Finishes k s.commit w.first its) w calls k) (sym e) (refl, now));
     }
       where

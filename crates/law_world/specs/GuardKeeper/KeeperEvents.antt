@@ -7,7 +7,7 @@ use Rattle.fkv_plane.specs.declared.asks.Ask.TheVariants.{Done}
 use Rattle.fkv_plane.specs.declared.places.Places.{Places}
 use Rattle.fkv_plane.specs.Asked.{reply_to}
 use Rattle.fkv_epoch.specs.EpochWorld.{ToScan}
-use Rattle.fkv_flush.specs.GuardWorld.{GuardEvent, Begins, CallsElse, ToDo}
+use Rattle.fkv_flush.specs.GuardWorld.{GuardEvent, GuardTask, Begins, CallsElse, ToDo, ToServe}
 use Rattle.fkv_manifest.specs.Committing.{commit_call}
 use Rattle.fkv_keeper.specs.declared.answers.KeeperTold.{KeeperTold}
 use Rattle.fkv_keeper.specs.declared.answers.KeeperTold.TheVariants.{Device}
@@ -55,6 +55,10 @@ keeper_events_at a shape p granted done read s words ask = keeping_events a shap
 abbrev pub keeper_move_events : ℕ → Shape → Places → Bool → Bool → List ℕ → KeeperState → List ℕ → List GuardEvent
 keeper_move_events a shape p granted done read s words = keeper_events_at a shape p granted done read s words (keeper_ask shape p s)
 
--- A turn that begins scans first, where no call is in hand and the device has not failed. A commit that begins is nothing to the guard yet.
+-- A turn scans first, and where writes rest it serves alone
+abbrev pub turn_task : Bool → GuardTask
+turn_task rests = if rests then ToServe else ToDo ToScan
+
+-- It begins where no call is in hand and the device has not failed. A commit that begins is nothing to the guard yet.
 abbrev pub turn_asked_events : ℕ → KeeperState → List GuardEvent
-turn_asked_events a s = if is_in_hand s.step then [] else (if s.is_broken then [] else Begins a (ToDo ToScan) ∷ [])
+turn_asked_events a s = if is_in_hand s.step then [] else (if s.is_broken then [] else Begins a (turn_task s.rests) ∷ [])

@@ -63,7 +63,7 @@ unfoldable pub is_writing : Shape → Places → KeeperState → List KeeperEven
 is_writing shape p opening [] = false
 is_writing shape p opening (event ∷ before) = is_writing_after (keeper_run shape p opening (event ∷ before)).step (is_writing shape p opening before)
 
--- as long as no call has failed they are under way at these steps, and at no others
+-- as long as no call has failed they are under way where the keeper has come to these steps, and nowhere else
 abbrev pub is_at_writes : Keeping → Bool
 is_at_writes Writes = true
 is_at_writes Finishes = true

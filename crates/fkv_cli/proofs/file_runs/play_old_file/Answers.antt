@@ -5,10 +5,10 @@ use Rattle.fkv_cli.proofs.Endings.{file_unsaid, life_breaks_in_file, life_in_fil
 use Rattle.fkv_cli.proofs.file_runs.play_old_file.Goals as goal
 
 pub returns-in-Err-clause-whole : goal.returns-in-Err-clause-whole
-returns-in-Err-clause-whole g c = refused_old _ (places_of g.S.Disk.Device.honest g.S.Disk.Device.seen g.S.Disk.Device.may_leave g.S.Disk.Device.failed g.S.Disk.Device.refuses g.S.Disk.Breaks.broken (g.S.StorePlaces.is_opened c.args.places.now) (g.S.StorePlaces.is_made c.args.places.now)) c.args.path.now Device _ _ c.refuse.result (λ other. tt) c.refuse.ensures.memory c.refuse.ensures.text
+returns-in-Err-clause-whole g c = refused_old _ (places_of g.S.Disk.Device.honest g.S.Disk.Device.seen g.S.Disk.Device.may_leave g.S.Disk.Device.failed g.S.Disk.Device.refuses g.S.Disk.Device.expects g.S.Disk.Breaks.broken (g.S.StorePlaces.is_opened c.args.places.now) (g.S.StorePlaces.is_made c.args.places.now)) c.args.path.now Device _ _ c.refuse.result (λ other. tt) c.refuse.ensures.memory c.refuse.ensures.text
 
 pub returns-in-Err-clause-part : goal.returns-in-Err-clause-part
-returns-in-Err-clause-part g c = refusal_breaks (places_of g.S.Disk.Device.honest g.S.Disk.Device.seen g.S.Disk.Device.may_leave g.S.Disk.Device.failed g.S.Disk.Device.refuses g.S.Disk.Breaks.broken (g.S.StorePlaces.is_opened c.args.places.now) (g.S.StorePlaces.is_made c.args.places.now)) c.args.path.now c.args.pieces.now Device _ _ c.refuse.result (λ other. tt) c.refuse.ensures.part
+returns-in-Err-clause-part g c = refusal_breaks (places_of g.S.Disk.Device.honest g.S.Disk.Device.seen g.S.Disk.Device.may_leave g.S.Disk.Device.failed g.S.Disk.Device.refuses g.S.Disk.Device.expects g.S.Disk.Breaks.broken (g.S.StorePlaces.is_opened c.args.places.now) (g.S.StorePlaces.is_made c.args.places.now)) c.args.path.now c.args.pieces.now Device _ _ c.refuse.result (λ other. tt) c.refuse.ensures.part
 
 pub returns-in_err-write_report-in-Ok-opened-clause-part : goal.returns-in_err-write_report-in-Ok-opened-clause-part
 returns-in_err-write_report-in-Ok-opened-clause-part g c = when_err c.from_residual.result (file_unsaid _ _ c.args.pieces.now _)
@@ -35,12 +35,12 @@ returns-in_ok-play_life-in-Ok-opened-clause-whole g c =
 
 pub returns-in-Err-opened-clause-whole : goal.returns-in-Err-opened-clause-whole
 returns-in-Err-opened-clause-whole g c =
-    let places = (places_of g.S.Disk.Device.honest g.S.Disk.Device.seen g.S.Disk.Device.may_leave g.S.Disk.Device.failed g.S.Disk.Device.refuses g.S.Disk.Breaks.broken (g.S.StorePlaces.is_opened c.args.places.now) (g.S.StorePlaces.is_made c.args.places.now)) in
+    let places = (places_of g.S.Disk.Device.honest g.S.Disk.Device.seen g.S.Disk.Device.may_leave g.S.Disk.Device.failed g.S.Disk.Device.refuses g.S.Disk.Device.expects g.S.Disk.Breaks.broken (g.S.StorePlaces.is_opened c.args.places.now) (g.S.StorePlaces.is_made c.args.places.now)) in
     refused_old _ places c.args.path.now c.in-Err-opened.fault _ _ c.refuse-in-Err-opened.result (unopened_so places c.args.path.now c.in-Ok.found.0 c.in-Err-opened.fault c.in-Ok.ensures.opened c.in-Err-opened.ensures.refused) c.refuse-in-Err-opened.ensures.memory
     c.refuse-in-Err-opened.ensures.text
 
 pub returns-in-Err-opened-clause-part : goal.returns-in-Err-opened-clause-part
 returns-in-Err-opened-clause-part g c =
-    let places = (places_of g.S.Disk.Device.honest g.S.Disk.Device.seen g.S.Disk.Device.may_leave g.S.Disk.Device.failed g.S.Disk.Device.refuses g.S.Disk.Breaks.broken (g.S.StorePlaces.is_opened c.args.places.now) (g.S.StorePlaces.is_made c.args.places.now)) in
+    let places = (places_of g.S.Disk.Device.honest g.S.Disk.Device.seen g.S.Disk.Device.may_leave g.S.Disk.Device.failed g.S.Disk.Device.refuses g.S.Disk.Device.expects g.S.Disk.Breaks.broken (g.S.StorePlaces.is_opened c.args.places.now) (g.S.StorePlaces.is_made c.args.places.now)) in
     refusal_breaks places c.args.path.now c.args.pieces.now c.in-Err-opened.fault _ _ c.refuse-in-Err-opened.result (unopened_so places c.args.path.now c.in-Ok.found.0 c.in-Err-opened.fault c.in-Ok.ensures.opened c.in-Err-opened.ensures.refused)
     c.refuse-in-Err-opened.ensures.part

@@ -1,10 +1,11 @@
 use Rattle.std.proofs.Common.{◌≡◌, inl, inr, List, ℕ, sym, ◌∙◌, ap, subst}
-use Rattle.std.specs.Prelude.{Some}
+use Rattle.std.specs.Prelude.{◌++◌, Some, replicate}
+use Rattle.fkv_disk.specs.Kinds.{Kind}
 use Rattle.fkv_newest.specs.Newest.{IsNewestOf}
 use Rattle.fkv_record.specs.Layout.{shape_bytes}
 use Rattle.fkv_record.specs.Manifest.{SlotSaid, newest_bytes, said_in}
-use Rattle.fkv_creating.specs.Created.{laid, SparesRest}
-use Rattle.fkv_creating.specs.Filled.{filled, IsCleared, IsShutOrFilled}
+use Rattle.fkv_creating.specs.Created.{laid, laid_kinds, SparesRest}
+use Rattle.fkv_creating.specs.Filled.{filled, filled_kinds, IsCleared, IsShutOrFilled}
 use Rattle.fkv_creating.specs.Moments.{IsNoneOrNew}
 use Rattle.fkv_creating.proofs.Moving.{weaker}
 use Rattle.fkv_creating.proofs.Outcome.{none_or_new, failed_too}
@@ -13,6 +14,7 @@ use Rattle.fkv_creating.specs.Long.{IsLong}
 use Rattle.fkv_creating.proofs.Counting.{passed_on}
 use Rattle.fkv_creating.proofs.Newly.{newest_told, spared, is_long}
 use Rattle.fkv_creating.proofs.NewStores.{said_new}
+use Rattle.fkv_creating.proofs.Noting.{first_two, laid_told}
 use Rattle.fkv_creating.proofs.creating.create.Goals as goal
 
 pub returns-clause-ok : goal.returns-clause-ok
@@ -55,6 +57,17 @@ returns-clause-spared g c = λ claim.
 pub returns-clause-counted : goal.returns-clause-counted
 returns-clause-counted g c =
     passed_on 2 6 (g.D.Device.refuses c.args.d.now) (g.D.Device.refuses c.clear.new.d) (g.D.Device.refuses c.fill.new.d) c.in_ok-clear.field-0 c.in_ok-fill.field-0 c.new_store-newest.result c.in_ok-clear.ensures.counted c.in_ok-fill.ensures.counted
+
+pub returns-clause-kinds : goal.returns-clause-kinds
+returns-clause-kinds g c = λ later.
+    let e = g.D.Device.expects in
+    let n = c.new_store-newest.result in
+    let block = c.write_shape.result in
+    let slot = c.write_newest_slot.result in
+    first_two 0 (replicate 1536 0) (e c.args.d.now) (e c.clear.new.d) (e c.fill.new.d) (filled_kinds block slot) (λ rest. laid_kinds block slot ++ rest) (laid_told block slot) c.in_ok-clear.ensures.kinds c.in_ok-fill.ensures.kinds later
+    ∙ ap (λ (b : List ℕ). e c.args.d.now (laid_kinds b slot ++ later)) c.write_shape.ensures
+    ∙ ap (λ (s : List ℕ). e c.args.d.now (laid_kinds (shape_bytes c.args.shape) s ++ later)) c.write_newest_slot.ensures.said
+    ∙ ap (λ (said : SlotSaid). e c.args.d.now (laid_kinds (shape_bytes c.args.shape) (newest_bytes said) ++ later)) (said_new c.args.shape.sessions n.slot c.new_store-newest.ensures.slot)
 
 pub returns-clause-moments : goal.returns-clause-moments
 returns-clause-moments g c = λ claim.

@@ -1,12 +1,14 @@
 use Rattle.std.proofs.Common.{◌≡◌, ℕ, List, false, length, subst}
-use Rattle.std.specs.Prelude.{OnOk}
+use Rattle.std.specs.Prelude.{◌++◌, OnOk}
+use Rattle.std.proofs.lemmas.Result.{on_ok_weaker}
 use Rattle.fkv_disk.proofs.Shown.{goes_on_to}
-use Rattle.fkv_manifest.specs.Gating.{gate_start, gate_leads}
+use Rattle.fkv_manifest.specs.Gating.{gate_kinds, gate_leads, gate_start}
 use Rattle.fkv_manifest.specs.Tearing.{IsTornInOrder}
-use Rattle.fkv_creating.specs.Filled.{filled, IsShutOrFilled}
+use Rattle.fkv_creating.specs.Filled.{filled, filled_kinds, IsShutOrFilled}
 use Rattle.fkv_creating.proofs.Counting.{passed_at_last}
 use Rattle.fkv_creating.proofs.Filling.{in_block, in_slot}
 use Rattle.fkv_creating.proofs.Moving.{over_bytes, weaker}
+use Rattle.fkv_creating.proofs.Noting.{filled_told, first_two}
 use Rattle.fkv_creating.proofs.creating.fill.Goals as goal
 
 pub returns-clause-seen : goal.returns-clause-seen
@@ -32,3 +34,12 @@ pub returns-clause-counted : goal.returns-clause-counted
 returns-clause-counted g c =
     let r = g.D.Device.refuses in
     passed_at_last 2 4 (r c.args.d.now) (r c.write_synced.new.d) (r c.put_slot.new.d) c.in_ok-write_synced.field-0 c.put_slot.result c.in_ok-write_synced.ensures.counted c.put_slot.ensures.counted
+
+pub returns-clause-kinds : goal.returns-clause-kinds
+returns-clause-kinds g c =
+    let e = g.D.Device.expects in
+    let block = c.args.block.now in
+    let slot = c.args.slot.now in
+    on_ok_weaker c.put_slot.result
+    (first_two 0 block (e c.args.d.now) (e c.write_synced.new.d) (e c.put_slot.new.d) (gate_kinds 512 8 slot (gate_start false)) (λ later. filled_kinds block slot ++ later) (filled_told block slot) c.in_ok-write_synced.ensures.kinds)
+    c.put_slot.ensures.kinds

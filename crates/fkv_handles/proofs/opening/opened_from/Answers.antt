@@ -11,6 +11,6 @@ returns-in-Err-clause-refused c =
     let p = c.new-shown.result in
     let err = rw c.new-shown.ensures.outcomes at c.in-Err.ensures.err in
     let asked = c.in-Err.ensures.asked in
-    let none = never_failed asked.reads p.shown c.recover_warm.new.d.shown p.failures c.recover_warm.new.d.failures _ c.new-shown.ensures.shown c.new-shown.ensures.failures asked.kinds in
+    let none = never_failed asked.reads asked.synced p.shown c.recover_warm.new.d.shown p.failures c.recover_warm.new.d.failures _ c.new-shown.ensures.shown c.new-shown.ensures.failures asked.kinds in
     rw (← c.new-shown.ensures.opened)
     (refused_by p.failures c.recover_warm.new.d.failures (AreOutcomes p.log.opened (with_told p.failures p.told [])) p.log.opened c.in-Err.why (rw (c.new-shown.ensures.failures, c.new-shown.ensures.told) tt) none err)

@@ -1,7 +1,7 @@
 -- The parts of a turn.
 use Rattle.fkv_maintain.proofs.PartsDriven.{drives_its_parts}
 use Rattle.fkv_maintain.proofs.PartsFollow.{follows_in_order}
-use Rattle.fkv_maintain.proofs.PartsInOrder.{run_in_order, run_full, calls_in_parts}
+use Rattle.fkv_maintain.proofs.PartsInOrder.{run_in_order, run_full, serves_alone, calls_in_parts}
 use Rattle.fkv_maintain.proofs.laws.law_of_a_turn.Goals as goal
 
 pub returns-clause-follows : goal.returns-clause-follows
@@ -15,6 +15,9 @@ returns-clause-order c = run_in_order
 
 pub returns-clause-full : goal.returns-clause-full
 returns-clause-full c = run_full
+
+pub returns-clause-serves : goal.returns-clause-serves
+returns-clause-serves c = serves_alone
 
 pub returns-clause-calls : goal.returns-clause-calls
 returns-clause-calls c = calls_in_parts

@@ -1,8 +1,9 @@
 use Rattle.std.proofs.Common.{◌≡◌, false, true, ◌∙◌, sym, ap, arith}
 use Rattle.fkv_disk.proofs.Shown.{goes_on}
 use Rattle.fkv_manifest.specs.declared.answers.WriteAnswer.TheVariants.{Device}
-use Rattle.fkv_manifest.specs.Gating.{GateWriter, gate_answer, gate_calls_left, gate_start}
+use Rattle.fkv_manifest.specs.Gating.{GateWriter, gate_answer, gate_calls_left, gate_kinds, gate_start}
 use Rattle.fkv_manifest.specs.Tearing.{IsTornInOrder}
+use Rattle.fkv_manifest.proofs.Noting.{all_noted, noted_on}
 use Rattle.fkv_manifest.proofs.Putting.{put_on, all_put, one_fewer, is_written}
 use Rattle.fkv_manifest.proofs.Tearing.{kept_on, kept_after}
 use Rattle.fkv_manifest.proofs.slots.put_slot.Goals as goal
@@ -29,6 +30,8 @@ loop-writes-preserved g c =
             goes_on d.moment d.left_since c.args.d.now c.loop-writes.d c.device_step.new.d kind (d.may_leave c.device_step.new.d) was.1 (c.in_ok-device_step.ensures.time claim1)
                 (kept_after kind _ _ _ _ c.loop-writes.writes true was.0 does),
           ),
+      noted_on (gate_kinds c.args.place c.args.start c.args.slot (gate_start c.args.is_open)) (d.expects c.args.d.now) (d.expects c.loop-writes.d) (d.expects c.device_step.new.d) c.loop-writes.writes c.device_step.new.self c.loop-writes.invariant.2
+          calls c.in_ok-device_step.ensures.next c.in_ok-device_step.ensures.kind,
     )
 
 pub returns : goal.returns
@@ -43,6 +46,7 @@ returns g c =
       honest = all.claims;
       cause = record { later = all.later; rose = tt; named = tt };
       counted = all.counted;
+      kinds = all_noted (gate_kinds c.args.place c.args.start c.args.slot (gate_start c.args.is_open)) (g.D.Device.expects c.args.d.now) (g.D.Device.expects c.loop-writes.d) w.place w.start w.slot w.step c.loop-writes.invariant.2 end;
     }
 
 pub returns-in_err-device_step-clause-moments : goal.returns-in_err-device_step-clause-moments

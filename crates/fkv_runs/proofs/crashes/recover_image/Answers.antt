@@ -1,4 +1,5 @@
 use Rattle.std.proofs.Common.{rules, ◌∙◌}
+use Rattle.fkv_runs.proofs.Foretelling.{crashes_behind_reads, crashes_behind_sync}
 use Rattle.fkv_runs.proofs.Recovery.{cause_of_refusal, none_behind_reads, none_behind_sync, recovered_before}
 use Rattle.fkv_runs.proofs.crashes.recover_image.Goals as goal
 
@@ -24,3 +25,6 @@ returns-clause-reads g c = λ honest none.
       synced = λ image left. c.in_ok-opened.ensures.synced honest image (later.leaves_no_more still image left);
       sound = none_behind_reads _ _ _ _ c.content.ensures.reads none_behind;
     }
+
+pub returns-clause-crashes : goal.returns-clause-crashes
+returns-clause-crashes g c = λ image from. crashes_behind_reads _ _ image _ _ c.content.ensures.reads (crashes_behind_sync _ _ image _ _ c.recover.ensures.asked from)

@@ -13,18 +13,18 @@ use Rattle.fkv_runs.proofs.files.play_life.Goals as goal
 
 pub loop-piece-init : goal.loop-piece-init
 loop-piece-init g c =
-    let its = IsPieceOfLife (EngineStep g.D.Device.honest g.D.Device.seen g.D.Device.may_leave g.D.Device.failed g.D.Device.refuses g.D.Breaks.broken) in
+    let its = IsPieceOfLife (EngineStep g.D.Device.honest g.D.Device.seen g.D.Device.may_leave g.D.Device.failed g.D.Device.refuses g.D.Device.expects g.D.Breaks.broken) in
     none_written its false c.in_ok-player.player (g.W.Write.contents c.args.output.now)
 
 pub loop-piece-preserved : goal.loop-piece-preserved
 loop-piece-preserved g c =
-    let its = IsPieceOfLife (EngineStep g.D.Device.honest g.D.Device.seen g.D.Device.may_leave g.D.Device.failed g.D.Device.refuses g.D.Breaks.broken) in
+    let its = IsPieceOfLife (EngineStep g.D.Device.honest g.D.Device.seen g.D.Device.may_leave g.D.Device.failed g.D.Device.refuses g.D.Device.expects g.D.Breaks.broken) in
     next_read its false c.args.pieces.now c.loop-piece.piece-index c.piece-item.result c.in_ok-player.player c.loop-piece.player c.tell_piece.new.player false _ _ _
     c.loop-piece-test.true c.piece-item.is c.loop-piece.invariant c.in_ok-tell_piece.ensures.whole
 
 pub returns-clause-whole : goal.returns-clause-whole
 returns-clause-whole g c =
-    let its = IsPieceOfLife (EngineStep g.D.Device.honest g.D.Device.seen g.D.Device.may_leave g.D.Device.failed g.D.Device.refuses g.D.Breaks.broken) in
+    let its = IsPieceOfLife (EngineStep g.D.Device.honest g.D.Device.seen g.D.Device.may_leave g.D.Device.failed g.D.Device.refuses g.D.Device.expects g.D.Breaks.broken) in
     let pieces = c.args.pieces.now in
     let all : take c.loop-piece.piece-index pieces ≡ pieces = take_all c.loop-piece.piece-index pieces c.loop-piece-test.false in
     let written = c.loop-piece.invariant in (
@@ -42,7 +42,7 @@ returns-clause-whole g c =
 
 pub returns-in_err-tell_piece-clause-part : goal.returns-in_err-tell_piece-clause-part
 returns-in_err-tell_piece-clause-part g c =
-    let engine = EngineStep g.D.Device.honest g.D.Device.seen g.D.Device.may_leave g.D.Device.failed g.D.Device.refuses g.D.Breaks.broken in
+    let engine = EngineStep g.D.Device.honest g.D.Device.seen g.D.Device.may_leave g.D.Device.failed g.D.Device.refuses g.D.Device.expects g.D.Breaks.broken in
     begun_breaks (IsPartOfLife engine c.args.pieces.now) c.args.opened c.args.device c.new.result.items false c.in_ok-player.player _
     (g.W.Write.contents c.args.output.now) (g.W.Write.contents c.tell_piece.new.output) c.new.ensures.items c.in_ok-player.ensures
     (on_err _ (life_breaks engine c.args.pieces.now c.loop-piece.piece-index c.piece-item.result c.in_ok-player.player c.loop-piece.player
@@ -51,5 +51,5 @@ returns-in_err-tell_piece-clause-part g c =
 
 pub returns-in_err-player-clause-part : goal.returns-in_err-player-clause-part
 returns-in_err-player-clause-part g c =
-    let engine = EngineStep g.D.Device.honest g.D.Device.seen g.D.Device.may_leave g.D.Device.failed g.D.Device.refuses g.D.Breaks.broken in
+    let engine = EngineStep g.D.Device.honest g.D.Device.seen g.D.Device.may_leave g.D.Device.failed g.D.Device.refuses g.D.Device.expects g.D.Breaks.broken in
     on_err _ (breaks_at_once (λ text. (player : PlayerState g.row.D.Denot) × Begins c.args.opened c.args.device [] false player × IsPartOfLife engine c.args.pieces.now player text) (g.W.Write.contents c.args.output.now))

@@ -1,7 +1,8 @@
 -- The call of the device stands in the list, as it has ended.
 use Rattle.std.proofs.Common.{true, false}
+use Rattle.fkv_keeper.specs.KeeperAsks.{keeper_due}
 use Rattle.fkv_table.specs.Planes.{opening_of}
-use Rattle.fkv_table.proofs.ByDevice.{counts_done, counts_failed}
+use Rattle.fkv_table.proofs.ByDevice.{counts_done, counts_failed, met_done, met_failed}
 use Rattle.fkv_table.proofs.KeeperNotes.{spares_call}
 use Rattle.fkv_table.proofs.KeeperCalled.{after_on, called_on, went_on}
 use Rattle.fkv_table.proofs.KeeperMoments.{moments_called}
@@ -64,3 +65,9 @@ returns-in-Ok-clause-counted g c = counts_done c.args.machine.now c.call_device.
 
 pub returns-in-Err-clause-counted : goal.returns-in-Err-clause-counted
 returns-in-Err-clause-counted g c = counts_failed c.args.machine.now c.call_device.new.self _ _ _ _ _ _ c.requires.ask c.in-Err.ensures.asked c.in-Err.ensures.refused c.in-Err.ensures.cause c.in-Err.ensures.counted
+
+pub returns-in-Ok-clause-due : goal.returns-in-Ok-clause-due
+returns-in-Ok-clause-due g c = met_done c.args.machine.now c.call_device.new.self (keeper_due c.args.machine.now) (g.D.Device.expects c.args.d.now) _ c.requires.ask c.in-Ok.ensures.next c.in-Ok.ensures.kind
+
+pub returns-in-Err-clause-due : goal.returns-in-Err-clause-due
+returns-in-Err-clause-due g c = met_failed c.call_device.new.self (keeper_due c.args.machine.now) (g.D.Device.expects c.args.d.now) _ c.in-Err.ensures.refused c.in-Err.ensures.kind

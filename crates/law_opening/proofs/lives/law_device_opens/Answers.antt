@@ -15,4 +15,4 @@ pub returns-clause-steps : goal.returns-clause-steps
 returns-clause-steps g c = λ n steps opened only lead. all_led_on g.D.Device.seen g.D.Device.may_leave n c.args.device.now opened only steps lead
 
 pub returns-clause-made : goal.returns-clause-made
-returns-clause-made g c = λ n steps claim made. all_lead_on g.D.Device.honest g.D.Device.seen g.D.Device.may_leave g.D.Device.failed g.D.Device.refuses n c.args.device.now claim steps made
+returns-clause-made g c = λ n steps claim made. all_lead_on g.D.Device.honest g.D.Device.seen g.D.Device.may_leave g.D.Device.failed g.D.Device.refuses g.D.Device.expects n c.args.device.now claim steps made

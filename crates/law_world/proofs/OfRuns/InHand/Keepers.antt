@@ -47,13 +47,13 @@ use Rattle.fkv_keeper.specs.declared.answers.KeeperTold.TheVariants.{Device}
 use Rattle.fkv_keeper.specs.declared.keepers.Keeping.{Keeping}
 use Rattle.fkv_keeper.specs.declared.keepers.Keeping.TheVariants.{Ended, Starts, Maintains, LoadsPhase, Enters, Copies, Seeks, Waits, Writes, Finishes}
 use Rattle.fkv_keeper.specs.KeeperRun.{KeeperEvent, BeginsTurn, BeginsCommit, Replies, Gets, Calls, begins, is_in_hand, keeper_happens, keeper_run}
-use Rattle.fkv_keeper.specs.Keeping.{KeeperState, commit_asked, copies, copies_next, copy_asked, copy_driven, copy_ledto, device_passed, enter_ledto, finish_ledto, finished, keeper_ask, keeper_next, keeping_ask, keeping_called, keeping_given, keeping_next, maintain_ledto, part_begun, phase_ledto, seek_ledto, start_ledto, turn_asked, turn_over, turned, wait_ledto, write_asked, write_ledto, writes_begun, is_copy_resting}
+use Rattle.fkv_keeper.specs.Keeping.{must_rest, parts_begun, KeeperState, commit_asked, copies, copies_next, copy_asked, copy_driven, copy_ledto, device_passed, enter_ledto, finish_ledto, finished, keeper_ask, keeper_next, keeping_ask, keeping_called, keeping_given, keeping_next, maintain_ledto, part_begun, phase_ledto, seek_ledto, start_ledto, turn_asked, turn_over, turned, wait_ledto, write_asked, write_ledto, writes_begun, is_copy_resting}
 use Rattle.fkv_world.specs.Actors.{slot_asked, slot_of_step}
 use Rattle.fkv_world.specs.Moves.{Near, keeper_asks, keeper_gets, keeper_replied, keeper_settled}
 use Rattle.law_world.proofs.OfRuns.NoSlots.{IsOffSlots, passed_off}
 use Rattle.law_world.proofs.OfRuns.InHand.Asks.{AtSlot, at_more, off_at, passed_at}
 use Rattle.law_world.proofs.OfRuns.InHand.Defers.{EnterNow, SeekNow, StartNow, enter_at, enter_fits, owing_fits, seek_at, seek_fits, start_at, start_fits}
-use Rattle.law_world.proofs.OfRuns.InHand.Turns.{MaintainNow, begun_now, maintain_called_now, maintain_given_now, maintain_next_now}
+use Rattle.law_world.proofs.OfRuns.InHand.Turns.{MaintainNow, begun_now, serving_now, maintain_called_now, maintain_given_now, maintain_next_now}
 
 -- the part that is under way goes on behind a slot
 abbrev Fits : Shape → Places → KeeperState → Keeping → Type 0
@@ -105,7 +105,7 @@ part_now shape p s c said granted = tt
 phased : (shape : Shape) (p : Places) (s : KeeperState) (c : Option Commit) (said : PhaseSaid) (granted : Bool) → KeeperNow shape p (phase_ledto p s c said granted)
 unfolding phase_ledto
 phased shape p s None said granted = tt
-phased shape p s (Some c) said granted = part_now shape p s c said granted
+phased shape p s (Some c) said granted = either shape p s.rests _ _ (either shape p granted _ _ tt tt) (part_now shape p s c said granted)
 
 entered : (shape : Shape) (p : Places) (s : KeeperState) (ask : Ask EnterAnswer) → s.step ≡ Enters → EnterNow s.enter → KeeperNow shape p (enter_ledto s ask)
 unfolding enter_ledto
@@ -171,7 +171,7 @@ written : (shape : Shape) (p : Places) (s : KeeperState) (c : Option Commit) (an
 unfolding write_ledto
 written shape p s None answer at = tt
 written shape p s (Some c) write.Written at = tt
-written shape p s (Some c) write.Device at = there shape p s Writes at tt
+written shape p s (Some c) write.Device at = either shape p (must_rest s) _ _ tt (there shape p s Writes at tt)
 written shape p s (Some c) (write.Broken why) at = there shape p s Writes at tt
 
 called_now : (shape : Shape) (p : Places) (s : KeeperState) (step : Keeping) (done : Bool) (bytes : List ℕ) → s.step ≡ step → Fits shape p s step → KeeperNow shape p s → KeeperNow shape p (keeping_called shape p s step done bytes)
@@ -186,10 +186,14 @@ begins_now shape p s t true now begun = now
 begins_now shape p s t false now begun = begun
 
 turn_now : (shape : Shape) (p : Places) (s : KeeperState) → KeeperNow shape p (turn_asked s)
-turn_now shape p s = either shape p s.is_broken _ _ tt (begun_now shape p s.maintain)
+turn_now shape p s = either shape p s.is_broken _ _ tt (parts_now s.rests)
+  where
+    parts_now : (rests : Bool) → MaintainNow shape p (parts_begun rests s.maintain)
+    parts_now true = serving_now shape p s.maintain
+    parts_now false = begun_now shape p s.maintain
 
 commit_now : (shape : Shape) (p : Places) (s : KeeperState) (kind : _) → KeeperNow shape p (commit_asked s kind)
-commit_now shape p s kind = either shape p s.is_broken _ _ tt tt
+commit_now shape p s kind = either shape p s.is_broken _ _ tt (either shape p s.rests _ _ tt tt)
 
 event_now : (shape : Shape) (p : Places) (s : KeeperState) (event : KeeperEvent) → KeeperNow shape p s → KeeperNow shape p (keeper_happens shape p s event)
 unfolding keeper_happens

@@ -26,7 +26,7 @@ use Rattle.fkv_log.specs.Turning.{turn_ask, turn_next, turn_next_ask, turning_as
 use Rattle.fkv_maintain.specs.declared.maintaining.MaintainAnswer.TheVariants as answer
 use Rattle.fkv_maintain.specs.declared.maintaining.Maintaining.{Maintaining}
 use Rattle.fkv_maintain.specs.declared.maintaining.Maintaining.TheVariants.{Through, Spent, Broken, Scans, Claims, Flushes, Shifts, Turns, Serves}
-use Rattle.fkv_maintain.specs.Maintaining.{MaintainState, maintain_begun, device_asked, maintain_ask, maintain_given, maintain_next, maintain_called, maintaining_ask, maintaining_given, maintaining_next, maintaining_called, scan_ledto, claim_ledto, flush_ledto, shift_ledto, serve_ledto, serve_begun, turn_ledto}
+use Rattle.fkv_maintain.specs.Maintaining.{MaintainState, maintain_begun, maintain_serving, device_asked, maintain_ask, maintain_given, maintain_next, maintain_called, maintaining_ask, maintaining_given, maintaining_next, maintaining_called, scan_ledto, claim_ledto, flush_ledto, shift_ledto, serve_ledto, serve_begun, turn_ledto}
 use Rattle.law_world.proofs.OfRuns.NoSlots.{IsOffSlots, passed_off}
 use Rattle.law_world.proofs.OfRuns.InHand.Asks.{AtSlot, RunsNext, at_more, claim_at, off_at, passed_at, scan_off}
 use Rattle.law_world.proofs.OfRuns.InHand.Moved.{ShiftAt, ShiftStays, TurnAt, TurnStays, shift_next_at, turn_next_at}
@@ -153,6 +153,10 @@ turn_done shape p s ask at is = there shape p s Turns at (turns_at shape p s at 
 pub begun_now : (shape : Shape) (p : Places) (s : MaintainState) → MaintainNow shape p (maintain_begun s)
 unfolding maintaining_ask scan_ask passed
 begun_now shape p s = tt
+
+pub serving_now : (shape : Shape) (p : Places) (s : MaintainState) → MaintainNow shape p (maintain_serving s)
+unfolding maintaining_ask serve_ask device_asked passed
+serving_now shape p s = tt
 
 next_now : (shape : Shape) (p : Places) (s : MaintainState) (step : Maintaining) (reply : ℕ) → s.step ≡ step → MaintainNow shape p (maintaining_next shape p s step reply)
 unfolding maintaining_next maintaining_ask

@@ -1,5 +1,6 @@
 -- By the law of checkpoints, of its own run.
 use Rattle.std.specs.Prelude.{◌≡◌}
+use Rattle.fkv_keeper.specs.Keeping.{come_to}
 use Rattle.fkv_keeper.specs.CheckpointLaws.{AreWritesBegun, ChangesItsWords, CopiesOnce, DoesOneThing, HoldsCopy, IsBehindWait, IsBeingWritten, KeepsLists, SparesDurable}
 use Rattle.fkv_keeper.specs.declared.keepers.Keeping.TheVariants.{Writes}
 use Rattle.fkv_keeper.proofs.Shown.{each_move, run_holds, run_spares, run_stores, run_used, run_writes}
@@ -15,7 +16,7 @@ pub returns-clause-writes : goal.returns-clause-writes
 returns-clause-writes c = λ opening events event before opened newest waits writes. of_event (λ s. AreWritesBegun opening.now.shape opening.now.places (replies_copied opening before) (begun_last opening before) (keeper_after opening before) s) opening events event before newest (run_writes opening.now.shape opening.now.places opening.now.keeper before event opened.keeper waits (to_event (λ s. s.step ≡ Writes) opening events event before newest writes))
 
 pub returns-clause-used : goal.returns-clause-used
-returns-clause-used c = λ opening events opened behind. of_keeper (λ s. IsBeingWritten opening.now.places (replies_copied opening (keeper_events opening events)) (begun_last opening (keeper_events opening events)) (life_writing opening events) s) opening events (run_used opening.now.shape opening.now.places opening.now.keeper (keeper_events opening events) opened.keeper (to_keeper (λ s. IsBehindWait s.step) opening events behind))
+returns-clause-used c = λ opening events opened behind. of_keeper (λ s. IsBeingWritten opening.now.places (replies_copied opening (keeper_events opening events)) (begun_last opening (keeper_events opening events)) (life_writing opening events) s) opening events (run_used opening.now.shape opening.now.places opening.now.keeper (keeper_events opening events) opened.keeper (to_keeper (λ s. IsBehindWait (come_to s)) opening events behind))
 
 pub returns-clause-copies : goal.returns-clause-copies
 returns-clause-copies c = λ opening events event later before its. by_move (λ s. CopiesOnce opening.now.places (keeper_after opening before) event s) opening event before ((each_move opening.now.shape opening.now.places (keeper_after opening before) event).copies)

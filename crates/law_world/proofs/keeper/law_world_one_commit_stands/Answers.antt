@@ -1,6 +1,7 @@
 -- By the law of the commit that stands, of its own run.
 use Rattle.std.specs.Prelude.{◌≡◌, false}
 use Rattle.fkv_keeper.specs.declared.keepers.Keeping.TheVariants.{Finishes}
+use Rattle.fkv_keeper.specs.Keeping.{come_to}
 use Rattle.fkv_record.specs.Places.{number_at}
 use Rattle.law_world.specs.Standing.Standing.{IsOneInForce, TriplesStand, is_at_writes}
 use Rattle.law_world.proofs.OfStanding.Runs.{run_at, run_named, run_stands, run_written}
@@ -27,7 +28,7 @@ pub returns-clause-named : goal.returns-clause-named
 returns-clause-named c = λ opening events life. of_keeper (λ s. number_at (life_standing opening events).slot 8 ≡ s.last.number.0) opening events (run_named opening.now.shape opening.now.places opening.past.opened opening.now.keeper life.told (keeper_events opening events) life.in_turn)
 
 pub returns-clause-writes : goal.returns-clause-writes
-returns-clause-writes c = λ opening events life works. of_keeper (λ s. is_life_writing opening events ≡ is_at_writes s.step) opening events (run_at opening.now.shape opening.now.places opening.past.opened opening.now.keeper life.told (keeper_events opening events) life.in_turn (to_keeper (λ s. s.is_broken ≡ false) opening events works))
+returns-clause-writes c = λ opening events life works. of_keeper (λ s. is_life_writing opening events ≡ is_at_writes (come_to s)) opening events (run_at opening.now.shape opening.now.places opening.past.opened opening.now.keeper life.told (keeper_events opening events) life.in_turn (to_keeper (λ s. s.is_broken ≡ false) opening events works))
 
 pub returns-clause-written : goal.returns-clause-written
 returns-clause-written c = λ opening events image life left finishes. run_written opening.now.shape opening.now.places opening.past.opened opening.now.keeper life.told (keeper_events opening events) image life.in_turn (image_left opening events image life.opened left) (to_keeper (λ s. s.step ≡ Finishes) opening events finishes)

@@ -25,7 +25,7 @@ returns-then-advance-clause-alone g c =
     let told : Option Told = c.answer.result in
     let tells : IsAnswerBehind c.advance.result c.moving-event.result after told = subst (λ (ended : Bool). IsAnswerBehind ended c.moving-event.result after told) (sym c.if-advance.true) c.answer.ensures.told in
     rw c.answer.ensures.same
-    (told_last c.args.actor c.moving-event.result c.loop.counter c.args.self.now.now c.loop.self.now after told _ _ _ _ _ _ _ _ _ _ _ _ _ _ c.loop.invariant.so_far c.loop.invariant.honest.0 c.moving-event.ensures (c.advance.ensures.step told tells)
+    (told_last c.args.actor c.moving-event.result c.loop.counter c.args.self.now.now c.loop.self.now after told _ _ _ _ _ _ _ _ _ _ _ _ _ _ _ _ c.loop.invariant.so_far c.loop.invariant.honest.0 c.moving-event.ensures (c.advance.ensures.step told tells)
     (ended_rests c.args.actor c.moving-event.result c.loop.self.now after c.advance.result c.moving-event.ensures c.advance.ensures.ended c.if-advance.true))
 
 pub returns-then-advance-clause-honest : goal.returns-then-advance-clause-honest
@@ -40,7 +40,7 @@ loop-preserved g c =
     let more = c.advance.ensures.honest in
     record {
       honest = (λ it. more.0 (was.0 it), λ it. was.1 (more.1 it));
-      so_far = told_nothing c.args.actor c.moving-event.result c.loop.counter c.args.self.now.now c.loop.self.now c.advance.new.self.now _ _ _ _ _ _ _ _ _ _ _ _ _ _ c.loop.invariant.so_far was.0 c.moving-event.ensures (c.advance.ensures.step None (subst (λ (ended : Bool). IsAnswerBehind ended c.moving-event.result c.advance.new.self.now None) (sym c.if-advance.false) refl));
+      so_far = told_nothing c.args.actor c.moving-event.result c.loop.counter c.args.self.now.now c.loop.self.now c.advance.new.self.now _ _ _ _ _ _ _ _ _ _ _ _ _ _ _ _ c.loop.invariant.so_far was.0 c.moving-event.ensures (c.advance.ensures.step None (subst (λ (ended : Bool). IsAnswerBehind ended c.moving-event.result c.advance.new.self.now None) (sym c.if-advance.false) refl));
     }
 
 pub returns-clause-alone : goal.returns-clause-alone

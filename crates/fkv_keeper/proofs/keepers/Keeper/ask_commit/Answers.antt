@@ -3,7 +3,7 @@ use Rattle.std.proofs.Common.{rules, ◌≡◌, ◌∙◌, refl, sym, ap, subst,
 use Rattle.fkv_plane.specs.Passing.{is_done}
 use Rattle.fkv_epoch.specs.Claiming.{takes_action}
 use Rattle.fkv_keeper.specs.Keeping.{KeeperModel, KeeperState, commit_asked, keeper_ask}
-use Rattle.fkv_keeper.proofs.BeginRun.{Begins, begins_next, begin_ends, begin_stops, begin_idle, begin_takes, broken_begun}
+use Rattle.fkv_keeper.proofs.BeginRun.{Begins, asked_keeps, begins_next, begin_ends, begin_stops, begin_idle, begin_takes, broken_begun}
 use Rattle.fkv_keeper.specs.WholeCalls.{IsCallSoFar}
 use Rattle.fkv_keeper.proofs.KeeperLeft.{never}
 use Rattle.fkv_keeper.proofs.WholeCalls.{call_first, call_of, so_far, put_steps, word_steps}
@@ -28,13 +28,13 @@ returns-then-self-clause-begun c =
 pub returns-in-Done-clause-begun : goal.returns-in-Done-clause-begun
 returns-in-Done-clause-begun c =
     let now = c.asks.self in
-    let same : c.begin_commit.new.self.state.commit ≡ c.args.self.now.state.commit = search rules in
+    let same : c.begin_commit.new.self.state.commit ≡ c.args.self.now.state.commit = ap (λ (k : KeeperModel). k.state.commit) c.begin_commit.ensures.next ∙ asked_keeps c.args.self.now.state c.args.kind in
     rw (← same) (begin_ends _ now.shape now.places now.state c.in-Done.told c.begin_told.result c.asks.invariant.begins (sym c.ask.ensures ∙ c.in-Done.is) c.begin_told.ensures)
 
 pub returns-in-Take-clause-begun : goal.returns-in-Take-clause-begun
 returns-in-Take-clause-begun c =
     let now = c.asks.self in
-    let same : c.begin_commit.new.self.state.commit ≡ c.args.self.now.state.commit = search rules in
+    let same : c.begin_commit.new.self.state.commit ≡ c.args.self.now.state.commit = ap (λ (k : KeeperModel). k.state.commit) c.begin_commit.ensures.next ∙ asked_keeps c.args.self.now.state c.args.kind in
     begin_stops _ now.shape now.places now.state c.asks.invariant.begins (ap is_done (sym c.ask.ensures ∙ c.in-Take.is)) ∙ same
 
 pub asks-preserved-in-Put : goal.asks-preserved-in-Put

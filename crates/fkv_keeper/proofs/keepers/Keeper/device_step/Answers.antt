@@ -3,4 +3,4 @@ use Rattle.fkv_keeper.proofs.KeeperDue.{makes_due}
 use Rattle.fkv_keeper.proofs.keepers.Keeper.device_step.Goals as goal
 
 pub returns-clause-due : goal.returns-clause-due
-returns-clause-due g c = makes_due _ _ _ c.call_device.ensures.kind
+returns-clause-due g c = makes_due c.args.self.now

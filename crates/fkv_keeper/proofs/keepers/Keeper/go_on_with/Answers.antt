@@ -1,6 +1,6 @@
 -- It is busy where some asks and calls are left, and each reply leaves fewer.
 use Rattle.std.proofs.Common.{rules, ◌≡◌, ◌<◌, ap, sym, subst, is_some}
-use Rattle.fkv_keeper.specs.Keeping.{KeeperModel, KeeperState, keeping_next, keeper_ask, keeper_next}
+use Rattle.fkv_keeper.specs.Keeping.{KeeperModel, KeeperState, granted_for, keeping_next, keeper_ask, keeper_next}
 use Rattle.fkv_keeper.specs.KeeperAsks.{keeper_asks_left}
 use Rattle.fkv_keeper.proofs.KeeperFewer.{keeper_fewer}
 use Rattle.fkv_keeper.proofs.KeeperLeft.{keeper_asked}
@@ -11,7 +11,7 @@ unfolding keeping_next
 returns-clause-left c =
     let before = c.args.self.now in
     let after = c.match-self.self in
-    let next = keeper_next before.shape before.places before.state c.args.reply (is_some c.args.room) in
+    let next = keeper_next before.shape before.places before.state c.args.reply (granted_for before.state (is_some c.args.room) c.args.goes_on) in
     let its : after ≡ record before { state = next } = search rules in
     let asked : c.ask.result ≡ keeper_ask before.shape before.places after.state = search rules in
     keeper_asked before.shape before.places after.state c.ask.result asked
@@ -21,10 +21,10 @@ unfolding keeping_next
 returns-clause-fewer c =
     let before = c.args.self.now in
     let after = c.match-self.self in
-    let its : after ≡ record before { state = keeper_next before.shape before.places before.state c.args.reply (is_some c.args.room) } = search rules in
+    let its : after ≡ record before { state = keeper_next before.shape before.places before.state c.args.reply (granted_for before.state (is_some c.args.room) c.args.goes_on) } = search rules in
     let state = ap (λ (k : KeeperModel). k.state) its in
     λ asks takes. subst (λ (s : KeeperState). keeper_asks_left before.shape before.places s < keeper_asks_left before.shape before.places before.state) (sym state)
-    (keeper_fewer before.shape before.places before.state c.args.reply (is_some c.args.room) asks takes)
+    (keeper_fewer before.shape before.places before.state c.args.reply (granted_for before.state (is_some c.args.room) c.args.goes_on) asks takes)
 
 pub returns-in-Maintains-clause-left : goal.returns-in-Maintains-clause-left
 returns-in-Maintains-clause-left c =
@@ -33,6 +33,6 @@ returns-in-Maintains-clause-left c =
 pub returns-in-Maintains-clause-fewer : goal.returns-in-Maintains-clause-fewer
 returns-in-Maintains-clause-fewer c =
     let before = c.args.self.now in
-    let state = ap (λ (k : KeeperModel). k.state) (c.go_on_maintaining.ensures.next (is_some c.args.room)) in
+    let state = ap (λ (k : KeeperModel). k.state) (c.go_on_maintaining.ensures.next (granted_for before.state (is_some c.args.room) c.args.goes_on)) in
     λ asks takes. subst (λ (s : KeeperState). keeper_asks_left before.shape before.places s < keeper_asks_left before.shape before.places before.state) (sym state)
-    (keeper_fewer before.shape before.places before.state c.args.reply (is_some c.args.room) asks takes)
+    (keeper_fewer before.shape before.places before.state c.args.reply (granted_for before.state (is_some c.args.room) c.args.goes_on) asks takes)

@@ -9,5 +9,5 @@ use Rattle.fkv_playing.proofs.players.Player.play_alone.Given as goal
 
 abbrev pub invariant-loop : goal.invariant-loop
 invariant-loop g l = Writes
-    (InTurn (IsBeat (EngineStep g.D.Device.honest g.D.Device.seen g.D.Device.may_leave g.D.Device.failed g.D.Device.refuses g.D.Breaks.broken) l.telling l.call)
+    (InTurn (IsBeat (EngineStep g.D.Device.honest g.D.Device.seen g.D.Device.may_leave g.D.Device.failed g.D.Device.refuses g.D.Device.expects g.D.Breaks.broken) l.telling l.call)
     GoesOn (Begins ∷ replicate l.counter Moves) l.fn.self l.self l.outcome) (g.W.Write.contents l.fn.output) (g.W.Write.contents l.output)

@@ -5,6 +5,6 @@ use Rattle.fkv_playing.proofs.players.Player.play_group.Given as goal
 
 abbrev pub invariant-loop : goal.invariant-loop
 invariant-loop g l =
-    SomePicks (EngineStep g.D.Device.honest g.D.Device.seen g.D.Device.may_leave g.D.Device.failed g.D.Device.refuses g.D.Breaks.broken)
+    SomePicks (EngineStep g.D.Device.honest g.D.Device.seen g.D.Device.may_leave g.D.Device.failed g.D.Device.refuses g.D.Device.expects g.D.Breaks.broken)
     (record { player = l.fn.self; queues = l.fn.queues.items }) (record { player = l.self; queues = l.queues.items })
     (g.W.Write.contents l.fn.output) (g.W.Write.contents l.output)

@@ -12,7 +12,7 @@ use Rattle.fkv_playing.proofs.players.Player.play_rounds.Goals.{then-eq+in_ok-wr
 
 pub returns : goal.returns
 returns g c =
-    let engine = EngineStep g.D.Device.honest g.D.Device.seen g.D.Device.may_leave g.D.Device.failed g.D.Device.refuses g.D.Breaks.broken in
+    let engine = EngineStep g.D.Device.honest g.D.Device.seen g.D.Device.may_leave g.D.Device.failed g.D.Device.refuses g.D.Device.expects g.D.Breaks.broken in
     let its = c.in_ok-outcome.ensures in
     let all : c.as_slice.result.now ≡ rounds most_rounds (round_of c.args.self.now.seats) =
     c.as_slice.ensures.value ∙ c.in_ok-calls.ensures ∙ ap (λ (seats : List SeatState). rounds most_rounds (round_of seats)) (c.deref.ensures.value ∙ ap (λ (player : PlayerState g.row.D.Denot). player.seats) c.self.view_is) in

@@ -8,7 +8,7 @@ use Rattle.fkv_runs.specs.Runs.{RunModel, is_due}
 
 pub returns-then-not-is_due-clause-whole : goal.returns-then-not-is_due-clause-whole
 returns-then-not-is_due-clause-whole g c =
-    let medium = medium_of g.D.Device.honest g.D.Device.seen g.D.Device.may_leave g.D.Device.failed g.D.Device.refuses g.D.Breaks.broken g.D.Crashes.image g.D.Crashes.armed in
+    let medium = medium_of g.D.Device.honest g.D.Device.seen g.D.Device.may_leave g.D.Device.failed g.D.Device.refuses g.D.Device.expects g.D.Breaks.broken g.D.Crashes.armed in
     let off = c.if-not-is_due.true in
     let is = c.is_due.ensures in
     let waits = c.waits.ensures in
@@ -18,7 +18,7 @@ returns-then-not-is_due-clause-whole g c =
 
 pub returns-clause-whole : goal.returns-clause-whole
 returns-clause-whole g c =
-    let medium = medium_of g.D.Device.honest g.D.Device.seen g.D.Device.may_leave g.D.Device.failed g.D.Device.refuses g.D.Breaks.broken g.D.Crashes.image g.D.Crashes.armed in
+    let medium = medium_of g.D.Device.honest g.D.Device.seen g.D.Device.may_leave g.D.Device.failed g.D.Device.refuses g.D.Device.expects g.D.Breaks.broken g.D.Crashes.armed in
     let on = c.if-not-is_due.false in
     let is = c.is_due.ensures in
     let waits = c.waits.ensures in
@@ -29,7 +29,7 @@ returns-clause-whole g c =
 
 pub returns-in_err-run-clause-part : goal.returns-in_err-run-clause-part
 returns-in_err-run-clause-part g c =
-    let medium = medium_of g.D.Device.honest g.D.Device.seen g.D.Device.may_leave g.D.Device.failed g.D.Device.refuses g.D.Breaks.broken g.D.Crashes.image g.D.Crashes.armed in
+    let medium = medium_of g.D.Device.honest g.D.Device.seen g.D.Device.may_leave g.D.Device.failed g.D.Device.refuses g.D.Device.expects g.D.Breaks.broken g.D.Crashes.armed in
     let on = c.if-not-is_due.false in
     let is = c.is_due.ensures in
     let waits = c.waits.ensures in
@@ -40,7 +40,7 @@ returns-in_err-run-clause-part g c =
 
 pub returns-in_default-clause-whole : goal.returns-in_default-clause-whole
 returns-in_default-clause-whole g c =
-    let medium = medium_of g.D.Device.honest g.D.Device.seen g.D.Device.may_leave g.D.Device.failed g.D.Device.refuses g.D.Breaks.broken g.D.Crashes.image g.D.Crashes.armed in
+    let medium = medium_of g.D.Device.honest g.D.Device.seen g.D.Device.may_leave g.D.Device.failed g.D.Device.refuses g.D.Device.expects g.D.Breaks.broken g.D.Crashes.armed in
     let on = c.if-not-is_due.false in
     let is = c.is_due.ensures in
     let waits = c.waits.ensures in

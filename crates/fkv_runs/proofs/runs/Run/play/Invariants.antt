@@ -8,5 +8,5 @@ use Rattle.fkv_runs.proofs.runs.Run.play.Given as goal
 abbrev pub invariant-loop-piece : goal.invariant-loop-piece
 invariant-loop-piece g l =
     (l.run.settings ≡ l.fn.self.settings)
-    × Writes (InTurn (IsPiece (medium_of g.D.Device.honest g.D.Device.seen g.D.Device.may_leave g.D.Device.failed g.D.Device.refuses g.D.Breaks.broken g.D.Crashes.image g.D.Crashes.armed) l.fn.self.settings) false (take l.piece-index l.pieces) l.fn.self.state l.run.state false)
+    × Writes (InTurn (IsPiece (medium_of g.D.Device.honest g.D.Device.seen g.D.Device.may_leave g.D.Device.failed g.D.Device.refuses g.D.Device.expects g.D.Breaks.broken g.D.Crashes.armed) l.fn.self.settings) false (take l.piece-index l.pieces) l.fn.self.state l.run.state false)
     (g.W.Write.contents l.fn.output) (g.W.Write.contents l.output)

@@ -6,13 +6,13 @@ use Rattle.fkv_runs.proofs.runs.Run.tell_crash.Goals as goal
 
 pub returns-in_err-next-clause-part : goal.returns-in_err-next-clause-part
 returns-in_err-next-clause-part g c =
-    let medium = medium_of g.D.Device.honest g.D.Device.seen g.D.Device.may_leave g.D.Device.failed g.D.Device.refuses g.D.Breaks.broken g.D.Crashes.image g.D.Crashes.armed in
+    let medium = medium_of g.D.Device.honest g.D.Device.seen g.D.Device.may_leave g.D.Device.failed g.D.Device.refuses g.D.Device.expects g.D.Breaks.broken g.D.Crashes.armed in
     on_err c.from_residual.result
     (breaks_at_once (λ text. (over : Bool) × (after : RunState g.row.D.Denot) × IsCrashed medium c.args.self.settings c.args.self.state after over text) (g.W.Write.contents c.args.output.now))
 
 pub returns-in_err-write_text-clause-part : goal.returns-in_err-write_text-clause-part
 returns-in_err-write_text-clause-part g c =
-    let medium = medium_of g.D.Device.honest g.D.Device.seen g.D.Device.may_leave g.D.Device.failed g.D.Device.refuses g.D.Breaks.broken g.D.Crashes.image g.D.Crashes.armed in
+    let medium = medium_of g.D.Device.honest g.D.Device.seen g.D.Device.may_leave g.D.Device.failed g.D.Device.refuses g.D.Device.expects g.D.Breaks.broken g.D.Crashes.armed in
     let said = c.in_ok-next.ensures.1 in
     on_err c.from_residual-in_err-write_text.result
     (told_breaks (λ text. (over : Bool) × (after : RunState g.row.D.Denot) × IsCrashed medium c.args.self.settings c.args.self.state after over text) c.new-said.result.items c.crash.new.output.items

@@ -1,5 +1,7 @@
 -- The call of the device was made, and the turn has gone on up to the next one or to its end.
-use Rattle.std.proofs.Common.{Bool, arith, ap, refl, sym, subst, ◌∙◌}
+use Rattle.std.proofs.Common.{◌≡◌, Bool, not, arith, ap, refl, sym, subst, ◌∙◌}
+use Rattle.fkv_disk.specs.Asks.{kinds_by}
+use Rattle.fkv_keeper.specs.KeeperAsks.{keeper_due}
 use Rattle.law_threads.specs.Below.fkv_table.Planes.{opening_of}
 use Rattle.law_threads.specs.Below.fkv_table.Turns.{IsCounted}
 use Rattle.fkv_threads.proofs.Watching.{at_there, finished_over, refused_over, turn_behind}
@@ -15,7 +17,7 @@ returns g c =
         same = record { key = refl; table = refl };
         called = c.device_step.new.pass.seat.me.0.seen;
         went = c.device_step.ensures.went;
-        due = c.device_step.ensures.due;
+        due = subst (λ (by : Bool). d.expects c.device_step.new.d ≡ kinds_by (keeper_due c.self.inside.keeper.machine) (not by) (d.expects c.self.inside.device)) (sym c.drive-next.ensures.by_device) c.device_step.ensures.due;
         counted = subst (λ (by : Bool). IsCounted 1 by (d.failed c.self.inside.device) (d.failed c.device_step.new.d) (d.refuses c.self.inside.device) (d.refuses c.device_step.new.d)) (sym c.drive-next.ensures.by_device) c.device_step.ensures.counted;
         fewer = omega (arith, c.device_step.ensures.fewer, c.drive-next.ensures.left);
         moments = rw (← c.deref.ensures) c.device_step.ensures.moments;

@@ -21,6 +21,7 @@ use Rattle.law_order.specs.Prefix.Law.{HoldsPrefix, IsKeptOf, calls_so_far, hist
 use Rattle.law_order.specs.Rules.Ordered.{now_after}
 use Rattle.law_order.specs.Recovered.Crashed.{kept_first}
 use Rattle.law_order.specs.Recovered.Leaves.{homes_of}
+use Rattle.law_order.proofs.OfImages.Resting.{life_awake}
 use Rattle.law_order.proofs.OfRecovered.OfCrashed.{all_finished, is_newest, shows_none}
 use Rattle.law_order.proofs.recovered.crashed.law_crash_keeps_first.Goals as goal
 
@@ -43,7 +44,7 @@ returns c =
     let life = c.law_life_begins.ensures bytes o n is.store is.begins in
     let last : Finality = (now_after n bytes events).keeper.last in
     let finished : HaveFinished (past_so_far n bytes events).begun last =
-    all_finished (past_so_far n bytes events).begun (now_after n bytes events).keeper _ begun.told begun.works (c.law_begun.ensures.begun (beginning n bytes) events life.world) in
+    all_finished (past_so_far n bytes events).begun (now_after n bytes events).keeper _ (life_awake (beginning n bytes) events _ life.world.keeper begun.told (λ may. may)) begun.told begun.works (c.law_begun.ensures.begun (beginning n bytes) events life.world) in
     record {
       crashed = crashed;
       empty = λ key. sym (life.log.shows key) ∙ shows_none bytes o new.store.entries life.log.none (homes_of n) key;

@@ -1,11 +1,10 @@
 -- By the store that the crash's image holds: it has a life of any events.
-use Rattle.std.proofs.Common.{◌≡◌, ◌∙◌, ap, refl, ℕ, Some, List, [], ◌∷◌}
+use Rattle.std.proofs.Common.{◌≡◌, ◌∙◌, ap, refl, Some, [], ◌∷◌}
 use Rattle.std.specs.FinMap.{get}
 use Rattle.fkv_map.proofs.Shown.{content_one_more}
 use Rattle.fkv_map.specs.History.{content}
 use Rattle.fkv_map.specs.Map.{Map}
 use Rattle.fkv_map.specs.declared.operations.Reply.TheVariants.{Nothing}
-use Rattle.law_commit.specs.Below.fkv_world.World.{Event}
 use Rattle.law_log.specs.Worked.{entry_of, gives_70}
 use Rattle.law_opening.specs.Below.fkv_opening.TheOpened.{Opened}
 use Rattle.law_opening.specs.Lives.Reaching.{ReachesFar}
