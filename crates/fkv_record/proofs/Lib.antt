@@ -1,3 +1,4 @@
+mod Begin
 mod ManifestApart
 mod ManifestBytes
 mod ManifestSections

@@ -6,19 +6,19 @@ use Rattle.fkv_chains.specs.Reached.{Reached, in_scan, led_to, linked}
 use Rattle.fkv_record.specs.Layout.{record_bytes}
 use Rattle.fkv_record.specs.declared.records.Record.{Record}
 use Rattle.fkv_scan.specs.Log.{Log, AreBelow}
-use Rattle.fkv_scan.specs.Records.{Stands}
+use Rattle.fkv_scan.specs.Records.{Stands, next_of}
 use Rattle.fkv_scan.specs.Scan.{HasScan}
 use Rattle.fkv_words.specs.Fields.{SpellsApart}
 
 module _ {log : Log} (spells : SpellsApart record_bytes) (scan : HasScan log) (chains : HasChains log) (below : AreBelow log.tail log.triples) where
-  pub leads_down : (a : ℕ) (x : Record) → a < log.tail → Reached log a → Stands log a x → x.header.previous.0 < a
+  pub leads_down : (a : ℕ) (x : Record) → a < log.tail → Reached log a → Stands log a x → next_of log x < a
   leads_down a x within reached stands = ⊎_elim
       (λ low.
       let this = chains a reached low in
-      subst (λ (y : Record). y.header.previous.0 < a) (spells this.held x (this.old.stands ∙ sym stands)) this.old.falls)
+      subst (λ (y : Record). next_of log y < a) (spells this.held x (this.old.stands ∙ sym stands)) this.old.falls)
       (λ from.
       let this = scan.records a from within in
-      subst (λ (y : Record). y.header.previous.0 < a) (spells this.held x (this.fits.stands ∙ sym stands)) this.fits.falls)
+      subst (λ (y : Record). next_of log y < a) (spells this.held x (this.fits.stands ∙ sym stands)) this.fits.falls)
       (cases_lt a log.start)
 
   pub reached_low : (a : ℕ) → Reached log a → a < log.tail

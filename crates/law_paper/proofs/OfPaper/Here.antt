@@ -11,7 +11,7 @@ use Rattle.fkv_record.specs.Layout.{record_bytes}
 use Rattle.fkv_record.specs.declared.records.Record.{Record}
 use Rattle.fkv_scan.specs.Log as scan
 use Rattle.fkv_scan.specs.Log.{record_home}
-use Rattle.fkv_scan.specs.Records.{Stands, version_of, IsKept}
+use Rattle.fkv_scan.specs.Records.{Stands, next_of, version_of, IsKept}
 use Rattle.fkv_scan.specs.Scan.{Has, HasNone, IsGreatest, IsScanned}
 use Rattle.fkv_words.specs.Fields.{SpellsApart}
 use Rattle.law_paper.specs.Paper.Images.{IsOrderly, IsRecent, ShowsCell, ShowsDropped, ShowsLog}
@@ -89,43 +89,43 @@ module _ {home : ℕ → ℕ} {from : ℕ} {image : scan.Log} {g : Log} (it : Sh
     abbrev x : Record
     x = let s = p.shown in s.held
 
-    leads_x : x.header.previous.0 ≡ (let c = p.cell in c.previous)
+    leads_x : next_of image x ≡ (let c = p.cell in c.previous)
     leads_x = let s = p.shown in s.leads
 
     -- it leads to one below it in the chain, or to none
-    pub next_in : IsWithin x.header.previous.0 (g.chains h) × (x.header.previous.0 < a)
+    pub next_in : IsWithin (next_of image x) (g.chains h) × (next_of image x < a)
     next_in =
         let n = next_within g.cells (g.chains h) (it.orderly.chains.linked h) a p.cell in_h p.its in
         (subst (λ (n : ℕ). IsWithin n (g.chains h)) (sym leads_x) n.0, (let low = n.1 in let is = leads_x in omega (arith, low, is)))
 
     -- and what lies below it in the chain is no higher than that
-    pub below_in : (b : ℕ) → IsIn b (g.chains h) → b < a → b ≤ x.header.previous.0
+    pub below_in : (b : ℕ) → IsIn b (g.chains h) → b < a → b ≤ next_of image x
     below_in b has low = (let most = below_next g.cells (g.chains h) (it.orderly.chains.linked h) a b p.cell in_h has low p.its in let is = leads_x in omega (arith, most, is))
 
     -- where what is kept from an address on is what stands in the chain
     module _ (start : ℕ) (kept_in : (b : ℕ) (y : Record) → start ≤ b → b < image.tail → IsKept image h b y → IsIn b (g.chains h))
         (in_kept : (b : ℕ) → IsIn b (g.chains h) → start ≤ b → b < image.tail → Has (IsKept image h) b) where
       -- it leads to the nearest that is kept
-      pub leads_nearest : (b : ℕ) → IsGreatest (IsKept image h) start a b → x.header.previous.0 ≡ b
+      pub leads_nearest : (b : ℕ) → IsGreatest (IsKept image h) start a b → next_of image x ≡ b
       leads_nearest b greatest =
           let least = greatest.from_on in
           let low = greatest.below in
           let below = p.low in
           let up = below_in b (kept_in b greatest.here.0 least (omega (arith, low, below)) greatest.here.1) low in
           let falls = next_in.1 in
-          let at : x.header.previous.0 ≤ b = ⊎_elim
+          let at : next_of image x ≤ b = ⊎_elim
           (λ high. absurd (elim next_in.0 [
             | inl none ↦ omega (arith, none, high)
             | inr has ↦
-                let kept = in_kept x.header.previous.0 has (omega (arith, least, high)) (omega (arith, falls, below)) in
-                greatest.none_above x.header.previous.0 kept.0 (omega (arith, high)) falls kept.1
+                let kept = in_kept (next_of image x) has (omega (arith, least, high)) (omega (arith, falls, below)) in
+                greatest.none_above (next_of image x) kept.0 (omega (arith, high)) falls kept.1
           ]))
           (λ most. most)
-          (cases_lt b x.header.previous.0) in
+          (cases_lt b (next_of image x)) in
           omega (arith, up, at)
 
       -- and where none is, below that address
-      pub leads_first : 0 < start → HasNone (IsKept image h) start a → x.header.previous.0 < start
+      pub leads_first : 0 < start → HasNone (IsKept image h) start a → next_of image x < start
       leads_first some none = ⊎_elim
           (λ low. low)
           (λ high.
@@ -133,16 +133,16 @@ module _ {home : ℕ → ℕ} {from : ℕ} {image : scan.Log} {g : Log} (it : Sh
           let below = p.low in
           absurd (elim next_in.0 [
             | inl zero_is ↦ omega (arith, zero_is, high, some)
-            | inr has ↦ (let kept = in_kept x.header.previous.0 has high (omega (arith, falls, below)) in none x.header.previous.0 kept.0 high falls kept.1)
+            | inr has ↦ (let kept = in_kept (next_of image x) has high (omega (arith, falls, below)) in none (next_of image x) kept.0 high falls kept.1)
           ]))
-          (cases_lt x.header.previous.0 start)
+          (cases_lt (next_of image x) start)
 
   -- what a record of the log leads to stands in its chain, below it
-  pub leads_in : (a b : ℕ) (p : Here a) (x : Record) → Stands image a x → x.header.previous.0 ≡ b → b ≢ 0 → IsIn b (g.chains (home (let c = p.cell in c.key))) × (b < a)
+  pub leads_in : (a b : ℕ) (p : Here a) (x : Record) → Stands image a x → next_of image x ≡ b → b ≢ 0 → IsIn b (g.chains (home (let c = p.cell in c.key))) × (b < a)
   leads_in a b p x stands is some =
       let own = home (let c = p.cell in c.key) in
       let next = next_in own a p (in_own a p) in
-      let at : (let s = p.shown in s.held.header.previous.0) ≡ b = ap (λ (y : Record). y.header.previous.0) (sym (as_shown a p x stands)) ∙ is in
+      let at : next_of image (let s = p.shown in s.held) ≡ b = ap (λ (y : Record). next_of image y) (sym (as_shown a p x stands)) ∙ is in
       elim next.0 [
         | inl none ↦ absurd (some (sym at ∙ none))
         | inr has ↦ (subst (λ (n : ℕ). IsIn n (g.chains own)) at has, (let low = next.1 in omega (arith, low, at)))

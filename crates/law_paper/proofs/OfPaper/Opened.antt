@@ -46,6 +46,7 @@ module _ (spellings : Apart) (bytes image : List ℕ) (o : Opened) (store : IsSt
         apart = was_checkpoint.apart;
         below = λ i x is. (let at = stored.each i x is in at.in_log);
         some_start = newest.manifest.suits.log.some;
+        begins = newest.manifest.suits.begin.before_scan;
         upwards = newest.manifest.suits.log.upwards;
       }
 

@@ -14,7 +14,7 @@ use Rattle.fkv_record.specs.declared.records.Record.{Record}
 use Rattle.fkv_record.specs.declared.triples.Triple.{Triple}
 use Rattle.fkv_scan.specs.Log as scan
 use Rattle.fkv_scan.specs.Log.{HasTriple, HasNoTriple, record_home, triple_home}
-use Rattle.fkv_scan.specs.Records.{Stands, version_of, losses_of, IsKept}
+use Rattle.fkv_scan.specs.Records.{Stands, next_of, version_of, losses_of, IsKept}
 use Rattle.fkv_scan.specs.Scan.{Has, HasNone, IsGreatest, GoesOn, by_triple, by_none, by_record, IsLinked as IsScanLinked, IsScanned, IsLed, HasScan}
 use Rattle.fkv_words.specs.Fields.{SpellsApart}
 use Rattle.fkv_ops.specs.Values.{value_of}
@@ -158,10 +158,10 @@ module _ (home : ℕ → ℕ) (image : scan.Log) (g : Log) (spells : SpellsApart
     in_h : IsIn a (g.chains h)
     in_h = subst (λ (n : ℕ). IsIn a (g.chains n)) at_home (in_own it a p)
 
-    next : IsWithin x.header.previous.0 (g.chains h) × (x.header.previous.0 < a)
+    next : IsWithin (next_of image x) (g.chains h) × (next_of image x < a)
     next = next_in it h a p in_h
 
-    below_is : (b : ℕ) → IsIn b (g.chains h) → b < a → b ≤ x.header.previous.0
+    below_is : (b : ℕ) → IsIn b (g.chains h) → b < a → b ≤ next_of image x
     below_is = below_in it h a p in_h
 
     version_x : version_of image x ≡ version_at (g.cells a)
@@ -170,7 +170,7 @@ module _ (home : ℕ → ℕ) (image : scan.Log) (g : Log) (spells : SpellsApart
     lower : a < image.tail
     lower = p.low
 
-    nearest : losses_of image a x ≡ 0 → (b : ℕ) → IsGreatest (IsKept image h) image.start a b → (x.header.previous.0 ≡ b) × ((y : Record) → Stands image b y → version_of image y ≤ version_of image x)
+    nearest : losses_of image a x ≡ 0 → (b : ℕ) → IsGreatest (IsKept image h) image.start a b → (next_of image x ≡ b) × ((y : Record) → Stands image b y → version_of image y ≤ version_of image x)
     nearest not_lost b greatest =
         let least = greatest.from_on in
         let low = greatest.below in
@@ -186,27 +186,27 @@ module _ (home : ℕ → ℕ) (image : scan.Log) (g : Log) (spells : SpellsApart
               omega (arith, version, fall, own),
         )
 
-    first : HasNone (IsKept image h) image.start a → x.header.previous.0 < image.start
+    first : HasNone (IsKept image h) image.start a → next_of image x < image.start
     first = leads_first it h a p in_h image.start (λ c z on less its. (kept_here h c z on less its).1) (is_kept h) paper.some_start
 
     -- a record of the chain below the start has its triple at or above it
     its_triple : (b : ℕ) → IsIn b (g.chains h) → b < image.start → (t : ℕ) × HasTriple image h t × (b ≤ t)
     its_triple b has low = paper.triples.covers h b has low
 
-    below : x.header.previous.0 < image.start → (q : ℕ) → GoesOn image h a q → x.header.previous.0 ≡ q
+    below : next_of image x < image.start → (q : ℕ) → GoesOn image h a q → next_of image x ≡ q
     below low q (by_triple triple under) =
         let up = below_is q (paper.triples.in_chain h q triple) (omega (arith, under, from)) in
         elim next.0 [
           | inl none ↦ omega (arith, none, up)
           | inr has ↦
-              let t = its_triple x.header.previous.0 has low in
+              let t = its_triple (next_of image x) has low in
               let same : t.0 ≡ q = triple_once image h t.0 q paper.triples.apart t.1 triple in
               let high = t.2 in
               omega (arith, up, same, high)
         ]
     below low q (by_none none is) = elim next.0 [
       | inl zero_is ↦ omega (arith, zero_is, is)
-      | inr has ↦ (let t = its_triple x.header.previous.0 has low in absurd (none t.0 t.1))
+      | inr has ↦ (let t = its_triple (next_of image x) has low in absurd (none t.0 t.1))
     ]
     below low q (by_record c y least within valid leads under) =
         let most = lower in
@@ -241,7 +241,7 @@ module _ (home : ℕ → ℕ) (image : scan.Log) (g : Log) (spells : SpellsApart
 
   led : (i : ℕ) (triple : Triple) → slice_get image.triples i ≡ Some triple → IsLed image triple
   led i triple stands from =
-      let t : HasTriple image (triple_home triple) triple.addr.0 = record { place = i; triple = triple; stands = stands; same = refl; address = refl } in
+      let t : HasTriple image (triple_home triple) triple.addr.0 = record { place = i; triple = triple; stands = stands; same = refl; address = refl; in_log = (let b = paper.begins in omega (arith, b, from)) } in
       (let kept = is_kept (triple_home triple) triple.addr.0 (paper.triples.in_chain _ _ t) from (paper.triples.below _ _ t) in (kept.0, kept.1.here))
 
   pub has_scan : HasScan image

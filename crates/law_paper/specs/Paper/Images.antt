@@ -8,7 +8,7 @@ use Rattle.law_log.specs.Enabled.{AreChains}
 use Rattle.fkv_record.specs.declared.records.Record.{Record}
 use Rattle.fkv_scan.specs.Log as scan
 use Rattle.fkv_scan.specs.Log.{record_home}
-use Rattle.fkv_scan.specs.Records.{Stands, losses_of}
+use Rattle.fkv_scan.specs.Records.{Stands, next_of, losses_of}
 
 -- The image has a published record at its address: valid, with its key, its value and what it leads to. From an address on its header says the mark of the
 -- record's version. Below that it says no later one, since all that a store was opened with counts as of the opening's
@@ -19,7 +19,7 @@ pub record ShowsCell (from : ℕ) (image : scan.Log) (a : ℕ) (cell : Cell) : T
   pub valid : (let x = held in x.header.invalid ≡ false)
   pub its_key : (let x = held in x.key.0 ≡ cell.key)
   pub its_value : (let x = held in value_of x.value ≡ cell.value)
-  pub leads : (let x = held in x.header.previous.0 ≡ cell.previous)
+  pub leads : next_of image held ≡ cell.previous
   pub low : (let x = held in x.header.version.0 ≤ cell.version)
   pub same : from ≤ a → (let x = held in x.header.version.0 ≡ mark cell.version)
 
@@ -28,7 +28,7 @@ pub record ShowsDropped (image : scan.Log) (a : ℕ) (cell : Cell) : Type 0 wher
   pub held : Record
   pub stands : Stands image a held
   pub invalid : (let x = held in x.header.invalid ≡ true)
-  pub falls : (let x = held in x.header.previous.0 < a)
+  pub falls : next_of image held < a
   pub same : (let x = held in x.header.version.0 ≡ mark cell.version)
   pub young : cell.version ≤ image.version + 1
 

@@ -23,5 +23,6 @@ pub record StandsOnPaper (home : ℕ → ℕ) (image : scan.Log) (g : Log) : Typ
   pub recent : IsRecent image.start image g
   pub cut : IsCut image g
   pub some_start : 0 < image.start
+  pub begins : image.begin ≤ image.start
   pub old_below : (a : ℕ) (cell : Cell) → g.cells a ≡ Published cell → a < image.start → cell.version ≤ image.version
   pub triples : CoversChains image g
