@@ -110,14 +110,7 @@ fn later_formats_have_their_bytes(rt: HostRuntime) {
 }
 
 /// The fourth format has the begin besides, and is written where that isn't 1.
-const FOURTH: [(usize, u64); 6] = [
-    (312, 1),
-    (320, 1),
-    (328, 5),
-    (336, 2),
-    (456, 2),
-    (504, 4),
-];
+const FOURTH: [(usize, u64); 6] = [(312, 1), (320, 1), (328, 5), (336, 2), (456, 2), (504, 4)];
 
 #[test]
 fn a_slot_with_a_begin_has_its_bytes(rt: HostRuntime) {

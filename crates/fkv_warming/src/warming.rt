@@ -41,7 +41,15 @@ pub fn warm<D: Device>(alloc: Global, opened: Opened, most: u64, d: &mut D) -> R
 {
     let first = first_warm(&opened, most);
     let version = mark(opened.number);
-    let words = records_from(alloc, opened.shape, opened.begin, version, first, opened.tail, d)?;
+    let words = records_from(
+        alloc,
+        opened.shape,
+        opened.begin,
+        version,
+        first,
+        opened.tail,
+        d,
+    )?;
     let Opened {
         shape,
         number,
