@@ -1,6 +1,7 @@
--- What the slot of a commit names as its writes begin: all of its lost ranges, and a point for each session.
+-- What the slot of a commit names as its writes begin: all of its lost ranges, a point for each session, and where its log begins.
 use Rattle.std.specs.Prelude.{◌≡◌, ◌≤◌, ◌<◌, length, Some}
 use Rattle.fkv_base.specs.Limits.{max_sessions, last_of}
+use Rattle.fkv_base.specs.declared.numbers.Addr.{Addr}
 use Rattle.fkv_base.specs.declared.shapes.Shape.{Shape}
 use Rattle.fkv_marks.specs.Window.{InWindow}
 use Rattle.fkv_record.specs.Manifest.{SlotSaid, newest_bytes}
@@ -27,8 +28,15 @@ pub record IsSlotWhole (shape : Shape) (s a : KeeperState) : Type 0 where
   pub said : SlotSaid
   pub spelled : a.writes.gate.slot ≡ newest_bytes said
   pub number : said.number ≡ commit.number.0
+  pub begin : said.begin ≡ commit.begin
   pub points : length said.points ≡ shape.sessions
   pub few_points : length said.points ≤ max_sessions
   pub lost : said.lost ≡ lost_left commit.kind s.lost
   pub few_lost : length said.lost ≤ max_lost
   pub named : IsSlotOf commit.number.0 a.writes.gate.slot
+
+-- The log begins here: for the newest finished commit, for the one in hand, and where mailboxes are served.
+pub record BeginsAt (begin : Addr) (s : KeeperState) : Type 0 where
+  pub newest : s.last.begin ≡ begin
+  pub serves : s.maintain.begin ≡ begin
+  pub commit : (c : Commit) → s.commit ≡ Some c → c.begin ≡ begin

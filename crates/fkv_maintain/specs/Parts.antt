@@ -111,10 +111,14 @@ Drives shape s Flushes (Replies reply) next = (next.flushing ≡ flush_next shap
 Drives shape s Flushes (Calls done bytes) next = (next.flushing ≡ flush_done shape.page s.flushing done) × (next.bytes ≡ bytes_done s.flushing s.bytes)
 Drives shape s Shifts (Replies reply) next = next.shift ≡ shift_next shape s.shift reply
 Drives shape s Turns (Replies reply) next = next.turn ≡ turn_next shape s.turn reply
-Drives shape s Serves (Replies reply) next = next.serving ≡ serve_next shape.sessions s.serving reply
+Drives shape s Serves (Replies reply) next = next.serving ≡ serve_next shape.sessions s.begin.0 s.serving reply
 Drives shape s Serves (Calls true bytes) next = next.serving ≡ serve_read s.serving bytes
 Drives shape s Serves (Calls false bytes) next = next.step ≡ Broken
 Drives shape s step event next = next ≡ s
+
+-- nothing moves the log's begin
+abbrev pub KeepsBegin : Type 0
+KeepsBegin = (shape : Shape) (p : Places) (s : MaintainState) (event : MaintainEvent) → (maintain_happens shape p s event).begin ≡ s.begin
 
 abbrev pub DrivesItsParts : Type 0
 DrivesItsParts = (shape : Shape) (p : Places) (s : MaintainState) (event : MaintainEvent) → Drives shape s s.step event (maintain_happens shape p s event)
