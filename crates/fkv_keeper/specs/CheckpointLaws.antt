@@ -110,13 +110,13 @@ pub record IsFullWritten (shape : Shape) (p : Places) (replies : List ℕ) (s a 
   pub triples : a.writes.triples ≡ all_bytes (copied_after p replies)
   pub area : a.writes.area ≡ area_place shape (area_number (other_area s.last.checkpoint.area))
   pub used : a.used ≡ record { number = c.number; first = c.first; triples = length (copied_after p replies); area = other_area s.last.checkpoint.area }
-  pub slot : a.writes.gate.slot ≡ slot_written shape.sessions c.number c.end a.used s.seek.points []
+  pub slot : a.writes.gate.slot ≡ slot_written shape.sessions c.number c.begin c.end a.used s.seek.points []
 
 -- A log commit writes no triples: it uses the newest finished commit's checkpoint, and its slot names the first eight lost ranges in hand.
 pub record IsLogWritten (shape : Shape) (s a : KeeperState) (c : Commit) : Type 0 where
   pub triples : a.writes.triples ≡ []
   pub used : a.used ≡ s.last.checkpoint
-  pub slot : a.writes.gate.slot ≡ slot_written shape.sessions c.number c.end a.used s.seek.points s.lost
+  pub slot : a.writes.gate.slot ≡ slot_written shape.sessions c.number c.begin c.end a.used s.seek.points s.lost
 
 abbrev pub IsWrittenAs : CommitKind → Shape → Places → List ℕ → KeeperState → KeeperState → Commit → Type 0
 IsWrittenAs Full shape p replies s a c = IsFullWritten shape p replies s a c

@@ -1,3 +1,4 @@
+mod BeginKept
 mod GoesOn
 mod MaintainLeft
 mod PartsDriven

@@ -1,4 +1,5 @@
 -- The parts of a turn.
+use Rattle.fkv_maintain.proofs.BeginKept.{keeps_begin}
 use Rattle.fkv_maintain.proofs.PartsDriven.{drives_its_parts}
 use Rattle.fkv_maintain.proofs.PartsFollow.{follows_in_order}
 use Rattle.fkv_maintain.proofs.PartsInOrder.{run_in_order, run_full, serves_alone, calls_in_parts}
@@ -9,6 +10,9 @@ returns-clause-follows c = follows_in_order
 
 pub returns-clause-drives : goal.returns-clause-drives
 returns-clause-drives c = drives_its_parts
+
+pub returns-clause-begin : goal.returns-clause-begin
+returns-clause-begin c = keeps_begin
 
 pub returns-clause-order : goal.returns-clause-order
 returns-clause-order c = run_in_order
