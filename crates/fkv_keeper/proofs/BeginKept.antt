@@ -1,5 +1,5 @@
 -- The log begins where it did as the store was opened, whatever happens: for the newest finished commit, for the one in hand, and where mailboxes are served.
-use Rattle.std.proofs.Common.{◌≡◌, ◌∙◌, ℕ, List, [], ◌∷◌, refl, ap, sym, Bool, true, false}
+use Rattle.std.proofs.Common.{◌≡◌, ◌∙◌, ℕ, List, [], ◌∷◌, refl, ap, sym, subst, Bool, true, false}
 use Rattle.std.specs.Prelude.{Option, Some, None, if◌then◌else◌, ◌||◌, not}
 use Rattle.fkv_base.specs.declared.numbers.Addr.{Addr}
 use Rattle.fkv_base.specs.declared.phases.Phase.TheVariants as phase
@@ -27,9 +27,11 @@ use Rattle.fkv_commit.specs.Finishing.{finish_ask, finish_next}
 use Rattle.fkv_commit.specs.Seeking.{seek_ask, seek_next}
 use Rattle.fkv_commit.specs.Starting.{start_ask, start_next}
 use Rattle.fkv_commit.specs.Waiting.{wait_ask, wait_next}
-use Rattle.fkv_maintain.proofs.Shown.{maintain_next_begin, maintain_given_begin, maintain_called_begin}
+use Rattle.fkv_maintain.proofs.Shown.{maintain_next_begin, maintain_given_begin, maintain_called_begin, maintain_next_above, maintain_given_above, maintain_called_above}
+use Rattle.fkv_maintain.specs.declared.maintaining.Maintaining.{Maintaining}
 use Rattle.fkv_maintain.specs.declared.maintaining.MaintainAnswer.{MaintainAnswer}
 use Rattle.fkv_maintain.specs.declared.maintaining.MaintainAnswer.TheVariants as maintain
+use Rattle.fkv_maintain.specs.Parts.{AboveAt, ReadsAbove}
 use Rattle.fkv_maintain.specs.Maintaining.{MaintainState, maintain_ask, maintain_called, maintain_given, maintain_next}
 use Rattle.fkv_manifest.specs.declared.answers.WriteAnswer.{WriteAnswer}
 use Rattle.fkv_manifest.specs.declared.answers.WriteAnswer.TheVariants as write
@@ -51,8 +53,12 @@ module _ (begin : Addr) where
   abbrev Of : Option Commit → Type 0
   Of found = (c : Commit) → found ≡ Some c → c.begin ≡ begin
 
+  -- where mailboxes are served
+  abbrev IsBegun : MaintainState → Type 0
+  IsBegun m = (m.begin ≡ begin) × ReadsAbove m
+
   abbrev Same : KeeperState → Type 0
-  Same s = (s.last.begin ≡ begin) × (s.maintain.begin ≡ begin) × Of s.commit
+  Same s = (s.last.begin ≡ begin) × IsBegun s.maintain × Of s.commit
 
   none_of : Of None
   none_of c e = none_some c e
@@ -68,9 +74,9 @@ module _ (begin : Addr) where
   begins_same s begun true one other = one
   begins_same s begun false one other = other
 
-  parts_same : (rests : Bool) (m : MaintainState) → (parts_begun rests m).begin ≡ m.begin
-  parts_same true m = refl
-  parts_same false m = refl
+  parts_same : (rests : Bool) (m : MaintainState) → m.begin ≡ begin → IsBegun (parts_begun rests m)
+  parts_same true m same = (same, tt)
+  parts_same false m same = (same, tt)
 
   start_same : (s : KeeperState) (ask : Ask StartAnswer) → Same s → Same (start_ledto s ask)
   unfolding start_ledto
@@ -169,7 +175,7 @@ module _ (begin : Addr) where
   unfolding keeping_next
   reply_same shape p s (Ended its) reply granted was = was
   reply_same shape p s Starts reply granted was = start_same _ (start_ask (start_next s.start reply)) was
-  reply_same shape p s Maintains reply granted was = maintain_same _ (maintain_ask shape p (maintain_next shape p s.maintain reply)) (was.0.0, maintain_next_begin shape p s.maintain reply ∙ was.0.1, was.1)
+  reply_same shape p s Maintains reply granted was = maintain_same _ (maintain_ask shape p (maintain_next shape p s.maintain reply)) (was.0.0, (maintain_next_begin shape p s.maintain reply ∙ was.0.1.0, maintain_next_above shape p s.maintain reply was.0.1.1), was.1)
   reply_same shape p s LoadsPhase reply granted was = phase_same p s s.commit (phase_said reply) granted was
   reply_same shape p s Enters reply granted was = enter_same _ (enter_ask (enter_next s.enter reply)) was
   reply_same shape p s Copies reply granted was = copy_same _ (copy_told (copy_driven s.copy reply)) was
@@ -180,18 +186,18 @@ module _ (begin : Addr) where
 
   given_same : (shape : Shape) (p : Places) (s : KeeperState) (step : Keeping) (action : Action) → Same s → Same (keeping_given shape p s step action)
   unfolding keeping_given
-  given_same shape p s Maintains action was = maintain_same _ (maintain_ask shape p (maintain_given s.maintain action)) (was.0.0, maintain_given_begin s.maintain action ∙ was.0.1, was.1)
+  given_same shape p s Maintains action was = maintain_same _ (maintain_ask shape p (maintain_given s.maintain action)) (was.0.0, (maintain_given_begin s.maintain action ∙ was.0.1.0, maintain_given_above s.maintain action was.0.1.1), was.1)
   given_same shape p s step action was = was
 
   device_same : (shape : Shape) (p : Places) (s : KeeperState) (step : Keeping) (done : Bool) (bytes : List ℕ) → Same s → Same (keeping_called shape p s step done bytes)
   unfolding keeping_called
-  device_same shape p s Maintains done bytes was = maintain_same _ (maintain_ask shape p (maintain_called shape p s.maintain done bytes)) (was.0.0, maintain_called_begin shape p s.maintain done bytes ∙ was.0.1, was.1)
+  device_same shape p s Maintains done bytes was = maintain_same _ (maintain_ask shape p (maintain_called shape p s.maintain done bytes)) (was.0.0, (maintain_called_begin shape p s.maintain done bytes ∙ was.0.1.0, maintain_called_above shape p s.maintain done bytes was.0.1.1), was.1)
   device_same shape p s Writes done bytes was = called_same s done was
   device_same shape p s step done bytes was = was
 
   happens_same : (shape : Shape) (p : Places) (s : KeeperState) (event : KeeperEvent) → Same s → Same (keeper_happens shape p s event)
   unfolding keeper_happens
-  happens_same shape p s BeginsTurn was = begins_same s (turn_asked s) (is_in_hand s.step) was (either s.is_broken _ _ was (was.0.0, parts_same s.rests s.maintain ∙ was.0.1, was.1))
+  happens_same shape p s BeginsTurn was = begins_same s (turn_asked s) (is_in_hand s.step) was (either s.is_broken _ _ was (was.0.0, parts_same s.rests s.maintain was.0.1.0, was.1))
   happens_same shape p s (BeginsCommit kind) was = begins_same s (commit_asked s kind) (is_in_hand s.step) was (either s.is_broken _ _ was (either s.rests _ _ was was))
   happens_same shape p s (Replies reply granted) was = reply_same shape p s s.step reply granted was
   happens_same shape p s (Gets action) was = given_same shape p s s.step action was
@@ -205,5 +211,6 @@ module _ (begin : Addr) where
 pub run_begins : (shape : Shape) (p : Places) (opening : KeeperState) (events : List KeeperEvent) → IsOpened opening → BeginsAt opening.last.begin (keeper_run shape p opening events)
 run_begins shape p opening events opened =
     let no_commit : Of opening.last.begin opening.commit = λ c in_hand. none_some c (sym opened.no_commit ∙ in_hand) in
-    let same = run_same opening.last.begin shape p opening events (refl, opened.serves_from, no_commit) in
-    record { newest = same.0.0; serves = same.0.1; commit = same.1 }
+    let none_read : ReadsAbove opening.maintain = subst (λ (step : Maintaining). AboveAt opening.maintain step) (sym opened.turns_rest) tt in
+    let same = run_same opening.last.begin shape p opening events (refl, (opened.serves_from, none_read), no_commit) in
+    record { newest = same.0.0; serves = same.0.1.0; reads = same.0.1.1; commit = same.1 }

@@ -9,6 +9,7 @@ use Rattle.fkv_commit.specs.declared.commits.Commit.{Commit}
 use Rattle.fkv_base.specs.declared.commits.CommitKind.TheVariants.{Log}
 use Rattle.fkv_commit.specs.Starting.{max_lost}
 use Rattle.fkv_manifest.specs.Kept.{IsSlotOf}
+use Rattle.fkv_maintain.specs.Parts.{ReadsAbove}
 use Rattle.fkv_keeper.specs.Keeping.{KeeperState, lost_left}
 
 -- A version follows that of the commit in hand. Where that is a log commit, its slot has room for all lost ranges in hand, and it lies in the window of the
@@ -35,8 +36,9 @@ pub record IsSlotWhole (shape : Shape) (s a : KeeperState) : Type 0 where
   pub few_lost : length said.lost ≤ max_lost
   pub named : IsSlotOf commit.number.0 a.writes.gate.slot
 
--- The log begins here: for the newest finished commit, for the one in hand, and where mailboxes are served.
+-- The log begins here: for the newest finished commit, for the one in hand, and where mailboxes are served. A read for one is at or above that.
 pub record BeginsAt (begin : Addr) (s : KeeperState) : Type 0 where
   pub newest : s.last.begin ≡ begin
   pub serves : s.maintain.begin ≡ begin
+  pub reads : ReadsAbove s.maintain
   pub commit : (c : Commit) → s.commit ≡ Some c → c.begin ≡ begin

@@ -91,7 +91,8 @@ pub fn law_of_parts()
 /// Whatever turns and commits are begun, and whatever the replies, the actions, the answers of the device and the grants of memory are:
 /// a log commit that is in hand has at most as many lost ranges as its slot has room for. So where the writes of a commit of either kind
 /// begin, its slot leaves no lost range out that it has to name, has a point for each session, and is read back as an open slot of the
-/// commit's number. The log begins where it did as the store was opened: so the slot says, and so mailboxes are served.
+/// commit's number. The log begins where it did as the store was opened: so the slot says, and so mailboxes are served,
+/// for which no read is below that.
 pub fn law_of_slots()
     ensures room { (shape : Shape) (p : Places) (opening : KeeperState) (events : List KeeperEvent) → IsOpened opening
         → CommitHasRoom (keeper_run shape p opening events) }

@@ -4,5 +4,6 @@ mod MaintainLeft
 mod PartsDriven
 mod PartsFollow
 mod PartsInOrder
+mod ReadsAbove
 pub mod Shown
 mod TakesNone
