@@ -44,11 +44,11 @@ Known w a x work = Knows w.now.shape (levels_of w.now.words) (Awake w.now a x.ma
 
 pub reserve_moves : (w : GuardWorld) (a : ℕ) (x : Actor) (step : Reserving) → IsSound w → slice_get w.now.actors a ≡ Some x → is_idle (Reserves step) ≡ false → Known w a x (Reserves step) → SoundAfter w a x (Reserves step)
 unfolding reserve_ask reserve_next reserve_next_ask
-reserve_moves w a x begin reserve.AtRest sound got busy k = cc
-reserve_moves w a x begin (reserve.LoadsLimit bound) sound got busy k =
+reserve_moves w a x reserve.AtRest sound got busy k = cc
+reserve_moves w a x (reserve.LoadsLimit bound) sound got busy k =
     rw (set-get_or w.now.words 4 0)
     (looks w a x (record x { work = Reserves (reserve.LoadsTail (limit_within bound (word_at w.now.words 4))) }) sound got refl refl (λ addr u. u) (k.0, k.1, within_low bound (word_at w.now.words 4)))
-reserve_moves w a x begin (reserve.LoadsTail limit) sound got busy k =
+reserve_moves w a x (reserve.LoadsTail limit) sound got busy k =
     let t : ℕ = word_at w.now.words 3 in
     rw (set-get_or w.now.words 3 0)
     (elim (truth (nat_lt t limit)) [
@@ -58,7 +58,7 @@ reserve_moves w a x begin (reserve.LoadsTail limit) sound got busy k =
         | inr f ↦ rw f (looks w a x (record x { work = Reserves reserve.AtRest }) sound got refl refl (λ addr u. u) tt)
       ])
     ])
-reserve_moves w a x begin (reserve.TakesTail tail) sound got busy k =
+reserve_moves w a x (reserve.TakesTail tail) sound got busy k =
     let l : Levels = levels_of w.now.words in
     let o = sound.guard.in_order in
     elim (truth (l.tail == tail)) [
