@@ -214,13 +214,13 @@ pub record IsBegun (s a : KeeperState) : Type 0 where
   pub no_copy : a.copy ≡ None
   pub told : a.step ≡ Ended (Begun commit.number)
 
--- The commit in hand is finished: it is the newest finished one now, with its points, its checkpoint and the gate that it opened. A full one
+-- The commit in hand is finished: it is the newest finished one now, with its begin, its points, its checkpoint and the gate that it opened. A full one
 -- leaves no lost range, and a log commit leaves all.
 pub record IsFinished (s a : KeeperState) (c : Commit) : Type 0 where
   pub finishes : s.step ≡ Finishes
   pub none_in_hand : a.commit ≡ None
   pub told : a.step ≡ Ended (Turned true s.is_drain_full)
-  pub last : a.last ≡ record { number = c.number; points = s.seek.points; checkpoint = s.used; gates = gate_opened s.last.gates c.number }
+  pub last : a.last ≡ record { number = c.number; begin = c.begin; points = s.seek.points; checkpoint = s.used; gates = gate_opened s.last.gates c.number }
   pub lost : a.lost ≡ lost_left c.kind s.lost
 
 -- The commit in hand stays, as it was begun, and copied where it was so.
