@@ -80,7 +80,7 @@ module _ (begin : Addr) where
 
   start_same : (s : KeeperState) (ask : Ask StartAnswer) → Same s → Same (start_ledto s ask)
   unfolding start_ledto
-  start_same s (Done (start.Begun number first)) was = (was.0.0, was.0.1, one_of (commit_begun number s.start.asked.kind s.last.begin first) was.0.0)
+  start_same s (Done (start.Begun number first)) was = (was.0, was.1, one_of (commit_begun number s.start.asked.kind s.last.begin first) was.0)
   start_same s (Done its) was = was
   start_same s ask was = was
 
@@ -122,7 +122,7 @@ module _ (begin : Addr) where
 
   copy_same : (s : KeeperState) (ask : Ask (Unit {0})) → Same s → Same (copy_ledto s ask)
   unfolding copy_ledto
-  copy_same s (Done its) was = (was.0.0, was.0.1, copied_same (is_copy_resting s.copy) s.commit was.1)
+  copy_same s (Done its) was = (was.0, was.1, copied_same (is_copy_resting s.copy) s.commit was.2)
   copy_same s ask was = was
 
   known_same : (found : Option Commit) (end : Addr) (epoch : ℕ) → Of found → Of (points_known found end epoch)
@@ -131,7 +131,7 @@ module _ (begin : Addr) where
 
   seek_same : (s : KeeperState) (ask : Ask SeekAnswer) → Same s → Same (seek_ledto s ask)
   unfolding seek_ledto
-  seek_same s (Done (seek.Taken end epoch)) was = (was.0.0, was.0.1, known_same s.commit end epoch was.1)
+  seek_same s (Done (seek.Taken end epoch)) was = (was.0, was.1, known_same s.commit end epoch was.2)
   seek_same s (Done seek.DrainFull) was = was
   seek_same s (Done seek.EpochsSpent) was = was
   seek_same s (Done seek.Owing) was = was
@@ -152,7 +152,7 @@ module _ (begin : Addr) where
   -- the finished commit's begin is that of the commit in hand
   finished_same : (s : KeeperState) (found : Option Commit) → s.commit ≡ found → Same s → Same (finished s found)
   finished_same s None in_hand was = was
-  finished_same s (Some c) in_hand was = (was.1 c in_hand, was.0.1, none_of)
+  finished_same s (Some c) in_hand was = (was.2 c in_hand, was.1, none_of)
 
   finish_same : (s : KeeperState) (ask : Ask FinishAnswer) → Same s → Same (finish_ledto s ask)
   unfolding finish_ledto
@@ -175,7 +175,7 @@ module _ (begin : Addr) where
   unfolding keeping_next
   reply_same shape p s (Ended its) reply granted was = was
   reply_same shape p s Starts reply granted was = start_same _ (start_ask (start_next s.start reply)) was
-  reply_same shape p s Maintains reply granted was = maintain_same _ (maintain_ask shape p (maintain_next shape p s.maintain reply)) (was.0.0, (maintain_next_begin shape p s.maintain reply ∙ was.0.1.0, maintain_next_above shape p s.maintain reply was.0.1.1), was.1)
+  reply_same shape p s Maintains reply granted was = maintain_same _ (maintain_ask shape p (maintain_next shape p s.maintain reply)) (was.0, (maintain_next_begin shape p s.maintain reply ∙ was.1.0, maintain_next_above shape p s.maintain reply was.1.1), was.2)
   reply_same shape p s LoadsPhase reply granted was = phase_same p s s.commit (phase_said reply) granted was
   reply_same shape p s Enters reply granted was = enter_same _ (enter_ask (enter_next s.enter reply)) was
   reply_same shape p s Copies reply granted was = copy_same _ (copy_told (copy_driven s.copy reply)) was
@@ -186,18 +186,18 @@ module _ (begin : Addr) where
 
   given_same : (shape : Shape) (p : Places) (s : KeeperState) (step : Keeping) (action : Action) → Same s → Same (keeping_given shape p s step action)
   unfolding keeping_given
-  given_same shape p s Maintains action was = maintain_same _ (maintain_ask shape p (maintain_given s.maintain action)) (was.0.0, (maintain_given_begin s.maintain action ∙ was.0.1.0, maintain_given_above s.maintain action was.0.1.1), was.1)
+  given_same shape p s Maintains action was = maintain_same _ (maintain_ask shape p (maintain_given s.maintain action)) (was.0, (maintain_given_begin s.maintain action ∙ was.1.0, maintain_given_above s.maintain action was.1.1), was.2)
   given_same shape p s step action was = was
 
   device_same : (shape : Shape) (p : Places) (s : KeeperState) (step : Keeping) (done : Bool) (bytes : List ℕ) → Same s → Same (keeping_called shape p s step done bytes)
   unfolding keeping_called
-  device_same shape p s Maintains done bytes was = maintain_same _ (maintain_ask shape p (maintain_called shape p s.maintain done bytes)) (was.0.0, (maintain_called_begin shape p s.maintain done bytes ∙ was.0.1.0, maintain_called_above shape p s.maintain done bytes was.0.1.1), was.1)
+  device_same shape p s Maintains done bytes was = maintain_same _ (maintain_ask shape p (maintain_called shape p s.maintain done bytes)) (was.0, (maintain_called_begin shape p s.maintain done bytes ∙ was.1.0, maintain_called_above shape p s.maintain done bytes was.1.1), was.2)
   device_same shape p s Writes done bytes was = called_same s done was
   device_same shape p s step done bytes was = was
 
   happens_same : (shape : Shape) (p : Places) (s : KeeperState) (event : KeeperEvent) → Same s → Same (keeper_happens shape p s event)
   unfolding keeper_happens
-  happens_same shape p s BeginsTurn was = begins_same s (turn_asked s) (is_in_hand s.step) was (either s.is_broken _ _ was (was.0.0, parts_same s.rests s.maintain was.0.1.0, was.1))
+  happens_same shape p s BeginsTurn was = begins_same s (turn_asked s) (is_in_hand s.step) was (either s.is_broken _ _ was (was.0, parts_same s.rests s.maintain was.1.0, was.2))
   happens_same shape p s (BeginsCommit kind) was = begins_same s (commit_asked s kind) (is_in_hand s.step) was (either s.is_broken _ _ was (either s.rests _ _ was was))
   happens_same shape p s (Replies reply granted) was = reply_same shape p s s.step reply granted was
   happens_same shape p s (Gets action) was = given_same shape p s s.step action was
@@ -213,4 +213,4 @@ run_begins shape p opening events opened =
     let no_commit : Of opening.last.begin opening.commit = λ c in_hand. none_some c (sym opened.no_commit ∙ in_hand) in
     let none_read : ReadsAbove opening.maintain = subst (λ (step : Maintaining). AboveAt opening.maintain step) (sym opened.turns_rest) tt in
     let same = run_same opening.last.begin shape p opening events (refl, (opened.serves_from, none_read), no_commit) in
-    record { newest = same.0.0; serves = same.0.1.0; reads = same.0.1.1; commit = same.1 }
+    record { newest = same.0; serves = same.1.0; reads = same.1.1; commit = same.2 }
