@@ -45,6 +45,7 @@ area_numbered number = if number == 0 then First else Second
 abbrev pub newest_commit : Opened → Finality
 newest_commit o = record {
   number = o.number;
+  begin = o.begin;
   points = o.points.items;
   checkpoint = record { number = o.checkpoint.number; first = o.checkpoint.first; triples = o.checkpoint.triples; area = area_numbered o.checkpoint.area };
   gates = o.gates;

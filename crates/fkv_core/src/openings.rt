@@ -88,11 +88,12 @@ fn opening_keeper(alloc: Global, opened: &Opened) -> Result<Keeper, Fault>
 
 /// The newest finished commit, with the checkpoint that it uses.
 fn newest_commit(opened: &Opened) -> LastCommit
-    ensures { record { number = result.number; points = result.points.items; checkpoint = result.checkpoint; gates = result.gates } ≡ newest_commit opened.now }
+    ensures { record { number = result.number; begin = result.begin; points = result.points.items; checkpoint = result.checkpoint; gates = result.gates } ≡ newest_commit opened.now }
 {
     let used = opened.checkpoint;
     LastCommit {
         number: opened.number,
+        begin: opened.begin,
         points: points_listed(&opened.points),
         checkpoint: Checkpoint {
             number: used.number,
