@@ -139,14 +139,16 @@ impl Try {
         }
     }
 
-    /// The chain leaves memory at this address.
+    /// The chain leaves memory at this address. Below the request's floor it has ended there.
     fn met_disk(&mut self, addr: Addr)
         ensures { self.new ≡ record self.old { state = met_disk self.old.places self.old.state addr } }
     {
-        if is_read(self.request.op) {
-            self.awaits(addr);
-        } else if is_blind(self.request.op) {
+        if is_blind(self.request.op) {
             self.copies(OldValue::Known(Value::ABSENT), false);
+        } else if self.request.is_chain_end(addr) {
+            self.met_nowhere();
+        } else if is_read(self.request.op) {
+            self.awaits(addr);
         } else {
             self.held_used(addr, self.request.held);
         }

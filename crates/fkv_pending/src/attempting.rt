@@ -4,7 +4,7 @@ ghost use Rattle.fkv_base.specs.Limits.{max_sessions};
 ghost use Rattle.fkv_map.specs.Keys.{as_number};
 ghost use Rattle.fkv_plane.specs.AsksLeft.{AsksWhereLeft};
 ghost use Rattle.fkv_pending.specs.AsksLeft.{attempt_asks_left};
-ghost use Rattle.fkv_pending.specs.Attempting.{attempt_rested, attempt_begun, attempt_ask, attempt_next, puts, tries, waits_for_disk, is_seeking_read, held_of, held_kept, moved_on, read_on, record_taken, not_ready, look_ledto, awaits_record, tried, try_ledto, put_ledto};
+ghost use Rattle.fkv_pending.specs.Attempting.{attempt_rested, attempt_begun, attempt_ask, attempt_next, puts, tries, waits_for_disk, is_seeking_read, held_of, held_kept, moved_on, read_on, record_taken, mail_taken, not_ready, look_ledto, awaits_record, tried, try_ledto, put_ledto};
 
 use crate::mailing::{Mail, MailAnswer, MailRecord, MailTask};
 use crate::pending_requests::PendingRequest;
@@ -242,10 +242,23 @@ impl Attempt {
             Ask::Done(MailAnswer::Taken(record)) => {
                 self.is_emptied = true;
                 self.pending.set_asked(false);
-                self.record_taken(record, header_said(record.header));
+                self.mail_taken(record);
             }
             Ask::Done(_) => self.not_ready(),
             _ => {}
+        }
+    }
+
+    /// A record that is gone tells nothing of the key: the request waits, and a later attempt tries it from its entry again.
+    fn mail_taken(&mut self, its: MailRecord)
+        ensures { self.new ≡ record self.old { state = mail_taken self.old.places self.old.bits self.old.state its } }
+    {
+        match its.gone() {
+            Some(begin) => {
+                self.pending.lose(begin);
+                self.waits_for_disk();
+            }
+            None => self.record_taken(its, header_said(its.header)),
         }
     }
 
@@ -271,7 +284,7 @@ impl Attempt {
             HeaderSaid::Says(previous, _) => {
                 if its.key == self.pending.request.op.key() {
                     self.step = Attempting::Ended(told_value(value_of_word(its.value)));
-                } else if previous == Addr(0) {
+                } else if self.pending.request.is_chain_end(previous) {
                     self.step = Attempting::Ended(TryAnswer::Absent);
                 } else {
                     let sought = moved_on(self.pending.sought, previous);

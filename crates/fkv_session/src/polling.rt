@@ -5,13 +5,13 @@ ghost use Rattle.fkv_pending.specs.Attempting.{attempt_ask};
 ghost use Rattle.fkv_pending.specs.Mailing.{mail_ask};
 ghost use Rattle.fkv_pending.specs.declared.pending_requests.PendingRequest.{PendingRequest};
 ghost use Rattle.fkv_session.specs.declared.sessions.Sitting.TheVariants.{ClearsMail, Polls};
-ghost use Rattle.fkv_session.specs.Sessions.{session_ask, poll_begun, polls_at, polls_request, clear_ledto, finished_of, is_finished, is_owed, request_finished, finishes_request, keeps_request, lacks_room, poll_ledto};
+ghost use Rattle.fkv_session.specs.Sessions.{session_ask, poll_begun, polls_at, polls_request, clear_ledto, finished_of, is_finished, is_owed, request_finished, finishes_request, floor_by, keeps_request, lacks_room, poll_ledto};
 
 use crate::answers::{Finished, Told};
 use crate::catching_up::owing;
 use crate::contexts::Context;
 use crate::sessions::Sitting;
-use fkv_base::Value;
+use fkv_base::{Addr, Value};
 use fkv_map::Reply;
 use fkv_ops::{Occasion, Reason, TryAnswer};
 use fkv_pending::{MailAnswer, MailTask, PendingRequest, RequestName};
@@ -128,6 +128,13 @@ impl Context {
         !pending.request.is_read() && pending.request.version < self.seen.version
     }
 
+    /// A request that goes on waiting may have heard of a later begin of the log.
+    pub(crate) fn raise_floor(&mut self, pending: &PendingRequest)
+        ensures { self.new ≡ record self.old { state = record self.old.state { floor = floor_by self.old.state.floor pending.now } } }
+    {
+        self.floor = Addr(self.floor.0.max(pending.request.floor.0));
+    }
+
     /// The request goes on waiting.
     #[tactic(auto, unfolding(crate::specs::Sessions::keeps_request))]
     fn keep_request(&mut self, index: usize, answer: TryAnswer) -> Ask<Told>
@@ -136,7 +143,9 @@ impl Context {
         ensures next { self.new ≡ record self.old { state = keeps_request self.old.seat self.old.state index answer } }
         ensures ask { result ≡ session_ask self.old.seat self.new.state }
     {
-        self.requests.set(index, *self.attempt.pending());
+        let pending = *self.attempt.pending();
+        self.requests.set(index, pending);
+        self.raise_floor(&pending);
         self.wants_turn = self.wants_turn || lacks_room(answer);
         self.poll_at(index + 1)
     }

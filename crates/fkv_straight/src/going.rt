@@ -26,6 +26,8 @@ pub struct Going {
     /// Their count less one: a key masked by it is its bucket.
     pub bucket_mask: u64,
     pub head: u64,
+    /// An address of a chain below it counts as 0.
+    pub floor: u64,
     pub read_only: u64,
     /// The session's version.
     pub version: u64,
@@ -108,6 +110,7 @@ impl Going {
             bits: shape.bucket_bits,
             bucket_mask: places.buckets as u64 - 1,
             head,
+            floor: machine.floor().0,
             read_only: seen.offsets.read_only.0,
             version,
             mark: own.0,
@@ -146,7 +149,7 @@ impl Going {
     }
 
     /// The update that a poll may try straight, if there is one: it alone waits, needs no record of the device, holds no latch, and is one of the
-    /// session's version, which isn't in prepare.
+    /// session's version and floor. The session isn't in prepare.
     pub(crate) fn lone(&self, machine: &Session) -> Option<Lone>
         ensures { IfSome result (λ its. GoesBy machine.now.seat machine.now.state self.now → MayPoll machine.now.seat machine.now.state its self.now) }
     {
@@ -162,7 +165,7 @@ impl Going {
         if pending.has_asked || pending.sought.is_some() {
             return None;
         }
-        if request.has_latch || request.held.is_some() {
+        if request.has_latch || request.held.is_some() || request.floor != machine.floor() {
             return None;
         }
         if request.version.0 != self.version || self.is_preparing {
