@@ -50,7 +50,7 @@ pub data IsMadeOf (c : Trial) (told : Told) (place entry : ℕ) : Option ℕ →
   OfNoneBelow : {addr : ℕ} → EndsBelow c told place entry addr → IsMadeOf c told place entry None false
   OfAny : {addr : ℕ} → LeavesMemory c told place entry addr → is_blind c.request.op ≡ true → IsMadeOf c told place entry None false
   OfHeld : {held : HeldRecord} → HoldsFrom c told place held → held.entry ≡ entry → held.key.0 ≡ (key_of c.request.op).0 → IsMadeOf c told place entry (value_of held.value) false
-  OfNoneBehind : {held : HeldRecord} → HoldsFrom c told place held → held.entry ≡ entry → held.key.0 ≢ (key_of c.request.op).0 → is_chain_end c.request held.previous ≡ true → IsMadeOf c told place entry None false
+  OfNoneBehind : {held : HeldRecord} → HoldsFrom c told place held → held.entry ≡ entry → held.key.0 ≢ (key_of c.request.op).0 → is_chain_end c.request.floor held.previous ≡ true → IsMadeOf c told place entry None false
 
 -- the try has set bit 63 of the bucket's eighth word, which had neither that nor a count
 pub record HasSetBit (c : Trial) (told : Told) : Type 0 where

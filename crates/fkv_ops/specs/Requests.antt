@@ -8,7 +8,6 @@ use Rattle.fkv_index.specs.declared.finding.Purpose.{Purpose}
 use Rattle.fkv_index.specs.declared.finding.Purpose.TheVariants as slot
 use Rattle.fkv_ops.specs.declared.bounds.Bounds.{Bounds}
 use Rattle.fkv_ops.specs.declared.requests.Occasion.{Occasion}
-use Rattle.fkv_ops.specs.declared.requests.Request.{Request}
 use Rattle.fkv_ops.specs.Bounds.{bounds_at}
 
 abbrev pub is_read : Op → Bool
@@ -29,6 +28,6 @@ update_within (Some bounds) = slot.UpdateWithin bounds.taken
 abbrev pub purpose_at : Occasion → Op → Purpose
 purpose_at occasion op = if is_read op then slot.Read else update_within (bounds_at occasion)
 
--- An address below the request's floor counts as 0 to it, wherever it stands. So a chain that leads there has ended.
-abbrev pub is_chain_end : Request → Addr → Bool
-is_chain_end request addr = from_or_none request.floor.0 addr.0 == 0
+-- An address below a request's floor counts as 0 to it, wherever it stands. So a chain that leads there has ended.
+abbrev pub is_chain_end : Addr → Addr → Bool
+is_chain_end floor addr = from_or_none floor.0 addr.0 == 0

@@ -143,12 +143,15 @@ impl Try {
     fn met_disk(&mut self, addr: Addr)
         ensures { self.new ≡ record self.old { state = met_disk self.old.places self.old.state addr } }
     {
-        if is_blind(self.request.op) {
+        let has_ended = self.request.is_chain_end(addr);
+        if is_read(self.request.op) {
+            if has_ended {
+                self.ends(TryAnswer::Absent);
+            } else {
+                self.awaits(addr);
+            }
+        } else if is_blind(self.request.op) || has_ended {
             self.copies(OldValue::Known(Value::ABSENT), false);
-        } else if self.request.is_chain_end(addr) {
-            self.met_nowhere();
-        } else if is_read(self.request.op) {
-            self.awaits(addr);
         } else {
             self.held_used(addr, self.request.held);
         }

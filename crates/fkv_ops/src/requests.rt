@@ -62,7 +62,7 @@ impl Request {
 
     /// Whether a chain that leads to this address has ended there: it is 0, or below the request's floor.
     pub fn is_chain_end(&self, addr: Addr) -> bool
-        ensures { result ≡ is_chain_end self.now addr }
+        ensures { result ≡ is_chain_end self.now.floor addr }
     {
         from_or_none(self.floor, addr) == Addr(0)
     }

@@ -133,7 +133,7 @@ abbrev pub read_on : AttemptState → MailRecord → HeaderSaid → AttemptState
 read_on a its Spoiled = puts a
 read_on a its (Says previous version) =
     if its.key.0 == (key_of a.pending.request.op).0 then attempt_ended a (told_value (value_of its.value))
-    else if is_chain_end a.pending.request previous then attempt_ended a answer.Absent
+    else if is_chain_end a.pending.request.floor previous then attempt_ended a answer.Absent
     else puts (record a { pending = with_sought a.pending (moved_on a.pending.sought previous) })
 
 -- an update holds the record and is tried with it

@@ -253,8 +253,8 @@ TriesKept = (c : AttemptGiven) (replies : List ℕ) → IsTryKept c (run_by c re
 abbrev pub IsReadBy : PendingRequest → MailRecord → HeaderSaid → TryAnswer → Type 0
 IsReadBy first its (Says previous version) (answer.Found value) = (its.key.0 ≡ (key_of first.request.op).0) × (value_of its.value ≡ Some value.0)
 IsReadBy first its (Says previous version) answer.Absent =
-    ((its.key.0 ≡ (key_of first.request.op).0) × (value_of its.value ≡ None)) ⊎ ((its.key.0 ≢ (key_of first.request.op).0) × (is_chain_end first.request previous ≡ true))
-IsReadBy first its (Says previous version) (answer.Wait reason.Disk) = (its.key.0 ≢ (key_of first.request.op).0) × (is_chain_end first.request previous ≡ false)
+    ((its.key.0 ≡ (key_of first.request.op).0) × (value_of its.value ≡ None)) ⊎ ((its.key.0 ≢ (key_of first.request.op).0) × (is_chain_end first.request.floor previous ≡ true))
+IsReadBy first its (Says previous version) (answer.Wait reason.Disk) = (its.key.0 ≢ (key_of first.request.op).0) × (is_chain_end first.request.floor previous ≡ false)
 IsReadBy first its Spoiled (answer.Wait reason.Disk) = ⊤
 IsReadBy first its said told = ⊥
 
@@ -281,8 +281,8 @@ IsBefore None previous sought = sought ≡ None
 IsBefore (Some its) previous sought = sought ≡ Some (record { entry = its.entry; addr = previous })
 
 pub record SeeksBefore (first : PendingRequest) (its : MailRecord) (previous : Addr) (sought : Option DiskRecord) : Type 0 where
-  pub goes_on : its.key.0 ≢ (key_of first.request.op).0 → is_chain_end first.request previous ≡ false → IsBefore first.sought previous sought
-  pub stays : (its.key.0 ≡ (key_of first.request.op).0) ⊎ (is_chain_end first.request previous ≡ true) → sought ≡ first.sought
+  pub goes_on : its.key.0 ≢ (key_of first.request.op).0 → is_chain_end first.request.floor previous ≡ false → IsBefore first.sought previous sought
+  pub stays : (its.key.0 ≡ (key_of first.request.op).0) ⊎ (is_chain_end first.request.floor previous ≡ true) → sought ≡ first.sought
 
 -- what a request seeks still behind its mail, as long as no try has told more
 abbrev pub sought_behind : PendingRequest → Option MailRecord → Option DiskRecord
