@@ -140,12 +140,15 @@ read_on a its (Says previous version) =
 abbrev pub record_taken : Places → ℕ → AttemptState → MailRecord → HeaderSaid → AttemptState
 record_taken p bits a its said = if is_seeking_read a then read_on a its said else tries p bits (record a { pending = with_held a.pending (held_of a.pending.sought its said) })
 
--- The record that was asked for is gone. That tells nothing of the key: the request waits, and a later attempt tries it from its entry again.
-abbrev pub goes_anew : AttemptState → MailRecord → AttemptState
-goes_anew a its = waits_for_disk (record a { pending = without_gone a.pending (begin_told its) })
+-- The record that was asked for is gone, which tells nothing of the key. A read waits, and its next attempt tries it from its entry again. Any other
+-- request is tried from there at once.
+abbrev pub goes_anew : Places → ℕ → AttemptState → Addr → AttemptState
+goes_anew p bits a begin =
+    let its : AttemptState = record a { pending = without_gone a.pending begin } in
+    if is_seeking_read a then waits_for_disk its else tries p bits its
 
 abbrev pub mail_taken : Places → ℕ → AttemptState → MailRecord → AttemptState
-mail_taken p bits a its = if is_gone its then goes_anew a its else record_taken p bits a its (header_said its.header)
+mail_taken p bits a its = if is_gone its then goes_anew p bits a (begin_told its) else record_taken p bits a its (header_said its.header)
 
 -- where no record is ready, a read goes on waiting and an update is tried all the same
 abbrev pub not_ready : Places → ℕ → AttemptState → AttemptState

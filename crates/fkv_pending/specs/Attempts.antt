@@ -216,7 +216,7 @@ pub record IsItsTry (c : AttemptGiven) (taken : Option MailRecord) (trial : TryS
   pub its_version : request.version ≡ c.pending.request.version
   pub its_latch : request.has_latch ≡ c.pending.request.has_latch
   pub its_held : HoldsSo c.pending taken request.held
-  pub its_floor : request.floor ≡ c.pending.request.floor
+  pub its_floor : request.floor ≡ floor_behind c.pending taken
   pub its_run : trial ≡ try_run (trial_of c request) (trial_begun (trial_of c request) c.spare) replies
 
 -- How far the try has come, and whether the request shares its latch then, and what the session's spare bucket is: as they were given, up to
@@ -263,16 +263,11 @@ abbrev pub IsReadEnd : PendingRequest → Option MailRecord → TryAnswer → Ty
 IsReadEnd first None told = told ≡ answer.Wait reason.Disk
 IsReadEnd first (Some its) told = IsReadBy first its (header_said its.header) told
 
--- the mail told that its record is gone
-abbrev pub HasGone : Option MailRecord → Type 0
-HasGone None = ⊥
-HasGone (Some its) = is_gone its ≡ true
-
--- Any other request is answered what its try has come to. One whose try awaits a record has to wait, and so has one whose record is gone: it isn't tried.
-abbrev pub IsTryEnd : Option MailRecord → Option TryAnswer → TryAnswer → Type 0
-IsTryEnd taken None told = HasGone taken × (told ≡ answer.Wait reason.Disk)
-IsTryEnd taken (Some (answer.AwaitsDisk sought)) told = told ≡ answer.Wait reason.Disk
-IsTryEnd taken (Some its) told = told ≡ its
+-- any other request is answered what its try has come to; one whose try awaits a record has to wait
+abbrev pub IsTryEnd : Option TryAnswer → TryAnswer → Type 0
+IsTryEnd None told = ⊥
+IsTryEnd (Some (answer.AwaitsDisk sought)) told = told ≡ answer.Wait reason.Disk
+IsTryEnd (Some its) told = told ≡ its
 
 -- A read at a poll seeks the record before the one that was taken, along the walk from the same entry, where that one is another key's and
 -- not the last of its chain. Where it is gone the read seeks none, and else what it sought.
@@ -311,7 +306,7 @@ IsToBeTried c = IsCall c.occasion ⊎ ((is_read c.pending.request.op ≡ false) 
 pub record IsAnswered (c : AttemptGiven) (a : AttemptState) (past : AttemptPast) (ask : Ask TryAnswer) : Type 0 where
   pub read_end : c.occasion ≡ Poll → is_read c.pending.request.op ≡ true → is_some c.pending.sought ≡ true → (its : TryAnswer) → ask ≡ Done its → IsReadEnd c.pending past.taken its
   pub read_seeks : c.occasion ≡ Poll → is_read c.pending.request.op ≡ true → is_some c.pending.sought ≡ true → ReadSeeks c.pending past.taken a.pending.sought
-  pub try_end : IsToBeTried c → (its : TryAnswer) → ask ≡ Done its → IsTryEnd past.taken past.tried its
+  pub try_end : IsToBeTried c → (its : TryAnswer) → ask ≡ Done its → IsTryEnd past.tried its
   pub try_seeks : IsToBeTried c → TrySeeks c.pending past.taken past.tried a.pending.sought
 
 abbrev pub AnswersSo : Type 0

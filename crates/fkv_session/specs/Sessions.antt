@@ -280,13 +280,9 @@ update_polled s serial its = answers (record s { finished = finished.Update seri
 abbrev pub read_polled : SessionState → Ticket → Option Value → SessionState
 read_polled s ticket value = answers (record s { finished = finished.Read ticket value ∷ []; requests = remove s.requests 0 }) told.Slept
 
--- A request that goes on waiting may have heard of a later begin of the log: the session's floor is raised to that.
-abbrev pub floor_by : Addr → PendingRequest → Addr
-floor_by floor its = record { 0 = max floor.0 its.request.floor.0 }
-
 -- and it has finished none, but the first request waits as this
 abbrev pub request_polled : SessionState → PendingRequest → SessionState
-request_polled s its = answers (record s { finished = []; requests = slice_set s.requests 0 its; floor = floor_by s.floor its }) told.Slept
+request_polled s its = answers (record s { finished = []; requests = slice_set s.requests 0 its }) told.Slept
 
 -- and it has finished none
 abbrev pub nothing_polled : SessionState → SessionState
@@ -342,10 +338,17 @@ lacks_room (tried.Wait why) = is_no_room why
 lacks_room its = false
 
 unfoldable pub keeps_request : Seat → SessionState → ℕ → TryAnswer → SessionState
-keeps_request k s index its = polls_at k (record s { requests = slice_set s.requests index s.attempt.pending; floor = floor_by s.floor s.attempt.pending; wants_turn = s.wants_turn || lacks_room its }) (index + 1)
+keeps_request k s index its = polls_at k (record s { requests = slice_set s.requests index s.attempt.pending; wants_turn = s.wants_turn || lacks_room its }) (index + 1)
+
+-- What the attempt of a poll leaves to the session. Its request may have heard of a later begin of the log: the session's floor is raised to that.
+abbrev pub floor_by : Addr → PendingRequest → Addr
+floor_by floor its = record { 0 = max floor.0 its.request.floor.0 }
+
+abbrev pub poll_left : SessionState → SessionState
+poll_left s = record (attempt_left s) { floor = floor_by s.floor s.attempt.pending }
 
 unfoldable pub poll_ledto : Seat → SessionState → ℕ → Ask TryAnswer → SessionState
-poll_ledto k s index (Done its) = if is_finished its then finishes_request k (attempt_left s) index its else keeps_request k (attempt_left s) index its
+poll_ledto k s index (Done its) = if is_finished its then finishes_request k (poll_left s) index its else keeps_request k (poll_left s) index its
 poll_ledto k s index ask = s
 
 unfoldable pub turn_ledto : SessionState → Told → Ask (Unit {0}) → SessionState

@@ -223,7 +223,6 @@ impl Context {
     {
         self.finished.clear();
         self.requests.set(0, its);
-        self.raise_floor(&its);
         self.step = Sitting::Idle(Told::Slept);
         Ask::Done(Told::Slept)
     }

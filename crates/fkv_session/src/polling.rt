@@ -5,7 +5,7 @@ ghost use Rattle.fkv_pending.specs.Attempting.{attempt_ask};
 ghost use Rattle.fkv_pending.specs.Mailing.{mail_ask};
 ghost use Rattle.fkv_pending.specs.declared.pending_requests.PendingRequest.{PendingRequest};
 ghost use Rattle.fkv_session.specs.declared.sessions.Sitting.TheVariants.{ClearsMail, Polls};
-ghost use Rattle.fkv_session.specs.Sessions.{session_ask, poll_begun, polls_at, polls_request, clear_ledto, finished_of, is_finished, is_owed, request_finished, finishes_request, floor_by, keeps_request, lacks_room, poll_ledto};
+ghost use Rattle.fkv_session.specs.Sessions.{session_ask, poll_begun, polls_at, polls_request, clear_ledto, finished_of, is_finished, is_owed, request_finished, finishes_request, poll_left, keeps_request, lacks_room, poll_ledto};
 
 use crate::answers::{Finished, Told};
 use crate::catching_up::owing;
@@ -88,7 +88,7 @@ impl Context {
     {
         match ask {
             Ask::Done(answer) => {
-                self.take_back();
+                self.take_back_polled();
                 if is_finished(answer) {
                     self.finish_request(index, answer)
                 } else {
@@ -128,11 +128,13 @@ impl Context {
         !pending.request.is_read() && pending.request.version < self.seen.version
     }
 
-    /// A request that goes on waiting may have heard of a later begin of the log.
-    pub(crate) fn raise_floor(&mut self, pending: &PendingRequest)
-        ensures { self.new ≡ record self.old { state = record self.old.state { floor = floor_by self.old.state.floor pending.now } } }
+    /// What the attempt of a poll leaves to the session. Its request may have heard of a later begin of the log.
+    fn take_back_polled(&mut self)
+        ensures { self.new ≡ record self.old { state = poll_left self.old.state } }
     {
-        self.floor = Addr(self.floor.0.max(pending.request.floor.0));
+        self.take_back();
+        let floor = self.attempt.pending().request.floor;
+        self.floor = Addr(self.floor.0.max(floor.0));
     }
 
     /// The request goes on waiting.
@@ -143,9 +145,7 @@ impl Context {
         ensures next { self.new ≡ record self.old { state = keeps_request self.old.seat self.old.state index answer } }
         ensures ask { result ≡ session_ask self.old.seat self.new.state }
     {
-        let pending = *self.attempt.pending();
-        self.requests.set(index, pending);
-        self.raise_floor(&pending);
+        self.requests.set(index, *self.attempt.pending());
         self.wants_turn = self.wants_turn || lacks_room(answer);
         self.poll_at(index + 1)
     }

@@ -361,7 +361,7 @@ const READ_GONE_OF_A_KEPT_KEY: Scene = Scene {
     ],
 };
 
-/// An update whose record is gone is tried again by the next poll.
+/// An update whose record is gone is tried from its entry at once. From then on the session knows the begin too.
 const UPDATE_GONE: Scene = Scene {
     is_of_one: false,
     phase: Phase::Rest,
@@ -372,10 +372,10 @@ const UPDATE_GONE: Scene = Scene {
         Step::Stores(&[(SLOT, FIRST)]),
         Step::Tells(ADD, Told::Pending(Serial(1), Reason::Disk)),
         Step::Stores(GONE),
-        IS_GONE,
-        Step::Finishes(&[]),
         Step::Tells(Call::Poll, Told::Polled(0)),
         Step::Finishes(&[Finished::Update(Serial(1), Reply::Number(Value(5)))]),
+        Step::Stores(&[(SLOT, FIRST)]),
+        Step::Asks(READ, &[Ask::Load(SLOT), Ask::Done(Told::Absent)]),
     ],
 };
 

@@ -342,7 +342,7 @@ const ANOTHER_ENTRY: &[Step<'static>] = &[Step {
     is_orphaned: false,
 }];
 
-/// Its record is gone, which tells nothing of the key.
+/// The record of a read is gone, which tells nothing of the key.
 const IS_GONE: Step<'static> = Step {
     words: SERVED_GONE,
     occasion: Occasion::Poll,
@@ -399,17 +399,14 @@ const READ_GONE_OF_A_KEPT_KEY: &[Step<'static>] = &[
     },
 ];
 
-/// What it held is dropped too.
-const ADD_GONE: &[Step<'static>] = &[
-    IS_GONE,
-    Step {
-        words: &[],
-        occasion: Occasion::Poll,
-        asks: &[MAKES],
-        left: None,
-        is_orphaned: false,
-    },
-];
+/// What it held is dropped too, and it is tried at once.
+const ADD_GONE: &[Step<'static>] = &[Step {
+    words: SERVED_GONE,
+    occasion: Occasion::Poll,
+    asks: &[TAKES, MAKES],
+    left: None,
+    is_orphaned: false,
+}];
 
 /// The record before the one that came lies below the floor: the chain has ended.
 const READ_ENDS_BELOW: &[Step<'static>] = &[Step {
