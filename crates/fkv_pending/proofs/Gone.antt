@@ -2,7 +2,9 @@
 use Rattle.std.proofs.Common.{◌≡◌, refl, sym, ap, ◌∙◌, eqb-true, Bool, true, false}
 use Rattle.std.specs.Prelude.{◌==◌, if◌then◌else◌, Option, Some, None}
 use Rattle.fkv_ops.specs.declared.answers.DiskRecord.{DiskRecord}
-use Rattle.fkv_ops.specs.declared.header_words.HeaderSaid.TheVariants.{Spoiled}
+use Rattle.fkv_base.specs.declared.numbers.Addr.{Addr}
+use Rattle.fkv_base.specs.declared.numbers.Version.{Version}
+use Rattle.fkv_ops.specs.declared.header_words.HeaderSaid.TheVariants.{Says, Spoiled}
 use Rattle.fkv_ops.specs.HeaderWords.{header_said}
 use Rattle.fkv_pending.specs.declared.mailing.MailRecord.{MailRecord}
 use Rattle.fkv_pending.specs.declared.pending_requests.PendingRequest.{PendingRequest}
@@ -12,6 +14,17 @@ use Rattle.fkv_pending.specs.Attempts.{HoldsMail, floor_behind, sought_behind, h
 zero_spoiled : header_said 0 ≡ Spoiled
 unfolding header_said
 zero_spoiled = refl
+
+never : {previous : Addr} {version : Version} → Spoiled ≡ Says previous version → ⊥
+never e = cc
+
+-- a header that says something is another's
+pub there_said : (its : MailRecord) (previous : Addr) (version : Version) → header_said its.header ≡ Says previous version → is_gone its ≡ false
+there_said its previous version said = tested (is_gone its) refl
+  where
+    tested : (b : Bool) → is_gone its ≡ b → b ≡ false
+    tested true gone = absurd (never (sym zero_spoiled ∙ (ap header_said (sym (eqb-true its.header 0 gone)) ∙ said)))
+    tested false there = refl
 
 -- its header is none
 pub gone_spoiled : (its : MailRecord) → is_gone its ≡ true → header_said its.header ≡ Spoiled

@@ -101,6 +101,7 @@ impl Going {
         let moves_on = is_moving_on(seen.phase);
         let prepares = is_preparing(seen.phase);
         let bound = bound_of(&shape);
+        let floor = machine.floor();
         let first_bucket = places.bucket(0, 0);
         let frames = places.record(Addr(0), RecordWord::Header);
         Some(Going {
@@ -110,7 +111,7 @@ impl Going {
             bits: shape.bucket_bits,
             bucket_mask: places.buckets as u64 - 1,
             head,
-            floor: machine.floor().0,
+            floor: floor.0,
             read_only: seen.offsets.read_only.0,
             version,
             mark: own.0,
@@ -165,7 +166,11 @@ impl Going {
         if pending.has_asked || pending.sought.is_some() {
             return None;
         }
-        if request.has_latch || request.held.is_some() || request.floor != machine.floor() {
+        if request.has_latch || request.held.is_some() {
+            return None;
+        }
+        let floor = machine.floor();
+        if request.floor.0 != floor.0 {
             return None;
         }
         if request.version.0 != self.version || self.is_preparing {

@@ -108,7 +108,7 @@ pub(crate) fn asking_read(machine: &Session) -> Option<Asker>
         return None;
     }
     let floor = machine.floor();
-    if pending.request.floor > floor {
+    if pending.request.floor.0 > floor.0 {
         return None;
     }
     let awake = machine.is_awake();

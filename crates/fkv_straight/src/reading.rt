@@ -52,11 +52,16 @@ pub(crate) fn tell<L: Line>(
             }
         }
         Met::Nowhere(_) => Ok(Told::Absent),
-        Met::OnDisk(_, addr) if addr < going.floor => Ok(Told::Absent),
-        Met::OnDisk(slot, addr) => Err(DiskRecord {
-            entry: slot.entry,
-            addr: Addr(addr),
-        }),
+        Met::OnDisk(slot, addr) => {
+            if addr < going.floor {
+                Ok(Told::Absent)
+            } else {
+                Err(DiskRecord {
+                    entry: slot.entry,
+                    addr: Addr(addr),
+                })
+            }
+        }
     }
 }
 
