@@ -157,7 +157,7 @@ disk_true c told t addr quiet not_alone under stays leaves = by_read (is_read c.
 
     by_read : (b : Bool) → is_read c.request.op ≡ b
         → Comes c told None [] (latch_held t) (if b then (if is_chain_end c.request.floor addr then ends c.places (norm c t) answer.Absent else awaits c.places (norm c t) addr)
-            else if is_blind c.request.op || is_chain_end c.request.floor addr then copies c.places (norm c t) (Known absent_word) false else held_used c.places (norm c t) addr c.request.held)
+        else if is_blind c.request.op || is_chain_end c.request.floor addr then copies c.places (norm c t) (Known absent_word) false else held_used c.places (norm c t) addr c.request.held)
     by_read true e = by_end (is_chain_end c.request.floor addr) refl e
     by_read false e = by_old (is_blind c.request.op || is_chain_end c.request.floor addr) refl e
 

@@ -44,7 +44,7 @@ use Rattle.fkv_ops.specs.Walking.{walk_ask, walk_next, walk_on}
 use Rattle.fkv_ops.specs.Appending.{append_ask, append_next}
 use Rattle.fkv_ops.specs.Trying.{TryState, new_try, trying_ask, try_ask, with_latch, is_wait, ended_without, is_bounded, ends, ends_by, ends_so, tail_loaded, taken_loaded, takes_effect, full_at, walks, wants_shared, try_begun, is_next_marked, latch_shared, shared_ledto, is_still_in, phase_loaded, must_shift, wants_exclusive, words_of, slot_of, appends, copies_from, copies, awaits, held_used, must_count, met_nowhere, count_loaded, met_disk, changes, is_own_version, region_met, met_record, walked, has_walked, walk_ledto, is_surely_own, safe_loaded, current_ledto, value_changed, told_value, answer_ledto, exclusive_ledto, old_ledto, append_ledto, exclusive_dropped, shared_dropped, latch_moved, walk_moved, trying_next, try_next}
 use Rattle.fkv_plane.specs.AsksLeft.{AsksWhereLeft, sum_left}
-use Rattle.fkv_ops.specs.AsksLeft.{walk_asks_left, most_walk_asks, append_asks_left, most_drop_asks, most_end_asks, most_append_asks, most_copy_asks, most_asks_behind_walk, most_asks_behind_share, trying_asks_left, try_asks_left}
+use Rattle.fkv_ops.specs.AsksLeft.{walk_asks_left, most_walk_asks, append_asks_left, most_end_asks, most_append_asks, most_copy_asks, most_asks_behind_walk, most_asks_behind_share, trying_asks_left, try_asks_left}
 use Rattle.fkv_plane.proofs.Shown.{none, done_left, none_left, some_inside, passed_left, passed_alone, sum_most, inside_fewer, behind_fewer}
 use Rattle.fkv_ops.proofs.WalkAsks.{walk_left, walk_begun_left, walk_fewer, walk_on_left}
 use Rattle.fkv_ops.proofs.AppendAsks.{append_left, append_begun_left, append_fewer}
