@@ -1,6 +1,6 @@
 -- What a session has stored last as its cut words and its owing word, at every moment of a run.
 use Rattle.std.proofs.Common.{◌≡◌, ℕ, ◌+◌, ◌*◌, ◌-◌, ◌<◌, ◌≤◌, ◌∙◌, zero, suc, List, [], ◌∷◌, ◌++◌, length, refl, arith, ap, sym, subst, inl, inr, Bool, true, false}
-use Rattle.std.specs.Prelude.{slice_get, slice_set, Option, Some, None, if◌then◌else◌, not, cond, ◌==◌, ◌&&◌, ◌≢◌, ◌⊎◌, nat_lt, ◌||◌, ◌%◌, ◌/◌, ◌^◌}
+use Rattle.std.specs.Prelude.{slice_get, slice_set, Option, Some, None, if◌then◌else◌, not, cond, ◌==◌, ◌&&◌, ◌≢◌, ◌⊎◌, nat_lt, ◌||◌, ◌%◌}
 use Rattle.std.specs.List.{remove, count_by, position}
 use Rattle.std.proofs.lemmas.Bool.Decides.{nat_tests}
 use Rattle.std.proofs.lemmas.List.Sums.{sum_by-cons}
