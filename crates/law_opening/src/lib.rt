@@ -15,8 +15,8 @@ pub use lives::{
     law_opened_commit_stands, law_told_opens,
 };
 pub use log::{
-    law_log_begins, law_log_beside, law_log_counted, law_log_heads, law_log_opened,
-    law_lost_is_the_rest,
+    law_log_above, law_log_begins, law_log_beside, law_log_counted, law_log_heads, law_log_opened,
+    law_lost_is_the_rest, law_maps_alike,
 };
 pub use published::law_changes_published;
 pub use worlds::law_world_exists;
