@@ -24,4 +24,5 @@ pub use worlds::law_world_exists;
 // What crates above name of the laws below, beside what `specs/Below.antt` shows.
 pub use fkv_core::{World, law_words_open};
 pub use fkv_creating::law_new_stores;
+pub use law_paper::{law_forgotten_agree, law_opens_alike};
 pub use law_refine::{law_world_ends, law_world_slots};

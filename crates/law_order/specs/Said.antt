@@ -13,7 +13,7 @@ pub use Rattle.law_order.specs.Opened.{OfItsLives, OfItsSessions}
 pub use Rattle.law_order.specs.Ordered.Keeps.{KeepsItsOrder}
 pub use Rattle.law_order.specs.Ordered.Met.{SeeksItsReads}
 pub use Rattle.law_order.specs.Prefix.Durable.{ToldNeverFalls}
-pub use Rattle.law_order.specs.Prefix.Law.{HasCommitsInTurn, HasFairPoints, HasRisingPoints, LivesFollow, LivesReachFar, PrefixLaw, RecoversPrefix, TellsDurable, TellsFinished}
+pub use Rattle.law_order.specs.Prefix.Law.{ForgottenHolds, HasCommitsInTurn, HasFairPoints, HasRisingPoints, LivesFollow, LivesReachFar, PrefixLaw, RecoversPrefix, TellsDurable, TellsFinished}
 pub use Rattle.law_order.specs.Prefix.Slots.{HomesHaveSlots}
 pub use Rattle.law_order.specs.Prefix.Stores.{JoinsValuesAndPoints, KeepsLegally, OfEachCommit, ReplaysKept}
 pub use Rattle.law_order.specs.Recovered.Holds.{HoldsItsCommit, HoldsTheNamed}

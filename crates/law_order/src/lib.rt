@@ -56,9 +56,10 @@ pub use prefix::{
 };
 pub use reads::law_world_reads;
 pub use recovered::{
-    law_crash_keeps_first, law_images_hold, law_images_keep_checkpoint, law_images_recovered,
-    law_images_show_life, law_images_use_checkpoints, law_life_after_crash, law_log_in_order,
-    law_named_hold, law_opened_log_stands, law_points_keep, law_prefix, law_scans_start_above,
+    law_crash_keeps_first, law_forgotten, law_images_hold, law_images_keep_checkpoint,
+    law_images_recovered, law_images_show_life, law_images_use_checkpoints, law_life_after_crash,
+    law_log_in_order, law_named_hold, law_opened_log_stands, law_points_keep, law_prefix,
+    law_scans_start_above,
 };
 pub use rows::{law_requests_asked, law_rows_go_on, law_waits_stay};
 pub use rules::{law_cuts_open, law_life_begins, law_order_of_rules};

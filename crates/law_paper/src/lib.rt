@@ -15,4 +15,5 @@ pub use paper::{
 pub use phases::law_phases_are_seen;
 
 // What crates above name of the laws below, beside what `specs/Below.antt` shows.
+pub use fkv_opening::law_opens_alike;
 pub use fkv_pairs::law_chain_of_entry;
