@@ -8,7 +8,7 @@ mod log;
 mod published;
 mod worlds;
 
-pub use changing::law_lives_change_published;
+pub use changing::{law_lives_are_above, law_lives_change_published};
 pub use fitting::{law_lives_fit, law_logs_fit};
 pub use lives::{
     law_device_opens, law_guard_opens, law_index_opens, law_latches_open, law_long_opens,
