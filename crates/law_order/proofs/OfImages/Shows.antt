@@ -98,7 +98,7 @@ pub shows_counted : (from : ℕ) (was image : scan.Log) (a : ℕ) (cell : Cell) 
     → IsCellOf was a cell → ShowsCell from image a cell
 shows_counted from was image a cell up low shape same its =
     let x = its.held in
-    let cell_is : cell ≡ cell_of was.version x = its.its in
+    let cell_is : cell ≡ cell_of was x = its.its in
     let counts = its.counts in
     let old = counts.old_enough in
     let version : cell.version ≡ was.version = ap (λ (c : Cell). c.version) cell_is in
