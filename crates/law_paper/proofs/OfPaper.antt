@@ -1,14 +1,14 @@
 mod Alike
 mod Counting
 mod Down
-mod Forgotten
+pub mod Forgotten
 mod Here
 pub mod Named
 pub mod Old
 pub mod Opened
 mod Reach
 pub mod Room
-mod SameValues
+pub mod SameValues
 pub mod Sound
 pub mod Stored
 mod Values

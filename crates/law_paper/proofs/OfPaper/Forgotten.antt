@@ -1,17 +1,17 @@
 -- An image that agrees but at bytes that count for nothing shows recovery the same.
-use Rattle.std.proofs.Common.{◌≡◌, ◌≢◌, ℕ, zero, suc, ◌+◌, ◌*◌, ◌<◌, ◌≤◌, Bool, true, false, Option, Some, None, List, sym, ap, subst, ◌∙◌, arith}
+use Rattle.std.proofs.Common.{◌≡◌, ℕ, zero, suc, ◌+◌, ◌*◌, ◌<◌, ◌≤◌, Bool, true, false, Option, Some, None, List, ap, ◌∙◌, arith}
 use Rattle.std.specs.Prelude.{if◌then◌else◌, nat_le}
 use Rattle.fkv_base.specs.declared.shapes.Shape.{Shape}
 use Rattle.fkv_disk.specs.Bytes.{byte_at, bytes_at}
 use Rattle.fkv_disk.proofs.Shown.{byte_at-bytes_at, is_listed, length-bytes_at}
 use Rattle.fkv_manifest.specs.Newest.{newer, slot_in}
-use Rattle.fkv_newest.specs.Newest.{IsNewest, IsNewestOf, ShowSame, slot_place}
+use Rattle.fkv_newest.specs.Newest.{IsNewestOf, ShowSame, slot_place}
 use Rattle.fkv_newest.specs.declared.newest_slots.Newest.{Newest}
 use Rattle.fkv_opening.specs.Alike.{Agree, ShareLog}
 use Rattle.fkv_opening.proofs.Shown.{Apart, same_shape, same_slot}
 use Rattle.fkv_record.specs.Places.{area_place, most_triples, open_number, record_place}
 use Rattle.fkv_record.specs.declared.manifest_slots.ManifestSlot.{ManifestSlot}
-use Rattle.law_paper.specs.Paper.Forgotten.{IsForgotten, AgreeFrom}
+use Rattle.law_paper.specs.Paper.Forgotten.{AgreeFrom}
 
 -- the bytes of a range are the same where each of them is
 range_same : (xs ys : List ℕ) (at n : ℕ) → ((i : ℕ) → at ≤ i → i < at + n → byte_at xs i ≡ byte_at ys i) → bytes_at xs at n ≡ bytes_at ys at n

@@ -98,7 +98,7 @@ module _ (home : ℕ → ℕ) (image : scan.Log) (g : Log) (spells : SpellsApart
         absurd (cc))
 
     by_below : newest key < image.begin → ShowsValue
-    by_below low = by_absent (elim (paper.live key) [ | inl above ↦ absurd (omega (arith, above, low)) | inr absent ↦ absent ]) (λ v has. (let above = (begun v has).1 in omega (arith, above, low)))
+    by_below low = by_absent (elim (paper.live key) [ inl above ↦ absurd (omega (arith, above, low)) | inr absent ↦ absent ]) (λ v has. (let above = (begun v has).1 in omega (arith, above, low)))
 
     by_cell : (a : ℕ) (logged : Logged) → newest key ≡ a → image.begin ≤ a → g.cells a ≡ logged → has_key_upto image.version key logged ≡ true → ShowsValue
     by_cell a (Published cell) is on there own v =
