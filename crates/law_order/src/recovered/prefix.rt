@@ -8,7 +8,8 @@ use crate::{
     law_lives, law_lives_keep_rules, law_order, law_points_are_fair, law_replays_kept,
 };
 use law_opening::{
-    law_forgotten_agree, law_lives_change_published, law_long_opens, law_maps_alike, law_opens_alike,
+    law_forgotten_agree, law_lives_change_published, law_long_opens, law_maps_alike,
+    law_opens_alike,
 };
 
 /// Bytes below the begin of an image's newest slot don't count. If an image holds a prefix of a life, so does each that agrees with it but there: of the same commit,
