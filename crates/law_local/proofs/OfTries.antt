@@ -2,6 +2,7 @@ pub mod AttemptGrows
 pub mod AttemptSteps
 pub mod AttemptTells
 pub mod Changes
+pub mod Floors
 mod HeldSteps
 pub mod Keeping
 mod Lows

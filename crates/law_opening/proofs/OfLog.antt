@@ -5,6 +5,7 @@ mod Mapping
 pub mod Opens
 mod Pairing
 mod Reaching
+mod SameMaps
 mod Walking
 mod Words
 pub mod WorldOpens

@@ -26,6 +26,7 @@ use Rattle.law_order.proofs.Below.law_world.OfRuns.Added.{trace_so}
 use Rattle.law_order.specs.Below.law_opening.Lives.Reaching.{ReachesFar}
 use Rattle.law_order.specs.OneHistory.EachLife.{InEachLife, IsLife}
 use Rattle.law_order.specs.Prefix.Durable.{ToldNeverFalls}
+use Rattle.law_order.proofs.OfPrefix.Forgotten.{as_left}
 use Rattle.law_order.specs.Prefix.Law.{HoldsPrefix, IsKeptOf, PrefixLaw, RecoversPrefix, TellsDurable, calls_so_far, past_so_far, trace_so_far}
 use Rattle.law_order.proofs.Below.law_refine.OfCalls.Called.{is_other}
 use Rattle.law_order.proofs.Below.law_refine.OfCalls.InHand.{WasOpened, was_opened}
@@ -182,7 +183,7 @@ module _ {K : Type 0} (at : K → World) (key : K) (o : Opened) (n : Now) (bytes
       → serial.0 ≤ point_of r.points.items number
   recovered_at later law far image r left store =
       let both : events_of (later ++ its.behind) ≡ events_of later ++ events_of its.behind = events_both later its.behind in
-      let held : HoldsPrefix o n bytes (events_of later ++ events_of its.behind) image = law far image (subst (λ (es : List Event). MayLeave bytes (calls_so_far n bytes es) image) both left) in
+      let held : HoldsPrefix o n bytes (events_of later ++ events_of its.behind) image = law far image (as_left bytes (calls_so_far n bytes (events_of later ++ events_of its.behind)) image (subst (λ (es : List Event). MayLeave bytes (calls_so_far n bytes es) image) both left)) in
       let kept : IsKeptOf o n bytes (events_of later ++ events_of its.behind) held.commit image r = held.each r store in
       let behind = trace_behind opening later (events_of its.behind) in
       let there : IsIn point (points_told number (run opening (events_of later ++ events_of its.behind)).past.trace) = subst (λ (x : List Traced). IsIn point (points_told number x)) (sym behind.whole) (points_more number point behind.later _ is_there) in

@@ -10,6 +10,7 @@ use Rattle.law_order.specs.Below.fkv_world.Runs.{World, run}
 use Rattle.law_order.specs.Below.fkv_world.World.{Calls, Event, Now}
 use Rattle.law_order.proofs.Below.law_world.OfKeeper.OwnCalls.{opened_stays}
 use Rattle.law_order.specs.OneHistory.EachLife.{IsLife, Life}
+use Rattle.law_order.proofs.OfPrefix.Forgotten.{as_left}
 use Rattle.law_order.specs.Prefix.Law.{PrefixLaw, calls_so_far}
 use Rattle.law_order.specs.Tickets.Few.{calls_in, with_begun}
 use Rattle.fkv_table.specs.declared.happenings.Happening.{Happening}
@@ -56,4 +57,4 @@ recovers_within at key seen seen' prefix may o n bytes over within far image its
     let life : Life = record { bytes = bytes; opened = o; world = n; events = events_of its.now } in
     let may_now : AreAllowed (plane at) its.now = allowed_last (plane at) its.to.0 its.now (subst (AreAllowed (plane at)) its.to.1 may) in
     let is : IsLife life = record { store = over.store; begins = over.begins; fits = calls_fit at its.now may_now; few = here } in
-    record { now = its.now; from = its.from; to = its.to; holds = prefix.recovered life is far image (left_so at key o n bytes over its.now image its.left) }
+    record { now = its.now; from = its.from; to = its.to; holds = prefix.recovered life is far image (as_left bytes (calls_so_far n bytes (events_of its.now)) image (left_so at key o n bytes over its.now image its.left)) }

@@ -21,7 +21,7 @@ use Rattle.law_local.proofs.OfTries.OnWay.{in_chain, none_at_end, goes_on, is_fo
 use Rattle.law_local.proofs.OfTries.MailRows.{TakenOf}
 
 -- a record leads to a lower address
-linked_low : (cells : ℕ → Logged) (chain : List ℕ) → IsLinked cells chain → (a : ℕ) (cell : Cell) → IsIn a chain → cells a ≡ Published cell → cell.previous < a
+pub linked_low : (cells : ℕ → Logged) (chain : List ℕ) → IsLinked cells chain → (a : ℕ) (cell : Cell) → IsIn a chain → cells a ≡ Published cell → cell.previous < a
 linked_low cells [] linked a cell is_in is = absurd is_in
 linked_low cells (b ∷ older) linked a cell (inl same) is = subst (λ n. cell.previous < n) same (subst (λ n. n < b) (sym (the_next cell.previous (head_of older) (sym (ap previous_of (ap cells same ∙ is)) ∙ linked.0))) linked.1)
   where

@@ -22,6 +22,7 @@ use Rattle.fkv_words.specs.Fields.{SpellsApart}
 use Rattle.law_refine.specs.Events.GhostEvents.{home_in}
 use Rattle.law_opening.specs.Log.OpeningLog.{cell_at, chain_down, chain_of, entry_of, is_in, logged_at, opening_log}
 use Rattle.law_opening.specs.Log.Records.{cell_of, HasWhatCounts, IsCellOf}
+use Rattle.law_paper.proofs.Reached.{reached_begun}
 use Rattle.law_opening.proofs.OfLog.Reaching.{IsOfStore, has_chain, one, reached_falls, reached_low}
 use Rattle.law_opening.proofs.OfLog.Walking.{AllLead, along_in, down_head, down_in_some, down_linked, down_none, in_along, in_is, is_there}
 use Rattle.law_opening.proofs.OfLog.Words.{cell_is, cell_told}
@@ -165,6 +166,14 @@ module _ (image : List ℕ) (o : Opened) (store : IsStoreOf image o) (its : IsOf
       let low = reached_low (log_of_store image o store) o.entries.items its a (published_there a cell is).counts.reached in
       let tail = its_tail in
       omega (arith, low, tail)
+
+  -- none lies below the store's begin
+  pub cell_begun : (a : ℕ) (cell : Cell) → logged_at image o a ≡ Published cell → o.begin.0 ≤ a
+  cell_begun a cell is =
+      let before = store.checkpoint.newest.manifest.suits.begin.before_scan in
+      let begun = reached_begun (log_of_store image o store) before a (published_there a cell is).counts.reached in
+      let begin = its_begin in
+      omega (arith, begun, begin)
 
   -- ---- the chains of the log
   linked_chain : (its_home : ℕ) → IsLinked (logged_at image o) (chain_of image o its_home)

@@ -1,6 +1,7 @@
 -- What an image shows of a record, by the words that stand for it, or by the opened bytes.
-use Rattle.std.proofs.Common.{◌≡◌, ℕ, ◌+◌, ◌*◌, ◌<◌, ◌≤◌, ◌%◌, ◌^◌, ◌∙◌, inr, sym, ap, subst, arith, false, List, [], ◌∷◌, ◌++◌, length}
+use Rattle.std.proofs.Common.{◌≡◌, ℕ, ◌+◌, ◌*◌, ◌<◌, ◌≤◌, ◌%◌, ◌^◌, ◌∙◌, inr, ⊎_elim, sym, ap, subst, arith, false, List, [], ◌∷◌, ◌++◌, length}
 use Rattle.std.specs.Int.{to_le_bytes, w64}
+use Rattle.std.proofs.lemmas.Bool.{cases_lt}
 use Rattle.fkv_base.specs.declared.shapes.Shape.{Shape}
 use Rattle.fkv_marks.proofs.Shown.{mark_low}
 use Rattle.fkv_disk.specs.Bytes.{bytes_at}
@@ -9,6 +10,8 @@ use Rattle.law_commit.specs.Below.fkv_flush.GuardFlushed.{IsSynced}
 use Rattle.law_commit.specs.Below.fkv_ops.Values.{value_of}
 use Rattle.fkv_plane.specs.declared.places.RecordWord.{RecordWord}
 use Rattle.fkv_plane.specs.declared.places.RecordWord.TheVariants as rec
+use Rattle.fkv_record.proofs.Shown.{from_below, from_lower, from_on}
+use Rattle.fkv_record.specs.Begin.{from_or_none}
 use Rattle.fkv_record.specs.Layout.{record_bytes}
 use Rattle.fkv_record.specs.Numbers.{spelled}
 use Rattle.fkv_record.specs.Places.{area_place, record_place}
@@ -42,7 +45,7 @@ shows_words from image a words cell there is key value fits = record {
   valid = is.bit;
   its_key = key;
   its_value = value;
-  leads = is.leads;
+  leads = ap (from_or_none image.begin) is.leads;
   low = (let same = is.its_mark in let under = mark_low cell.version in omega (arith, same, under));
   same = λ high. is.its_mark;
 }
@@ -77,14 +80,25 @@ pub passes_over : (image : scan.Log) (a : ℕ) (cell : Cell) → ShowsGivenUp im
 passes_over image a cell its young =
     let low = its.falls in
     let leads = its.leads in
-    record { held = its.held; stands = its.stands; invalid = its.invalid; falls = omega (arith, low, leads); same = its.same; young = young }
+    let lower = from_lower image.begin (let x = its.held in x.header.previous.0) in
+    record { held = its.held; stands = its.stands; invalid = its.invalid; falls = omega (arith, low, leads, lower); same = its.same; young = young }
 
--- a record that counted stands as it stood
-pub shows_counted : (from : ℕ) (was image : scan.Log) (a : ℕ) (cell : Cell) → a < from → image.shape ≡ was.shape → bytes_at image.image (record_place was.shape a) 24 ≡ bytes_at was.image (record_place was.shape a) 24
+-- what a begin cuts off is cut off by each later one
+cut_again : (begin later a : ℕ) → begin ≤ later → from_or_none later a ≡ from_or_none later (from_or_none begin a)
+cut_again begin later a up = ⊎_elim
+    (λ below. from_below later a (omega (arith, below, up)) ∙ sym (ap (from_or_none later) (from_below begin a below) ∙ nowhere))
+    (λ on. ap (from_or_none later) (sym (from_on begin a on)))
+    (cases_lt a begin)
+  where
+    nowhere : from_or_none later 0 ≡ 0
+    nowhere = ⊎_elim (λ below. from_below later 0 below) (λ on. from_on later 0 on) (cases_lt 0 later)
+
+-- a record that counted stands as it stood, in an image whose log doesn't begin earlier
+pub shows_counted : (from : ℕ) (was image : scan.Log) (a : ℕ) (cell : Cell) → was.begin ≤ image.begin → a < from → image.shape ≡ was.shape → bytes_at image.image (record_place was.shape a) 24 ≡ bytes_at was.image (record_place was.shape a) 24
     → IsCellOf was a cell → ShowsCell from image a cell
-shows_counted from was image a cell low shape same its =
+shows_counted from was image a cell up low shape same its =
     let x = its.held in
-    let cell_is : cell ≡ cell_of was.version x = its.its in
+    let cell_is : cell ≡ cell_of was x = its.its in
     let counts = its.counts in
     let old = counts.old_enough in
     let version : cell.version ≡ was.version = ap (λ (c : Cell). c.version) cell_is in
@@ -94,7 +108,7 @@ shows_counted from was image a cell low shape same its =
       valid = counts.valid.valid;
       its_key = sym (ap (λ (c : Cell). c.key) cell_is);
       its_value = sym (ap (λ (c : Cell). c.value) cell_is);
-      leads = sym (ap (λ (c : Cell). c.previous) cell_is);
+      leads = cut_again was.begin image.begin x.header.previous.0 up ∙ sym (ap (λ (c : Cell). from_or_none image.begin c.previous) cell_is);
       low = omega (arith, old, version);
       same = λ high. absurd (omega (arith, low, high));
     }

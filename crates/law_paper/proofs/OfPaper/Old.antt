@@ -8,7 +8,8 @@ use Rattle.fkv_chains.specs.Reached.{LeadsTo, from_triple, from_record, Reached,
 use Rattle.fkv_marks.specs.Marks.{mark}
 use Rattle.fkv_marks.specs.Window.{version_in}
 use Rattle.fkv_marks.proofs.Shown.{version_marked, version_told}
-use Rattle.law_log.specs.Chains.{version_at, IsWithin}
+use Rattle.law_log.specs.Chains.{Cell, Published, version_at}
+use Rattle.law_log.proofs.Shown.{above_live}
 use Rattle.law_log.specs.Ghosts.{Log}
 use Rattle.law_log.specs.Trace.{IsIn}
 use Rattle.fkv_record.specs.Layout.{record_bytes}
@@ -24,7 +25,7 @@ use Rattle.law_paper.specs.Paper.Images.{ShowsCell}
 use Rattle.law_paper.specs.Paper.Old.{StandsOnOld}
 use Rattle.law_paper.specs.Paper.Values.{ShowsUpto, CountsAsLog, TellsCell}
 use Rattle.law_paper.proofs.OfPaper.Down.{versions_fall}
-use Rattle.law_paper.proofs.OfPaper.Here.{Showing, IsHere, is_read, dropped_scanned, one, here, as_shown, in_own, of_chain, its_home, since_here, next_in, below_in, leads_nearest, leads_first, leads_in}
+use Rattle.law_paper.proofs.OfPaper.Here.{Showing, IsHere, IsNext, is_read, dropped_scanned, one, here, as_shown, in_own, of_chain, its_home, since_here, next_in, below_in, leads_nearest, leads_first, leads_in}
 use Rattle.law_paper.proofs.OfPaper.Reach.{one_was, start_some, falls_in, was_low, was_some, its_bits, leads_same, same_triple, triple_there, stood, stands_now, valid_was, valid_now, again, goes_was}
 use Rattle.law_paper.proofs.OfPaper.Sound.{triple_once}
 use Rattle.law_paper.proofs.OfPaper.Values.{shows_upto}
@@ -59,8 +60,25 @@ zero_or zero = inl refl
 zero_or (suc n) = inr (λ is. omega (arith, is))
 
 module _ (home : ℕ → ℕ) (was image : scan.Log) (g : Log) (spells : SpellsApart record_bytes) (paper : StandsOnOld home was image g) where
+  -- the log has nothing below the begin
+  begins : image.begin ≤ was.start
+  begins = (let same = paper.goes_on.begin in let low = paper.opened.begins in omega (arith, same, low))
+
+  above : (a : ℕ) (cell : Cell) → g.cells a ≡ Published cell → image.begin ≤ a
+  above a cell is =
+      let same = paper.goes_on.begin in
+      let low = begins in
+      let up = paper.opened.upwards in
+      ⊎_elim
+      (λ old. let counts = (paper.before.counted (home cell.key) a old).0 (paper.orderly.chains.its_chain a cell is) in let some = was_some spells paper.opened a counts.1.reached in omega (arith, same, some))
+      (λ new. omega (arith, low, up, new))
+      (cases_lt a was.tail)
+
+  above_in : (h a : ℕ) → IsIn a (g.chains h) → image.begin ≤ a
+  above_in h a has = let its = paper.orderly.chains.in_chain h a has in above a its.cell its.its
+
   abbrev it : Showing home was.tail image g
-  it = record { spells = spells; orderly = paper.orderly; shows = paper.shows }
+  it = record { spells = spells; orderly = paper.orderly; shows = paper.shows; begins = (let low = begins in let up = paper.opened.upwards in omega (arith, low, up)) }
 
   old_home : (a : ℕ) (p : IsHere was.tail image g a) (x : Record) → Stands image a x → record_home was.shape.bucket_bits x ≡ home (let c = p.cell in c.key)
   old_home a p x stands = sym (its_bits spells paper.opened paper.goes_on x) ∙ its_home it a p x stands
@@ -95,7 +113,7 @@ module _ (home : ℕ → ℕ) (was image : scan.Log) (g : Log) (spells : SpellsA
   next_splits : (h b : ℕ) → IsIn b (g.chains h) → b < image.tail → Splits b
   next_splits h b has low = ⊎_elim
       (λ old. inl (old, (let c = (paper.before.counted h b old).0 has in c.1.reached)))
-      (λ new. inr (new, (of_chain it h b has low).0))
+      (λ new. inr (new, (of_chain it h b has (above_in h b has) low).0))
       (cases_lt b was.tail)
 
   pub splits : (a : ℕ) → Reached image a → Splits a
@@ -129,7 +147,7 @@ module _ (home : ℕ → ℕ) (was image : scan.Log) (g : Log) (spells : SpellsA
 
   in_kept : (h b : ℕ) → IsIn b (g.chains h) → was.start ≤ b → b < image.tail → Has (IsKept image h) b
   in_kept h b has from low =
-      let p = of_chain it h b has low in
+      let p = of_chain it h b has (above_in h b has) low in
       let s : ShowsCell was.tail image b (let q = p.0 in q.cell) = (let q = p.0 in q.shown) in
       let at : record_home was.shape.bucket_bits s.held ≡ h = old_home b p.0 s.held s.stands ∙ p.1 in
       let here_is : IsValid image h b s.held = record { stands = s.stands; valid = s.valid; same = its_bits spells paper.opened paper.goes_on s.held ∙ at } in
@@ -154,18 +172,18 @@ module _ (home : ℕ → ℕ) (was image : scan.Log) (g : Log) (spells : SpellsA
     in_h : IsIn a (g.chains h)
     in_h = subst (λ (n : ℕ). IsIn a (g.chains n)) (sym (old_home a p x stands_x)) (in_own it a p)
 
-    next : IsWithin (next_of image x) (g.chains h) × (next_of image x < a)
+    next : IsNext image.begin (g.chains h) (next_of image x) × (next_of image x < a)
     next = next_in it h a p in_h
 
     below_is : (b : ℕ) → IsIn b (g.chains h) → b < a → b ≤ next_of image x
-    below_is = below_in it h a p in_h
+    below_is b has low = below_in it h a p in_h b has (above_in h b has) low
 
     -- it leads to the nearest that is kept
     to_nearest : (b : ℕ) → IsGreatest (IsKept image h) was.start a b → next_of image x ≡ b
-    to_nearest = leads_nearest it h a p in_h was.start (kept_in h) (in_kept h)
+    to_nearest = leads_nearest it h a p in_h was.start begins (kept_in h) (in_kept h)
 
     to_first : HasNone (IsKept image h) was.start a → next_of image x < was.start
-    to_first = leads_first it h a p in_h was.start (kept_in h) (in_kept h) paper.opened.some_start
+    to_first = leads_first it h a p in_h was.start begins (kept_in h) (in_kept h) paper.opened.some_start
 
   -- ---- what the opening's scan tells, told of this image
   -- whether a record of a home is kept there can be told
@@ -222,7 +240,7 @@ module _ (home : ℕ → ℕ) (was image : scan.Log) (g : Log) (spells : SpellsA
         in_chain_y = (paper.loses a y from low stands_y valid).1 (losses_still a y from low stands_y ∙ not_lost)
 
         here_y : IsHere was.tail image g a
-        here_y = (of_chain it hy a in_chain_y (let l = paper.goes_on.longer in omega (arith, low, l))).0
+        here_y = (of_chain it hy a in_chain_y (above_in hy a in_chain_y) (let l = paper.goes_on.longer in omega (arith, low, l))).0
 
         y_is : y ≡ (let p = here_y in let s = p.shown in s.held)
         y_is = as_shown it a here_y y still_y
@@ -455,7 +473,7 @@ module _ (home : ℕ → ℕ) (was image : scan.Log) (g : Log) (spells : SpellsA
     version_n : (b : ℕ) → was.start ≤ b → IsIn b (g.chains hn) → b < a → (z : Record) → Stands image b z → version_of image z ≤ version_of image xn
     version_n b on has less z stands =
         let low = p.low in
-        let q = of_chain it hn b has (omega (arith, less, low)) in
+        let q = of_chain it hn b has (above_in hn b has) (omega (arith, less, low)) in
         let r : IsHere was.tail image g b = q.0 in
         let s = r.shown in
         let cell_is = ap version_at r.its in
@@ -517,7 +535,7 @@ module _ (home : ℕ → ℕ) (was image : scan.Log) (g : Log) (spells : SpellsA
             | inl nothing ↦ none ∙ sym nothing
             | inr some ↦ (let c = goes_chain hn q some there in let less = c.1 in let most = below_is a from_start p q c.0 (omega (arith, less, up, new)) in absurd (some (omega (arith, most, none))))
           ]
-          | inr has ↦ goes_same hn (next_of image xn) q (chain_goes hn (next_of image xn) has under (λ b its less. below_is a from_start p b its (omega (arith, less, up, new)))) there
+          | inr has ↦ goes_same hn (next_of image xn) q (chain_goes hn (next_of image xn) has.0 under (λ b its less. below_is a from_start p b its (omega (arith, less, up, new)))) there
         ]
 
     pub linked_n : IsScanLinked image a xn
@@ -531,7 +549,7 @@ module _ (home : ℕ → ℕ) (was image : scan.Log) (g : Log) (spells : SpellsA
   new_scanned : (a : ℕ) → was.tail ≤ a → a < image.tail → IsScanned image a
   new_scanned a new low = elim (paper.shows.decided a new low) [
     | inl published ↦
-        let p : IsHere was.tail image g a = here it a published.0 published.1 low in
+        let p : IsHere was.tail image g a = here it a published.0 published.1 (above a published.0 published.1) low in
         let s : ShowsCell was.tail image a published.0 = p.shown in
         let version = version_read a new p in
         let least = paper.recent.published a published.0 published.1 new in
@@ -602,7 +620,7 @@ module _ (home : ℕ → ℕ) (was image : scan.Log) (g : Log) (spells : SpellsA
       let its = paper.orderly.chains.in_chain h a has in
       let young : (let c = its.cell in c.version) ≤ image.version = subst (λ (n : ℕ). n ≤ image.version) (ap version_at its.its) old in
       let low = paper.cut.covered a its.cell its.its young in
-      let q = of_chain it h a has low in
+      let q = of_chain it h a has (above_in h a has) low in
       let s = (let r : IsHere was.tail image g a = q.0 in r.shown) in
       let at : record_home was.shape.bucket_bits s.held ≡ h = old_home a q.0 s.held s.stands ∙ q.1 in
       let valid : IsValid image h a s.held = record { stands = s.stands; valid = s.valid; same = its_bits spells paper.opened paper.goes_on s.held ∙ at } in
@@ -685,7 +703,7 @@ module _ (home : ℕ → ℕ) (was image : scan.Log) (g : Log) (spells : SpellsA
       let c = of_counts h a x counts in
       let its = paper.orderly.chains.in_chain h a c.0 in
       let low = paper.cut.covered a its.cell its.its (subst (λ (n : ℕ). n ≤ image.version) (ap version_at its.its) c.1) in
-      let s = paper.shows.published a its.cell its.its low in
+      let s = paper.shows.published a its.cell its.its (above a its.cell its.its) low in
       let is : x ≡ s.held = one it a x s.held counts.valid.stands s.stands in
       record { cell = its.cell; its = its.its; its_key = ap (λ (y : Record). y.key.0) is ∙ s.its_key; its_value = ap (λ (y : Record). value_of y.value) is ∙ s.its_value }
 
@@ -693,9 +711,10 @@ module _ (home : ℕ → ℕ) (was image : scan.Log) (g : Log) (spells : SpellsA
   old_counts_as_log = record {
     homes = paper.shows.homes;
     orderly = paper.orderly;
-    counts = counts_of;
-    stands = of_counts;
+    counts = λ h a has old begun. counts_of h a has old;
+    stands = λ h a x counts. (let c = of_counts h a x counts in (c.0, c.1, above_in h a c.0));
     tells = tells;
+    live = (above_live home image.begin g paper.orderly.chains paper.orderly.none above).1 image.version;
   }
 
   pub old_shows : ShowsUpto home image g

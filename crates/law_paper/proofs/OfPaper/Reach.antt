@@ -1,20 +1,18 @@
 -- What was reached as a store was opened is reached again by a scan that goes on from there.
-use Rattle.std.proofs.Common.{◌≡◌, ⊎_elim, ℕ, ◌<◌, ◌≤◌, Some, List, sym, ap, subst, ◌∙◌, arith}
+use Rattle.std.proofs.Common.{◌≡◌, ℕ, ◌<◌, ◌≤◌, Some, List, sym, ap, subst, ◌∙◌, arith}
 use Rattle.std.specs.Prelude.{slice_get}
-use Rattle.std.proofs.lemmas.Bool.{cases_lt}
 use Rattle.fkv_chains.specs.Reached.{Reached, in_scan, led_to, linked}
 use Rattle.fkv_record.specs.Begin.{from_or_none}
 use Rattle.fkv_record.specs.Layout.{record_bytes}
 use Rattle.fkv_record.specs.declared.records.Record.{Record}
 use Rattle.fkv_record.specs.declared.triples.Triple.{Triple}
-use Rattle.fkv_record.proofs.Shown.{from_some}
 use Rattle.fkv_scan.specs.Log as scan
 use Rattle.fkv_scan.specs.Log.{HasTriple, record_home}
 use Rattle.fkv_scan.specs.Records.{Stands, next_of, IsValid}
 use Rattle.fkv_scan.specs.Scan.{GoesOn, by_triple, by_none, by_record}
 use Rattle.fkv_words.specs.Fields.{SpellsApart}
 use Rattle.law_paper.specs.Paper.Old.{GoesOnFrom, WasSound}
-use Rattle.law_paper.proofs.Reached.{leads_down, reached_low}
+use Rattle.law_paper.proofs.Reached.{leads_down, reached_begun, reached_low}
 
 module _ {was : scan.Log} (spells : SpellsApart record_bytes) (sound : WasSound was) where
   pub one_was : (a : ℕ) (x y : Record) → Stands was a x → Stands was a y → x ≡ y
@@ -32,11 +30,7 @@ module _ {was : scan.Log} (spells : SpellsApart record_bytes) (sound : WasSound 
 
   -- and it doesn't lie below the begin
   pub was_some : (a : ℕ) → Reached was a → was.begin ≤ a
-  was_some a (in_scan _ x from within stands valid) = start_some a from
-  was_some a (led_to h _ t) = t.in_log
-  was_some b (linked a _ x reached stands is some) =
-      let up : was.begin ≤ next_of was x = from_some was.begin x.header.previous.0 (λ none. some (sym is ∙ none)) in
-      omega (arith, up, is)
+  was_some = reached_begun was sound.begins
 
   module _ {image : scan.Log} (goes_on : GoesOnFrom was image) where
     -- where a record leads

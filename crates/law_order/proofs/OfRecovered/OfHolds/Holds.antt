@@ -27,7 +27,7 @@ shows_cell_from least from image a cell up its = record {
 pub shows_from : (home : ℕ → ℕ) (least from : ℕ) (image : scan.Log) (g : Log) → least ≤ from → ShowsLog home least image g → ShowsLog home from image g
 shows_from home least from image g up its = record {
   homes = its.homes;
-  published = λ a cell at below. shows_cell_from least from image a cell up (its.published a cell at below);
+  published = λ a cell at begun below. shows_cell_from least from image a cell up (its.published a cell at begun below);
   decided = λ a high below. its.decided a (omega (arith, up, high)) below;
   dropped = λ a cell at high below. its.dropped a cell at (omega (arith, up, high)) below;
   none_lost = λ a x high stands. its.none_lost a x (omega (arith, up, high)) stands;

@@ -41,6 +41,7 @@ was_sound bytes o store =
       apart = its.apart;
       below = λ i x e. (let one = stored.each i x e in one.in_log);
       some_start = (let some = suits.log.some in omega (arith, some));
+      begins = suits.begin.before_scan;
       upwards = suits.log.upwards;
     }
 
