@@ -42,7 +42,7 @@ impl<D: Device + Drop> World<D> {
     }
 }
 
-/// A session for each seat: each has seen what the words say, and its point is its last serial.
+/// A session for each seat: each has seen what the words say, its point is its last serial, and its floor is the log's begin.
 #[tactic(auto, using(crate::proofs::Sitters::none_sit))]
 fn opening_sessions(alloc: Global, opened: &Opened) -> Result<Vec<Session>, Fault>
     ensures seats { IfOk result (λ sessions. length sessions.items ≡ opened.now.shape.sessions) }
@@ -52,7 +52,13 @@ fn opening_sessions(alloc: Global, opened: &Opened) -> Result<Vec<Session>, Faul
     let seen = seen_at_opening(opened);
     let mut sessions = Vec::new(alloc);
     for (number, point) in opened.points.iter().enumerate() {
-        sessions.push(Session::new(opened.shape, number, seen, *point))?;
+        sessions.push(Session::new(
+            opened.shape,
+            number,
+            seen,
+            *point,
+            opened.begin,
+        ))?;
     }
     Ok(sessions)
 }

@@ -1,4 +1,3 @@
-mod Begin
 mod ManifestApart
 mod ManifestBytes
 mod ManifestSections

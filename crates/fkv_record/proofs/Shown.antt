@@ -1,5 +1,5 @@
 -- What the crates above may cite of these proofs.
-pub use Rattle.fkv_record.proofs.Begin.{from_below, from_on, from_lower, from_some, from_first}
+pub use Rattle.fkv_begin.proofs.Shown.{from_below, from_on, from_lower, from_some, from_first}
 pub use Rattle.fkv_record.proofs.ManifestApart.{Tells, places_at, ranges_at, telling, told, spelled_tells, read_some, read_none}
 pub use Rattle.fkv_record.proofs.ManifestBytes.{bytes_read, layout_words, manifest_apart, newest_spelled, third_spelled}
 pub use Rattle.fkv_record.proofs.ManifestSections.{length-layout, third_format}

@@ -1,7 +1,6 @@
 //! What lies on the device: each value has one spelling in bytes, and bytes are no other value's.
 #![tactic(auto)]
 
-mod begins;
 mod formats;
 mod gates;
 mod image_places;
@@ -21,7 +20,7 @@ mod slots;
 mod triple_bytes;
 mod triples;
 
-pub use begins::from_or_none;
+pub use fkv_begin::from_or_none;
 pub use formats::Format;
 pub use gates::{OPEN, open_number};
 pub use image_places::{SHAPE_PLACE, SLOT_PLACES, area_place, most_triples, record_place};

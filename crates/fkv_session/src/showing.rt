@@ -7,7 +7,7 @@ ghost use Rattle.fkv_session.specs.Sessions.{is_busy, nothing_polled, only_of, r
 
 use crate::answers::Finished;
 use crate::sessions::{Session, Sitting};
-use fkv_base::{Fault, Serial, Shape, Value};
+use fkv_base::{Addr, Fault, Serial, Shape, Value};
 use fkv_map::{HistoryEntry, Op, Reply};
 use fkv_ops::{DiskRecord, Seen};
 use fkv_pending::{PendingRequest, Ticket};
@@ -73,6 +73,13 @@ impl Session {
         ensures { result.0 ≡ self.now.state.ticket }
     {
         Ticket(self.context.ticket)
+    }
+
+    /// The log begins there or above: to the next request an address below counts as 0.
+    pub fn floor(&self) -> Addr
+        ensures { result ≡ self.now.state.floor }
+    {
+        self.context.floor
     }
 
     /// How many requests wait.

@@ -29,6 +29,7 @@ use Rattle.fkv_straight.specs.Standing.{asked, leads}
 use Rattle.fkv_straight.proofs.Tests.{and_false}
 use Rattle.fkv_log.specs.Reserving.{limit_within}
 use Rattle.fkv_ops.specs.Bounds.{bounds_at, tail_bound}
+use Rattle.fkv_base.specs.declared.numbers.Addr.{Addr}
 
 -- the seat of a line is that of the course
 pub asks_at : (c : Course) (q : Seat) (s : SessionState) (ask : Ask Told) → c.seat ≡ q → asked c.seat s ≡ ask → asked q s ≡ ask
@@ -134,13 +135,14 @@ pub version_same : (v : ℕ) → ¬ (v ≡ 0) → v ≤ last_version → version
 version_same v some fits = omega (arith, some, fits)
 
 -- a call of the machine changes nothing that the next call goes by, if it leaves the view, the spare bucket and room for a request
-pub goes_on_by : (m n : Sitter) (s : SessionState) (g : Going) → n ≡ record m { state = s } → s.seen ≡ m.state.seen → s.is_awake ≡ m.state.is_awake → s.spare ≡ m.state.spare → is_full s.requests ≡ false → GoesBy m.seat m.state g
+pub goes_on_by : (m n : Sitter) (s : SessionState) (g : Going) → n ≡ record m { state = s } → s.seen ≡ m.state.seen → s.is_awake ≡ m.state.is_awake → s.spare ≡ m.state.spare → s.floor ≡ m.state.floor → is_full s.requests ≡ false → GoesBy m.seat m.state g
     → GoesBy n.seat n.state g
-goes_on_by m n s g e seen awake spare room by =
+goes_on_by m n s g e seen awake spare floor room by =
     subst (λ (x : Sitter). GoesBy x.seat x.state g) (sym e) record {
       places = by.places;
       bits = by.bits;
       head = ap (λ (x : Seen). x.offsets.head.0) seen ∙ by.head;
+      floor = ap (λ (x : Addr). x.0) floor ∙ by.floor;
       read_only = ap (λ (x : Seen). x.offsets.read_only.0) seen ∙ by.read_only;
       version = ap (λ (x : Seen). x.version.0) seen ∙ by.version;
       some_version = by.some_version;
@@ -156,7 +158,7 @@ goes_on_by m n s g e seen awake spare room by =
 
 -- the serial that the machine takes is none of what it goes by
 pub goes_by_still : (m n : Sitter) (g : Going) → n ≡ record m { state = record m.state { serial = m.state.serial + 1; step = Idle Slept } } → GoesBy m.seat m.state g → GoesBy n.seat n.state g
-goes_by_still m n g e by = goes_on_by m n (record m.state { serial = m.state.serial + 1; step = Idle Slept }) g e refl refl refl by.room by
+goes_by_still m n g e by = goes_on_by m n (record m.state { serial = m.state.serial + 1; step = Idle Slept }) g e refl refl refl refl by.room by
 
 pub less_of : (serial shown : ℕ) → shown ≡ serial → nat_lt shown last_serial ≡ true → serial < last_serial
 less_of serial shown e h = subst (λ (n : ℕ). n < last_serial) e (grind (arith, nat_tests, h))

@@ -69,8 +69,11 @@ home_in c = home_of (bits_of c.seat) (key_of c.op)
 abbrev pub head_in : Course → ℕ
 head_in c = c.lasts.seen.offsets.head.0
 
+abbrev pub floor_in : Course → ℕ
+floor_in c = c.lasts.floor.0
+
 abbrev pub request_in : Course → Request
-request_in c = request_of c.op c.lasts.seen.version
+request_in c = request_of c.op c.lasts.seen.version c.lasts.floor
 
 -- the operation as a request
 abbrev pub pending_in : Course → PendingRequest
@@ -102,6 +105,7 @@ pub record Goes (c : Course) (k : Seat) (op : Op) (g : Going) : Type 0 where
   pub its_places : c.seat.places ≡ g.places
   pub its_bits : bits_of c.seat ≡ g.bits
   pub its_head : head_in c ≡ g.head
+  pub its_floor : floor_in c ≡ g.floor
   pub its_read_only : c.lasts.seen.offsets.read_only.0 ≡ g.read_only
   pub its_version : (request_in c).version.0 ≡ g.version
   pub its_mark : mark (request_in c).version.0 ≡ g.mark
@@ -117,6 +121,7 @@ pub record GoesBy (k : Seat) (s : SessionState) (g : Going) : Type 0 where
   pub places : k.places ≡ g.places
   pub bits : bits_of k ≡ g.bits
   pub head : s.seen.offsets.head.0 ≡ g.head
+  pub floor : s.floor.0 ≡ g.floor
   pub read_only : s.seen.offsets.read_only.0 ≡ g.read_only
   pub version : s.seen.version.0 ≡ g.version
   pub some_version : ¬ (g.version ≡ 0)

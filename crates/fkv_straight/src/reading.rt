@@ -23,7 +23,7 @@ use fkv_map::{Call, Op};
 use fkv_ops::DiskRecord;
 use fkv_session::{Session, Told};
 
-/// What a read is told whose search has met this; or, if the chain leaves memory, where it goes on.
+/// What a read is told whose search has met this; or, if the chain leaves memory, where it goes on. Below the session's floor it has ended.
 #[inline(always)]
 pub(crate) fn tell<L: Line>(
     line: &mut L,
@@ -38,7 +38,7 @@ pub(crate) fn tell<L: Line>(
     ensures led { (start : L) (call : Call) → L.led start call line.old → L.led start call line.new }
     ensures ended { (c : Course) → Goes c (L.seat line.old) op going.now → (bounds : Option Bounds) → c.occasion ≡ occasion.Call bounds → HasMet c met (L.stands line.old)
         → IfOk result (λ its. IsEnded c.lasts its (L.stands line.new)) }
-    ensures left { (c : Course) → HasMet c met (L.stands line.old) → IfErr result (λ sought. IsSought c sought (L.stands line.new)) }
+    ensures left { (c : Course) → Goes c (L.seat line.old) op going.now → HasMet c met (L.stands line.old) → IfErr result (λ sought. IsSought c sought (L.stands line.new)) }
     ensures kept { IfErr result (λ sought. L.kept line.new ≤ 48) }
 {
     match met {
@@ -52,10 +52,16 @@ pub(crate) fn tell<L: Line>(
             }
         }
         Met::Nowhere(_) => Ok(Told::Absent),
-        Met::OnDisk(slot, addr) => Err(DiskRecord {
-            entry: slot.entry,
-            addr: Addr(addr),
-        }),
+        Met::OnDisk(slot, addr) => {
+            if addr < going.floor {
+                Ok(Told::Absent)
+            } else {
+                Err(DiskRecord {
+                    entry: slot.entry,
+                    addr: Addr(addr),
+                })
+            }
+        }
     }
 }
 

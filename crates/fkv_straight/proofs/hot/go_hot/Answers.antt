@@ -54,8 +54,9 @@ returns-in-Err-clause-left g c =
     let its = course_of k s c.args.op (call.Op c.args.op) in
     let u = g.L.Line.stands c.search-met.new.line in
     let v = g.L.Line.stands c.tell-told.new.line in
+    let goes : Goes its k c.args.op c.args.going.now = goes_alike c.args.machine.now.seat k c.args.machine.now.state s c.args.op c.args.going.now c.requires.may c.requires.seat c.requires.alike in
     let sought : IsSought its c.in-Err.sought v = err_of (λ (x : DiskRecord). IsSought its x v) c.tell-told.result c.in-Err.sought c.in-Err.is
-    (c.tell-told.ensures.left its (some_of (λ (m : Met). HasMet its m u) c.search-met.result c.in-Some.its c.in-Some.is c.search-met.ensures.met)) in
+    (c.tell-told.ensures.left its (goes_at its k c.args.op c.args.going.now (g.L.Line.seat c.search-met.new.line) goes c.search-met.ensures.seat) (some_of (λ (m : Met). HasMet its m u) c.search-met.result c.in-Some.its c.in-Some.is c.search-met.ensures.met)) in
     let reads : is_read c.args.op ≡ true = search rules in
     (refl, record { start = s; alike = c.requires.alike; due = (reads, sought); room = err_of (λ (x : DiskRecord). g.L.Line.kept c.tell-told.new.line ≤ 48) c.tell-told.result c.in-Err.sought c.in-Err.is c.tell-told.ensures.kept })
 

@@ -1,10 +1,10 @@
-use Rattle.std.proofs.Common.{ℕ, ◌+◌, refl, subst}
+use Rattle.std.proofs.Common.{ℕ, ◌+◌, ◌<◌, ◌≤◌, refl, subst, sym}
 use Rattle.fkv_plane.specs.declared.asks.Ask.TheVariants.{Load}
 use Rattle.fkv_plane.specs.declared.places.RecordWord.TheVariants as rec
 use Rattle.fkv_straight.specs.declared.searching.Met.{Met}
 use Rattle.fkv_straight.specs.Met.{HasMet}
 use Rattle.fkv_straight.proofs.Goings.{leads_on, reads_calm, record_asks, updates_in, value_at}
-use Rattle.fkv_straight.proofs.ReadEnds.{answer_asks, found_ends, absent_ends, nowhere_ends}
+use Rattle.fkv_straight.proofs.ReadEnds.{answer_asks, found_ends, absent_ends, below_ends, nowhere_ends}
 use Rattle.fkv_straight.proofs.reading.tell.Goals as goal
 
 pub load-value-requires-clause-asked : goal.load-value-requires-clause-asked
@@ -41,8 +41,17 @@ returns-in-Nowhere-clause-ended g c = λ its goes bounds calls at.
     let slot = c.in-Nowhere.field-0 in
     nowhere_ends its slot.place slot.entry u calls (subst (λ (m : Met). HasMet its m u) c.in-Nowhere.is at) (reads_calm its k c.args.op c.args.going.now goes c.requires.reads) (updates_in its k c.args.op c.args.going.now _ goes c.requires.reads)
 
-pub returns-in-OnDisk-clause-left : goal.returns-in-OnDisk-clause-left
-returns-in-OnDisk-clause-left g c = λ its at.
+pub returns-then-addr-clause-ended : goal.returns-then-addr-clause-ended
+returns-then-addr-clause-ended g c = λ its goes bounds calls at.
+    let k = g.L.Line.seat c.args.line.now in
+    let u = g.L.Line.stands c.args.line.now in
+    let slot = c.in-OnDisk.slot in
+    let met = subst (λ (m : Met). HasMet its m u) c.in-OnDisk.is at in
+    below_ends its slot.place slot.entry c.in-OnDisk.addr u calls met.0 met.1 (subst (λ (n : ℕ). c.in-OnDisk.addr < n) (sym goes.its_floor) c.if-addr.true) met.2
+    (reads_calm its k c.args.op c.args.going.now goes c.requires.reads) (updates_in its k c.args.op c.args.going.now _ goes c.requires.reads)
+
+pub returns-else-addr-clause-left : goal.returns-else-addr-clause-left
+returns-else-addr-clause-left g c = λ its goes at.
     let slot = c.in-OnDisk.slot in
     let met = subst (λ (m : Met). HasMet its m (g.L.Line.stands c.args.line.now)) c.in-OnDisk.is at in
-    (slot.place, met.0, met.1, met.2)
+    (slot.place, met.0, met.1, subst (λ (n : ℕ). n ≤ c.in-OnDisk.addr) (sym goes.its_floor) c.if-addr.false, met.2)

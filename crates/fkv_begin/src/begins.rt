@@ -1,6 +1,6 @@
 //! Where a log begins.
 ghost use Rattle.std.specs.Prelude.{◌≡◌, ◌≤◌};
-ghost use Rattle.fkv_record.specs.Begin.{from_or_none};
+ghost use Rattle.fkv_begin.specs.Begin.{from_or_none};
 
 use fkv_base::Addr;
 

@@ -1,7 +1,7 @@
--- Where an address leads in a log that begins later.
+-- What crates above may cite: where an address leads in a log that begins later.
 use Rattle.std.proofs.Common.{◌≡◌, ◌≢◌, ℕ, ◌<◌, ◌≤◌, arith}
 use Rattle.std.proofs.lemmas.Bool.Decides.{nat_tests}
-use Rattle.fkv_record.specs.Begin.{from_or_none}
+use Rattle.fkv_begin.specs.Begin.{from_or_none}
 
 -- nowhere from below the begin
 pub from_below : (begin a : ℕ) → a < begin → from_or_none begin a ≡ 0
