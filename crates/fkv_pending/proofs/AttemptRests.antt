@@ -31,7 +31,7 @@ use Rattle.fkv_pending.specs.declared.pending_requests.PendingRequest.{PendingRe
 use Rattle.fkv_pending.specs.Mailing.{mail_ask, mail_next, is_gone, begin_told}
 use Rattle.fkv_pending.specs.MailWorld.{is_at_end}
 use Rattle.fkv_pending.specs.Pending.{with_sought, with_held, with_latch, with_asked, without_gone}
-use Rattle.fkv_pending.specs.Attempting.{AttemptState, attempting_ask, attempt_ask, attempt_ended, waits_for_disk, puts_addr, puts, tries, is_poll, is_seeking_read, goes_on, attempt_begun, held_of, moved_on, read_on, record_taken, not_ready, look_ledto, held_kept, awaits_record, tried, try_ledto, put_ledto, mail_moved, try_moved, attempting_next, attempt_next, new_attempt, goes_anew, mail_taken}
+use Rattle.fkv_pending.specs.Attempting.{AttemptState, attempting_ask, attempt_ask, attempt_ended, waits_for_disk, puts_addr, puts, tries, is_poll, is_seeking_read, goes_on, attempt_begun, held_of, moved_on, read_on, record_taken, not_ready, look_ledto, held_kept, awaits_record, tried, try_ledto, put_ledto, mail_moved, try_moved, attempting_next, attempt_next, new_attempt, mail_taken}
 use Rattle.fkv_pending.proofs.MailAsks.{mail_done}
 
 abbrev pub is_attempt_end : Attempting → Bool

@@ -342,7 +342,7 @@ put_led first was session a past (mailing.LoadsState (Put addr)) reply at base n
       asked = λ e. cc;
       awaits = λ why. inr (inl refl);
       held = base.held;
-  floor = base.floor;
+      floor = base.floor;
     }
 put_led first was session a past mailing.LoadsHeader reply at base none put = absurd put
 put_led first was session a past (mailing.LoadsKey header) reply at base none put = absurd put

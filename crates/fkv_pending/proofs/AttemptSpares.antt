@@ -28,7 +28,7 @@ use Rattle.fkv_pending.specs.declared.mailing.Mailing.{Mailing}
 use Rattle.fkv_pending.specs.declared.mailing.Mailing.TheVariants as step
 use Rattle.fkv_pending.specs.Mailing.{mail_ask, mail_next, is_gone, begin_told}
 use Rattle.fkv_pending.specs.Pending.{with_sought, with_held, with_latch, with_asked, without_gone}
-use Rattle.fkv_pending.specs.Attempting.{AttemptState, attempting_ask, attempt_ended, waits_for_disk, puts_addr, puts, tries, is_seeking_read, goes_on, held_of, moved_on, read_on, record_taken, not_ready, look_ledto, held_kept, awaits_record, tried, try_ledto, put_ledto, mail_moved, try_moved, attempting_next, new_attempt, goes_anew, mail_taken}
+use Rattle.fkv_pending.specs.Attempting.{AttemptState, attempting_ask, attempt_ended, waits_for_disk, puts_addr, puts, tries, is_seeking_read, goes_on, held_of, moved_on, read_on, record_taken, not_ready, look_ledto, held_kept, awaits_record, tried, try_ledto, put_ledto, mail_moved, try_moved, attempting_next, new_attempt, mail_taken}
 use Rattle.fkv_pending.specs.Attempts.{AttemptPast, look_told, try_told, address_told, put_told, attempt_told, attempt_run, attempt_past, AttemptGiven, begun_by, run_by, past_by, trial_of, attempt_exchanges, IsSpareKept, SpareKept}
 use Rattle.fkv_pending.proofs.AttemptTries.{nothing, put_same, address_same}
 use Rattle.fkv_ops.specs.Requests.{is_chain_end}
