@@ -41,17 +41,17 @@ returns-in-Nowhere-clause-ended g c = λ its goes bounds calls at.
     let slot = c.in-Nowhere.field-0 in
     nowhere_ends its slot.place slot.entry u calls (subst (λ (m : Met). HasMet its m u) c.in-Nowhere.is at) (reads_calm its k c.args.op c.args.going.now goes c.requires.reads) (updates_in its k c.args.op c.args.going.now _ goes c.requires.reads)
 
-pub returns-then-addr-clause-ended : goal.returns-then-addr-clause-ended
-returns-then-addr-clause-ended g c = λ its goes bounds calls at.
+pub returns-then-addr-going-clause-ended : goal.returns-then-addr-going-clause-ended
+returns-then-addr-going-clause-ended g c = λ its goes bounds calls at.
     let k = g.L.Line.seat c.args.line.now in
     let u = g.L.Line.stands c.args.line.now in
     let slot = c.in-OnDisk.slot in
     let met = subst (λ (m : Met). HasMet its m u) c.in-OnDisk.is at in
-    below_ends its slot.place slot.entry c.in-OnDisk.addr u calls met.0 met.1 (subst (λ (n : ℕ). c.in-OnDisk.addr < n) (sym goes.its_floor) c.if-addr.true) met.2
+    below_ends its slot.place slot.entry c.in-OnDisk.addr u calls met.0 met.1 (subst (λ (n : ℕ). c.in-OnDisk.addr < n) (sym goes.its_floor) c.if-addr-going.true) met.2
     (reads_calm its k c.args.op c.args.going.now goes c.requires.reads) (updates_in its k c.args.op c.args.going.now _ goes c.requires.reads)
 
-pub returns-else-addr-clause-left : goal.returns-else-addr-clause-left
-returns-else-addr-clause-left g c = λ its goes at.
+pub returns-else-addr-going-clause-left : goal.returns-else-addr-going-clause-left
+returns-else-addr-going-clause-left g c = λ its goes at.
     let slot = c.in-OnDisk.slot in
     let met = subst (λ (m : Met). HasMet its m (g.L.Line.stands c.args.line.now)) c.in-OnDisk.is at in
-    (slot.place, met.0, met.1, subst (λ (n : ℕ). n ≤ c.in-OnDisk.addr) (sym goes.its_floor) c.if-addr.false, met.2)
+    (slot.place, met.0, met.1, subst (λ (n : ℕ). n ≤ c.in-OnDisk.addr) (sym goes.its_floor) c.if-addr-going.false, met.2)
