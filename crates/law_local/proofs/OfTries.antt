@@ -20,6 +20,7 @@ mod TryEnds
 pub mod TryGrows
 pub mod TrySteps
 mod TryWalks
+pub mod WalkBegins
 mod WalkKept
 pub mod WalkRows
 pub mod Words

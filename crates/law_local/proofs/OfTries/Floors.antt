@@ -2,19 +2,21 @@
 use Rattle.std.proofs.Common.{◌≡◌, ◌≢◌, ◌⊎◌, inl, inr, ⊎_elim, ℕ, zero, suc, ◌<◌, ◌≤◌, None, refl, sym, ap, subst, ◌∙◌, arith}
 use Rattle.std.proofs.lemmas.Bool.{cases_lt}
 use Rattle.fkv_map.specs.Map.{Map, absent_word}
+use Rattle.fkv_index.specs.Slots.{entry_addr}
+use Rattle.fkv_ops.specs.Walking.{WalkState}
 use Rattle.fkv_ops.specs.declared.requests.Request.{Request}
-use Rattle.fkv_record.specs.Begin.{from_or_none}
-use Rattle.fkv_record.proofs.Shown.{from_below, from_on}
+use Rattle.fkv_begin.specs.Begin.{from_or_none}
+use Rattle.fkv_begin.proofs.Shown.{from_below, from_on}
 use Rattle.law_log.specs.Begins.{IsWalkLive}
 use Rattle.law_log.specs.Chains.{Cell, Published, value_at, head_of, IsWithin}
-use Rattle.law_log.specs.Ghosts.{Log, first_from}
-use Rattle.law_log.specs.Enabled.{AreChains, IsFixed, IsLinked}
-use Rattle.law_log.proofs.Shown.{Held, Grows, absent_below, walk_along, walk_begins}
-use Rattle.law_local.specs.Tries.Floors.{HasFloor, ComesLive, FindsAbsent, LeadsByFloor, GoesOnByFloor}
+use Rattle.law_log.specs.Ghosts.{Log}
+use Rattle.law_log.specs.Enabled.{IsFixed}
+use Rattle.law_log.proofs.Shown.{Held, Grows, absent_below, first_from_none, head_within, walk_along, walk_begins}
+use Rattle.law_local.specs.Tries.Floors.{HasFloor, ComesLive, FindsAbsent, GoesOnByFloor}
+use Rattle.law_local.specs.Tries.WalkRows.{begin_of}
 use Rattle.law_local.specs.Tries.OnWay.{IsOnWay, ComesBelow, FindsNone, IsOrderly}
-use Rattle.law_local.specs.Tries.TryRows.{key_in, first_of, KnowsOld}
-use Rattle.law_local.proofs.OfTries.OnWay.{in_chain, goes_on, none_at_end, below_grows, fixed_grows, first_grows, value_grows, within_grows}
-use Rattle.law_local.proofs.OfTries.HeldSteps.{linked_low}
+use Rattle.law_local.specs.Tries.TryRows.{floor_in, key_in, first_of, KnowsOld, WalkIsLive}
+use Rattle.law_local.proofs.OfTries.OnWay.{in_chain, goes_on, linked_low, none_at_end, below_grows, fixed_grows, first_grows, value_grows, within_grows}
 use Rattle.law_local.proofs.OfTries.Lows.{first_low}
 use Rattle.law_local.proofs.OfTries.Made.{same_old}
 
@@ -88,12 +90,26 @@ module _ (home : ℕ → ℕ) (log : Log) (orderly : IsOrderly home log) where
     its_old = same_old request.op absent_word (value_at (log.cells (first_of home log request from))) (sym finds.absent);
   }
 
+  -- a walk that comes to the device does without the records below the floor, also where it has found no entry
+  pub walk_comes : (request : Request) (w : WalkState) (to low : ℕ) → WalkIsLive home log request w → ComesBelow home log (key_in request) (begin_of w) to low → ComesLive home log (floor_in request) (key_in request) (begin_of w) to low
+  walk_comes request w to low (inl none) comes = record { comes = comes; live = subst (IsWalkLive (floor_in request) home log (key_in request)) (sym (ap entry_addr none)) at_none }
+    where
+      at_none : IsWalkLive (floor_in request) home log (key_in request) 0
+      at_none = inr (ap (λ (a : ℕ). value_at (log.cells a)) (first_from_none home log (key_in request) orderly.chains) ∙ ap value_at orderly.none)
+  walk_comes request w to low (inr its) comes = record { comes = comes; live = its.1 }
+
 -- a walk begins so, at the head of its chain
 pub begins_live : (home : ℕ → ℕ) (log : Log) (floor key at : ℕ) → HasFloor home log floor → at ≡ head_of (log.chains (home key)) → IsWalkLive floor home log key at
 begins_live home log floor key at has is = subst (IsWalkLive floor home log key) (sym is) (walk_begins home floor floor log key (itself floor) has.live)
   where
     itself : (n : ℕ) → n ≤ n
     itself n = omega arith
+
+pub begins_at_head : (home : ℕ → ℕ) (log : Log) (request : Request) (w : WalkState) → HasFloor home log (floor_in request) → begin_of w ≡ head_of (log.chains (home (key_in request))) → WalkIsLive home log request w
+begins_at_head home log request w has is = inr (
+  subst (λ (a : ℕ). IsWithin a (log.chains (home (key_in request)))) (sym is) (head_within (log.chains (home (key_in request)))),
+  begins_live home log (floor_in request) (key_in request) (begin_of w) has is,
+)
 
 -- ---- as the log grows
 pub absent_grows : (home : ℕ → ℕ) (m : Map) (log log' : Log) (key from : ℕ) → Held home m log → Grows home m log log' → FindsAbsent home log key from → FindsAbsent home log' key from
@@ -108,3 +124,14 @@ comes_live_grows home m log log' floor key from to low held grows fixed comes = 
   comes = below_grows home m log log' key from to low held grows comes.comes;
   live = walk_along home m log log' held.chains held.none grows floor key from fixed comes.comes.way.begins comes.live;
 }
+
+pub walk_live_grows : (home : ℕ → ℕ) (m : Map) (log log' : Log) (request : Request) (w : WalkState) → Held home m log → Grows home m log log' → floor_in request ≤ log.fixed → WalkIsLive home log request w → WalkIsLive home log' request w
+walk_live_grows home m log log' request w held grows fixed (inl none) = inl none
+walk_live_grows home m log log' request w held grows fixed (inr its) = inr (
+  within_grows home m log log' (home (key_in request)) (begin_of w) grows its.0,
+  walk_along home m log log' held.chains held.none grows (floor_in request) (key_in request) (begin_of w) fixed its.0 its.1,
+)
+
+pub goes_on_grows : (home : ℕ → ℕ) (m : Map) (log log' : Log) (floor key from said low : ℕ) → Held home m log → Grows home m log log' → floor ≤ log.fixed → GoesOnByFloor home log floor key from said low → GoesOnByFloor home log' floor key from said low
+goes_on_grows home m log log' floor key from said low held grows fixed (inl ends) = inl (ends.0, absent_grows home m log log' key from held grows ends.1)
+goes_on_grows home m log log' floor key from said low held grows fixed (inr comes) = inr (comes_live_grows home m log log' floor key from said low held grows fixed comes)

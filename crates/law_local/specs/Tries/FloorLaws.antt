@@ -2,7 +2,7 @@
 use Rattle.std.specs.Prelude.{◌≡◌, ◌≢◌, ◌<◌, ◌≤◌, ℕ}
 use Rattle.fkv_map.specs.Map.{absent_word}
 use Rattle.fkv_ops.specs.declared.requests.Request.{Request}
-use Rattle.fkv_record.specs.Begin.{from_or_none}
+use Rattle.fkv_begin.specs.Begin.{from_or_none}
 use Rattle.law_log.specs.Begins.{IsWalkLive}
 use Rattle.law_log.specs.Chains.{Cell, Published, head_of}
 use Rattle.law_log.specs.Ghosts.{Log}

@@ -4,7 +4,7 @@ use Rattle.fkv_base.specs.declared.numbers.Addr.{Addr}
 use Rattle.fkv_base.specs.declared.numbers.Version.{Version}
 use Rattle.fkv_ops.specs.declared.header_words.HeaderSaid.TheVariants.{Says}
 use Rattle.fkv_ops.specs.HeaderWords.{header_said}
-use Rattle.fkv_record.specs.Begin.{from_or_none}
+use Rattle.fkv_begin.specs.Begin.{from_or_none}
 use Rattle.law_log.specs.Begins.{IsWalkLive, Live}
 use Rattle.law_log.specs.Chains.{value_at, IsWithin}
 use Rattle.law_log.specs.Ghosts.{Log, first_from}
