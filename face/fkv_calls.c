@@ -142,7 +142,9 @@ int32_t fkv_read(fkv_file *file, fkv_session *session, uint64_t key, uint64_t *v
         result = fkv_settle(file, session, NULL, NULL);
         if (result == 0) result = fkv_get(session, key, value);
     }
-    return result == FKV_PENDING ? await_read(file, session, key, value) : result;
+    if (result != FKV_PENDING) return result;
+    fkv_fetch_alone(file, session, key);
+    return await_read(file, session, key, value);
 }
 
 /* One of many: fkv_get_many and its results would take longer for it. Whether it had to wait. */

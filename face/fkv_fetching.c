@@ -43,6 +43,11 @@ static void fetch(fkv_file *file, fkv_session *session, const uint64_t *keys, si
     atomic_fetch_add_explicit(&file->fetched, asked, memory_order_relaxed);
 }
 
+void fkv_fetch_alone(fkv_file *file, fkv_session *session, uint64_t key) {
+    bool is_slow = atomic_load_explicit(&file->slow, memory_order_relaxed) > 0;
+    if (is_slow && atomic_load_explicit(&file->turning, memory_order_relaxed)) fetch(file, session, &key, 1);
+}
+
 size_t fkv_fetch_ahead(fkv_file *file, fkv_session *session, const uint64_t *keys, size_t count, size_t at, size_t fetched) {
     if (atomic_load_explicit(&file->slow, memory_order_relaxed) == 0 || fetched > at + AHEAD / 2 || fetched == count) return fetched;
     size_t from = fetched > at ? fetched : at;

@@ -100,7 +100,7 @@ struct fkv_file {
     atomic_bool is_behind;   /* the library's session hurries to keep what is about to leave memory. (without the lock) */
     atomic_ullong begun;     /* how many commits have begun since the opening */
     atomic_int why;          /* errno of a fault that is -FKV_DEVICE. It is written before `ends` */
-    /* These are written by who has the turn, and by sessions that read many. */
+    /* These are written by who has the turn, and by sessions that read. */
     atomic_uint slow;        /* so many reads more are asked for ahead: some of the last have waited for a disk */
     atomic_ullong fetched;   /* records that the system was asked for ahead of their reads */
     char apart_too[64];      /* what the keeper's thread writes often, away from what each tick reads */
@@ -256,6 +256,12 @@ void fkv_note_read(fkv_file *file, struct timespec begun);
  * are to be read, and those below `fetched` were asked for. Up to which key they are asked for then.
  */
 size_t fkv_fetch_ahead(fkv_file *file, fkv_session *session, const uint64_t *keys, size_t count, size_t at, size_t fetched);
+
+/*
+ * The same of one key that was just read and waits, if another thread has the turn: it reads for others before, and the disk would be idle for
+ * this one meanwhile. Without one the reader's own turn reads it at once.
+ */
+void fkv_fetch_alone(fkv_file *file, fkv_session *session, uint64_t key);
 
 /* ---- Of turns. The lock is held, but for the next two. -------------------------------------------------------------------------- */
 

@@ -296,7 +296,8 @@ int32_t fkv_remove(fkv_file *file, fkv_session *session, uint64_t key, fkv_updat
 int32_t fkv_merge_now(fkv_file *file, fkv_session *session, uint64_t key, uint32_t which, uint64_t number, fkv_update *result);
 
 /*
- * Reads a key, and waits if only the file has its record: FKV_FOUND (`*value`) or FKV_NONE.
+ * Reads a key, and waits if only the file has its record: FKV_FOUND (`*value`) or FKV_NONE. Where the system has to fetch records from a disk, and
+ * another thread reads one just now, it is asked for this one meanwhile (posix_fadvise).
  * The refusals are those of fkv_get but -FKV_PENDING_FULL, and those of fkv_settle. If waiting is refused, the read stays pending: nothing
  * takes a request back. It is one of the 64 until a poll or the next call that waits finishes it, and fkv_abandon leaves it to the keeper.
  */
@@ -425,7 +426,7 @@ typedef struct {
     uint64_t turns;         /* turns of the keeper */
     uint64_t helped;        /* of which so many were made by threads of sessions that waited */
     uint64_t cold_reads;    /* records that were read back from the file */
-    uint64_t fetched;       /* records that the system was asked for ahead of their reads, by fkv_read_many */
+    uint64_t fetched;       /* records that the system was asked for ahead of their reads, by fkv_read_many and fkv_read */
     uint64_t kept;          /* records that the library has kept in memory, each by an update of its own session */
     uint64_t file_bytes;    /* bytes of the file */
     uint64_t begin;         /* where the log begins: the address of its first record, which is 1. The next four are of fkv_offsets */

@@ -1,6 +1,6 @@
 /*
  * Reads of what only the file has: cold FOLDER. A store that is mapped reads them by the mapping, also where the file has grown, and where
- * the store was renewed. Of a slow disk, who reads many keys asks for them ahead.
+ * the store was renewed. Of a slow disk, who reads many keys asks for them ahead, and who finds another thread in a turn asks for his one.
  */
 #define _GNU_SOURCE
 #include "fkv_posix.h"
@@ -135,6 +135,17 @@ static void mapped(void) {
     close_store();
 }
 
+/* What memory has isn't asked for, however slow the disk is. */
+static void asks_for_nothing_late(void) {
+    uint64_t keys[LATE];
+    fkv_each_read told[LATE];
+    int before = asked_count;
+    for (uint64_t i = 0; i < LATE; i++) keys[i] = 2 * KEYS + ROUND - LATE + i;
+    WANTS("reads", fkv_read_many(file, session, keys, LATE, told, LATE), 0);
+    for (uint64_t i = 0; i < LATE; i++) WANTS("its value", told[i].value, ROUND - LATE + i);
+    WANTS("what was asked for of these", asked_count - before, 0);
+}
+
 /* Two reads have to wait for the disk. All later ones are of what was asked for. */
 static void ahead(void) {
     fkv_stats stats;
@@ -148,6 +159,7 @@ static void ahead(void) {
     WANTS("whether what memory has let go was asked for", asked_count >= KEYS - 2, true);
     WANTS("what was asked for", stats.fetched, asked_count);
     WANTS("whether two alone were read unasked", unasked <= 2, true);
+    asks_for_nothing_late();
     WANTS("where the log begins", stats.begin, 1);
     WANTS("where it ends", stats.tail, 1 + KEYS + ROUND);
     WANTS("whether records have left memory", stats.head > KEYS && stats.head <= stats.flushed, true);
@@ -175,6 +187,33 @@ static void ahead_by_two(void) {
     WANTS("whether each has asked", asked_count >= 3 * KEYS - 4, true);
     WANTS("what was asked for", stats.fetched, asked_count);
     WANTS("leaving", fkv_leave(file, other), 0);
+}
+
+static void *reads_each(void *its) {
+    for (uint64_t key = 0; key < KEYS; key++) {
+        uint64_t value = 0;
+        WANTS("a read", fkv_read(file, its, key, &value), FKV_FOUND);
+        WANTS("its value", value, key + 1);
+    }
+    return NULL;
+}
+
+/* Two threads read keys one by one. While one of them is in a turn, the other asks for its own. */
+static void alone_by_two(void) {
+    fkv_session *other;
+    fkv_stats stats;
+    pthread_t thread;
+    int before = asked_count;
+    WANTS("joining", fkv_join(file, 1, &other), 0);
+    is_slow = true;
+    WANTS("starting a thread", pthread_create(&thread, NULL, reads_each, other), 0);
+    reads_each(session);
+    pthread_join(thread, NULL);
+    is_slow = false;
+    WANTS("how it fares", fkv_stats_of(file, &stats), 0);
+    WANTS("whether one has asked beside the other's turn", asked_count > before, true);
+    WANTS("what was asked for", stats.fetched, asked_count);
+    WANTS("leaving", fkv_leave(file, other), 0);
     close_store();
 }
 
@@ -185,5 +224,6 @@ int main(int count, char **words) {
     mapped();
     ahead();
     ahead_by_two();
+    alone_by_two();
     return 0;
 }

@@ -1,6 +1,7 @@
 /*
  * Reads beside the syncs of commits: serving FOLDER. While a sync is under way that a commit rests before, records are read of the file for who waits.
- * If such a sync fails, that is told with its errno, it isn't made again, and the commit isn't finished.
+ * If such a read fails, all are told with its errno: who reads, who waits for the commit, and who asks later. If such a sync fails, that is told with
+ * its errno, it isn't made again, and the commit isn't finished.
  */
 #define _GNU_SOURCE
 #include "fkv_posix.h"
@@ -14,13 +15,13 @@
 #include <time.h>
 #include <unistd.h>
 
-enum { KEYS = 1200, SYNC_NS = 20000000, SERVED = 50, MOST_READS = 1000000, MOST_SYNCS = 16, MOST_SECONDS = 120, PATH_ROOM = 500 };
+enum { KEYS = 1200, SYNC_NS = 20000000, SERVED = 50, COMMITS = 6, MOST_READS = 1000000, MOST_SYNCS = 16, MOST_SECONDS = 120, PATH_ROOM = 500 };
 
 /* Small pages and little memory, so that most records lie in the file alone. */
 static const fkv_shape SHAPE = {10, 16, 8, 4, 2, 64, 16384};
 static fkv_file *file;
-static atomic_bool syncs_are_slow;
-static atomic_int syncing, served, syncs_left = -1, failed;
+static atomic_bool syncs_are_slow, reads_fail;
+static atomic_int syncing, served, syncs_left = -1, failed, failed_reads;
 
 /* The library's syncs come here, before those of the C library: they take long, or fail from some of them on. */
 int fdatasync(int fd) {
@@ -37,10 +38,14 @@ int fdatasync(int fd) {
     return result;
 }
 
-/* So do its reads of the file. */
+/* So do its reads of the file. Those beside a sync may fail: turns that only serve make them. */
 ssize_t pread(int fd, void *into, size_t length, off_t place) {
-    if (atomic_load(&syncing)) atomic_fetch_add(&served, 1);
-    return (ssize_t)syscall(SYS_pread64, fd, into, length, place);
+    bool is_served = atomic_load(&syncing) > 0;
+    if (is_served) atomic_fetch_add(&served, 1);
+    if (!is_served || !atomic_load(&reads_fail)) return (ssize_t)syscall(SYS_pread64, fd, into, length, place);
+    atomic_fetch_add(&failed_reads, 1);
+    errno = EIO;
+    return -1;
 }
 
 static uint64_t random_state = 1;
@@ -80,23 +85,79 @@ static void wants_value(fkv_session *session, uint64_t key) {
     WANTS("its value", value, key + 1);
 }
 
-/* Commits follow one another, with slow syncs. */
+/* Commits follow one another, with slow syncs. Their writes are made in turns of the keeper's thread, which counts the entries that they copy. */
 static void serve_beside_syncs(const char *path) {
-    fkv_stats stats;
+    fkv_stats first, stats;
     open_and_start(path, 1);
     fkv_session *session = joined();
+    WANTS("how it fares", fkv_stats_of(file, &first), 0);
+    stats = first;
     atomic_store(&syncs_are_slow, true);
     atomic_store(&served, 0);
-    for (int reads = 0; atomic_load(&served) < SERVED; reads++) {
+    for (int reads = 0; atomic_load(&served) < SERVED || stats.commits < first.commits + COMMITS; reads++) {
         WANTS("whether reads are served beside syncs", reads < MOST_READS, true);
         wants_value(session, drawn() % KEYS);
         WANTS("a tick", fkv_tick(file, session), 0);
+        WANTS("how it fares", fkv_stats_of(file, &stats), 0);
+        WANTS("the entries that a full commit has copied", stats.entries, first.entries);
     }
     atomic_store(&syncs_are_slow, false);
-    WANTS("how it fares", fkv_stats_of(file, &stats), 0);
     WANTS("whether threads helped", stats.helped > 0, true);
     WANTS("leaving", fkv_leave(file, session), 0);
     WANTS("closing", fkv_close_file(file), 0);
+}
+
+/* Asks for commits, one after the other, until one is refused. */
+static void *commit_on(void *none) {
+    int32_t result = 0;
+    while (result == 0) {
+        errno = 0;
+        result = fkv_commit_and_wait(file, NULL);
+    }
+    int why = errno;
+    WANTS("what who waits for the commit is told", result, -FKV_DEVICE);
+    WANTS("why", why, EIO);
+    return none;
+}
+
+/* Reads until that is refused, which is told with its errno. */
+static void read_on(fkv_session *session) {
+    for (int reads = 0;; reads++) {
+        uint64_t value = 0;
+        WANTS("whether a read beside a sync fails in time", reads < MOST_READS, true);
+        errno = 0;
+        int32_t result = fkv_read(file, session, drawn() % KEYS, &value);
+        int why = errno;
+        if (result != FKV_FOUND) {
+            WANTS("the read that fails", result, -FKV_DEVICE);
+            WANTS("why", why, EIO);
+            return;
+        }
+        WANTS("a tick", fkv_tick(file, session), 0);
+    }
+}
+
+/* A read that fails in a turn that only serves. */
+static void tell_a_failed_read(const char *path) {
+    pthread_t other;
+    open_and_start(path, 0);
+    fkv_session *session = joined();
+    atomic_store(&syncs_are_slow, true);
+    atomic_store(&reads_fail, true);
+    WANTS("a thread", pthread_create(&other, NULL, commit_on, NULL), 0);
+    read_on(session);
+    pthread_join(other, NULL);
+    atomic_store(&syncs_are_slow, false);
+    atomic_store(&reads_fail, false);
+    WANTS("how many reads have failed", atomic_load(&failed_reads), 1);
+    errno = 0;
+    WANTS("a tick", fkv_tick(file, session), -FKV_DEVICE);
+    WANTS("why", errno, EIO);
+    errno = 0;
+    WANTS("the keeper's fault", fkv_keeper_fault(file), -FKV_DEVICE);
+    WANTS("why", errno, EIO);
+    fkv_abandon(file, session);
+    WANTS("dropping", fkv_drop_file(file), 0);
 }
 
 /* A commit of which this sync fails, and each one behind it would. True where it has as many syncs. */
@@ -143,6 +204,7 @@ int main(int count, char **words) {
     snprintf(path, sizeof path, "%s/serving", words[1]);
     load(path);
     serve_beside_syncs(path);
+    tell_a_failed_read(path);
     tell_failures(path);
     return 0;
 }

@@ -3,7 +3,7 @@
 //     driver peers                                        names the peers that were built in
 //     driver measure FOLDER NAME=VALUE..                  plays all cells; the names are those of Settings
 //     driver fill PEER KEYS UPDATES FOLDER COMMITS        leaves a store as a crash does: no close, a last commit finished
-//     driver recover PEER KEYS FOLDER                     times the opening of such a store, up to the first value, and the gets after it
+//     driver recover PEER KEYS FOLDER usual|cold          times the opening of such a store, up to the first value, and the gets after it
 #include <algorithm>
 #include <array>
 #include <cstdio>
@@ -241,9 +241,9 @@ void fill(const Kind &kind, uint64_t keys, uint64_t calls, const std::string &fo
     std::_Exit(0);
 }
 
-void recover(const Kind &kind, uint64_t keys, const std::string &folder) {
+void recover(const Kind &kind, uint64_t keys, const std::string &folder, bool cold) {
     const double begun = seconds_of(CLOCK_MONOTONIC), before = seconds_of(CLOCK_PROCESS_CPUTIME_ID);
-    std::unique_ptr<Peer> peer = kind.open({keys, 1, folder}, false);
+    std::unique_ptr<Peer> peer = kind.open({keys, 1, folder, cold}, false);
     peer->first();
     const double opened = seconds_of(CLOCK_MONOTONIC), processor = seconds_of(CLOCK_PROCESS_CPUTIME_ID) - before;
     const uint64_t read = std::min(keys, least_checked), sum = peer->sum(read);
@@ -255,7 +255,7 @@ void recover(const Kind &kind, uint64_t keys, const std::string &folder) {
 int start(const Words &words) {
     std::sort(kinds().begin(), kinds().end(), [](const Kind &a, const Kind &b) { return a.rank < b.rank; });
     if (words.size() == 1 && words[0] == "peers") {
-        for (const Kind &kind : kinds()) std::cout << kind.name << (kind.durable ? "\tdurable" : "\t") << (kind.two_commits ? "\tlog,full" : "\tlog") << "\n";
+        for (const Kind &kind : kinds()) std::cout << kind.name << (kind.durable ? "\tdurable" : "\t") << (kind.two_commits ? "\tlog,full" : "\tlog") << (kind.opens_cold ? ",cold" : "") << "\n";
         return 0;
     }
     if (words.size() >= 2 && words[0] == "measure") {
@@ -263,11 +263,11 @@ int start(const Words &words) {
         return 0;
     }
     if (words.size() == 6 && words[0] == "fill") fill(kind_of(words[1]), std::stoull(words[2]), std::stoull(words[3]), words[4], words[5] == "full");
-    if (words.size() == 4 && words[0] == "recover") {
-        recover(kind_of(words[1]), std::stoull(words[2]), words[3]);
+    if (words.size() == 5 && words[0] == "recover") {
+        recover(kind_of(words[1]), std::stoull(words[2]), words[3], words[4] == "cold");
         return 0;
     }
-    std::cerr << "usage: driver peers | measure FOLDER NAME=VALUE.. | fill PEER KEYS UPDATES FOLDER COMMITS | recover PEER KEYS FOLDER" << std::endl;
+    std::cerr << "usage: driver peers | measure FOLDER NAME=VALUE.. | fill PEER KEYS UPDATES FOLDER COMMITS | recover PEER KEYS FOLDER usual|cold" << std::endl;
     return 2;
 }
 

@@ -237,13 +237,13 @@ def written(figures, n):
 
 
 def recovered(figures, spelled):
-    columns = [(OWN, "log"), (OWN, "full"), *((it, "log") for it in figures.durable)]
+    columns = [(OWN, "log"), (OWN, "full"), (OWN, "cold"), *((it, "log") for it in figures.durable)]
     rows = []
     for keys in figures.sizes:
         found = [[spelled(it) for it in figures.recovered if (it["recovered"], it["commits"], it["keys"]) == (peer, commits, keys)] for peer, commits in columns]
         if any(found):
             rows.append([thousands(keys)] + [it[0] if it else "-" for it in found])
-    return table(["keys", "fkv, log commits", "fkv, full commits", *figures.durable], rows)
+    return table(["keys", "fkv, log commits", "fkv, full commits", "fkv, opened cold", *figures.durable], rows)
 
 
 def opening_told(it):
@@ -367,7 +367,7 @@ A store is loaded, {thousands(figures.told["calls"])} adds follow with four comm
 
 {recovered(figures, opening_told)}
 
-How long a get takes right after that, one after another. fkv has no record in memory then, and reads each from the file.
+How long a get takes right after that, one after another. fkv's memory has the newest records then, here all. A store that is opened cold (`FKV_COLD`) has none in memory, and reads each from the file.
 
 {recovered(figures, lambda it: time_told(1e9 * it["each"]))}
 """

@@ -16,6 +16,7 @@ struct Room {
     uint64_t keys;
     unsigned sessions;
     std::string folder;
+    bool cold = false;  // memory begins without a record, where the peer has the choice
 };
 
 // What the threads of a cell share. Calls begin when it opens, and count from `warm` to `stop`.
@@ -66,6 +67,7 @@ struct Kind {
     const char *name;
     bool durable;      // it has commits
     bool two_commits;  // log commits and full ones
+    bool opens_cold;   // it can open a store with no record in memory
     std::unique_ptr<Peer> (*open)(const Room &, bool fresh);
 };
 

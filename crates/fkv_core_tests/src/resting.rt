@@ -96,12 +96,16 @@ fn crashes_leave_a_commit(
     begins: Line,
     last: u64,
 ) -> Result<(), Fault> {
-    for turns in 0..last + 1 {
+    for turns in 0..last {
         for torn in TORN {
             let value = recovered(alloc, is_living, begins, turns, torn)?;
-            let is_new = turns == last || (is_living && turns + 1 == last && torn == 165);
+            let is_new = is_living && turns + 1 == last && torn == 165;
             hold!(rt; value == Some(if is_new { 11 } else { 10 }));
         }
+    }
+    for torn in TORN {
+        let value = recovered(alloc, is_living, begins, last, torn)?;
+        hold!(rt; value == Some(11));
     }
     Ok(())
 }
@@ -110,7 +114,7 @@ fn crashes_leave_a_commit(
 fn rests(rt: &impl Abort, alloc: Global, begins: Line, more: u64) -> Result<(), Fault> {
     let specified = turns_of(alloc, false, begins)?;
     let living = turns_of(alloc, true, begins)?;
-    hold!(rt; living == specified + more);
+    hold!(rt; living.checked_sub(specified) == Some(more));
     crashes_leave_a_commit(rt, alloc, false, begins, specified)?;
     crashes_leave_a_commit(rt, alloc, true, begins, living)
 }

@@ -30,7 +30,7 @@ pub struct Stats {
     pub helped: u64,
     /// Records that were read back from the file.
     pub cold_reads: u64,
-    /// Records that the system was asked for ahead of their reads, by [`Session::read_many`](crate::Session::read_many).
+    /// Records that the system was asked for ahead of their reads, by [`Session::read_many`](crate::Session::read_many) and by single reads.
     pub fetched: u64,
     /// Records that the library has kept in memory, each by an update of its own session.
     pub kept: u64,

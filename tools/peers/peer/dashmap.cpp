@@ -40,7 +40,7 @@ struct Dash {
 using PlainMap = Dash<PlainDash, plain_dash_new, plain_dash_get, plain_dash_upsert, plain_dash_add, plain_dash_free>;
 using FastMap = Dash<FastDash, fast_dash_new, fast_dash_get, fast_dash_upsert, fast_dash_add, fast_dash_free>;
 
-const peers::Registered plain({40, "dashmap", false, false, peers::opened<PlainMap>});
-const peers::Registered fast({41, "dashmap (512 shards)", false, false, peers::opened<FastMap>});
+const peers::Registered plain({40, "dashmap", false, false, false, peers::opened<PlainMap>});
+const peers::Registered fast({41, "dashmap (512 shards)", false, false, false, peers::opened<FastMap>});
 
 }  // namespace

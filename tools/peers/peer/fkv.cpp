@@ -139,7 +139,9 @@ struct Fkv {
         const std::string path = room.folder + "/store.fkv";
         shape = shape_for(room);
         if (fresh) must(fkv_make_file(path.c_str(), &shape), "make");
-        must(fkv_open_file(path.c_str(), nullptr, &file), "open");
+        fkv_how how{};
+        if (room.cold) how.warm = FKV_COLD;
+        must(fkv_open_file(path.c_str(), &how, &file), "open");
         keep(false);
     }
 
@@ -187,6 +189,6 @@ struct Fkv {
     bool runs = false, is_full = false;  // the keeper's thread, and whether it makes full commits
 };
 
-const peers::Registered here({10, "fkv", true, true, peers::opened<Fkv>});
+const peers::Registered here({10, "fkv", true, true, true, peers::opened<Fkv>});
 
 }  // namespace

@@ -65,6 +65,6 @@ struct Level {
     peers::Stripes stripes;
 };
 
-const peers::Registered here({53, "LevelDB", true, false, peers::opened<Level>});
+const peers::Registered here({53, "LevelDB", true, false, false, peers::opened<Level>});
 
 }  // namespace

@@ -25,6 +25,6 @@ struct Cuckoo {
     Map map;
 };
 
-const peers::Registered here({30, "libcuckoo", false, false, peers::opened<Cuckoo>});
+const peers::Registered here({30, "libcuckoo", false, false, false, peers::opened<Cuckoo>});
 
 }  // namespace

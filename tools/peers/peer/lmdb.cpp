@@ -129,7 +129,7 @@ struct One {
     std::mutex lock;
 };
 
-const peers::Registered one({50, "LMDB", true, false, peers::opened<One>});
-const peers::Registered many({51, "LMDB (by call)", true, false, peers::opened<Many>});
+const peers::Registered one({50, "LMDB", true, false, false, peers::opened<One>});
+const peers::Registered many({51, "LMDB (by call)", true, false, false, peers::opened<Many>});
 
 }  // namespace

@@ -57,6 +57,6 @@ struct Rocks {
     peers::Stripes stripes;
 };
 
-const peers::Registered here({52, "RocksDB", true, false, peers::opened<Rocks>});
+const peers::Registered here({52, "RocksDB", true, false, false, peers::opened<Rocks>});
 
 }  // namespace

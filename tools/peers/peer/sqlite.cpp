@@ -86,6 +86,6 @@ struct Sqlite {
     sqlite3_stmt *select, *replace, *increase;
 };
 
-const peers::Registered here({54, "SQLite", true, false, peers::opened<Sqlite>});
+const peers::Registered here({54, "SQLite", true, false, false, peers::opened<Sqlite>});
 
 }  // namespace

@@ -36,6 +36,6 @@ struct Tbb {
     Map map;
 };
 
-const peers::Registered here({31, "TBB concurrent_hash_map", false, false, peers::opened<Tbb>});
+const peers::Registered here({31, "TBB concurrent_hash_map", false, false, false, peers::opened<Tbb>});
 
 }  // namespace

@@ -57,7 +57,7 @@ struct Sharded {
     std::unique_ptr<Shard[]> all;
 };
 
-const peers::Registered one({20, "unordered_map + mutex", false, false, peers::opened<Sharded<0>>});
-const peers::Registered many({21, "unordered_map in 64 shards", false, false, peers::opened<Sharded<6>>});
+const peers::Registered one({20, "unordered_map + mutex", false, false, false, peers::opened<Sharded<0>>});
+const peers::Registered many({21, "unordered_map in 64 shards", false, false, false, peers::opened<Sharded<6>>});
 
 }  // namespace
