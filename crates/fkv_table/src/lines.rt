@@ -3,7 +3,7 @@ ghost use Rattle.std.specs.Prelude.{◌≡◌, ◌+◌, ◌<◌, ◌≤◌, ◌+
 ghost use Rattle.fkv_session.specs.Sessions.{is_busy};
 ghost use Rattle.fkv_table.specs.Said as said;
 
-use crate::guessing::TailGuess;
+use crate::aside::{Aside, Room};
 use crate::happenings::law_start_stands;
 use crate::performing::{perform, perform_first};
 use crate::plays::{Next, Raises, Turn};
@@ -27,10 +27,9 @@ pub(crate) struct SeatLine<'t, D: Device> {
     desk: usize,
     /// The session's number.
     number: usize,
-    /// The replies of the call in hand, so many of them, and what was there before. An array of the call's own would have to be cleared first.
-    replies: &'t mut Room,
+    /// Where the replies of the call in hand are, so many of them, and what was there before.
+    aside: &'t mut Aside,
     kept: usize,
-    tail: &'t mut TailGuess,
     /// The machine, as the line began.
     machine: Snapshot<StraightSession>,
 }
@@ -39,13 +38,9 @@ pub(crate) struct SeatLine<'t, D: Device> {
 #[derive(Drop)]
 pub(crate) struct Parts<'t, D: Device> {
     pub(crate) seat: Place<D>,
-    pub(crate) replies: &'t mut Room,
-    pub(crate) tail: &'t mut TailGuess,
+    pub(crate) aside: &'t mut Aside,
     pub(crate) kept: usize,
 }
-
-/// Room for the replies of a call.
-pub(crate) type Room = [u64; 64];
 
 /// Puts a reply behind those that are kept.
 #[inline]
@@ -83,11 +78,11 @@ impl<'t, D: Device> Model for SeatLine<'t, D> {
 
     ghost Value = { said.LineModel (said.Snapshot (said.WorldModel D)) };
 
-    ghost view = { λ l. said.line_of l.words.now.key l.words.now.table_id l.seat.me l.machine.value l.desk (take l.kept l.replies.now) };
+    ghost view = { λ l. said.line_of l.words.now.key l.words.now.table_id l.seat.me l.machine.value l.desk (take l.kept l.aside.now.replies) };
 
     ghost invariant = { λ l. (l.seat.table_id ≡ l.words.now.table_id) × (l.number ≡ l.machine.value.seat.number) × (l.kept ≤ 64)
-        × (length l.replies.now ≡ 64) × said.IsAlong (said.opening_of D.seen)
-        (said.line_of l.words.now.key l.words.now.table_id l.seat.me l.machine.value l.desk (take l.kept l.replies.now)) };
+        × (length l.aside.now.replies ≡ 64) × said.IsAlong (said.opening_of D.seen)
+        (said.line_of l.words.now.key l.words.now.table_id l.seat.me l.machine.value l.desk (take l.kept l.aside.now.replies)) };
 }
 
 impl<'t, D: Device> SeatLine<'t, D> {
@@ -98,8 +93,7 @@ impl<'t, D: Device> SeatLine<'t, D> {
         seat: Place<D>,
         machine: &StraightSession,
         desk: usize,
-        replies: &'t mut Room,
-        tail: &'t mut TailGuess,
+        aside: &'t mut Aside,
     ) -> SeatLine<'t, D>
         requires ready { said.IsReady (said.opening_of D.seen) words.now.key words.now.table_id seat.table_id seat.me machine.now desk }
         ensures value { result ≡ record { key = words.now.key; table = words.now.table_id; me = seat.me; machine = machine.now; desk = desk; replies = [] } }
@@ -111,9 +105,8 @@ impl<'t, D: Device> SeatLine<'t, D> {
             seat,
             desk,
             number: own,
-            replies,
+            aside,
             kept: 0,
-            tail,
             machine: from,
         }
     }
@@ -125,15 +118,14 @@ impl<'t, D: Device> SeatLine<'t, D> {
         seat: Place<D>,
         machine: &StraightSession,
         desk: usize,
-        replies: &'t mut Room,
-        tail: &'t mut TailGuess,
+        aside: &'t mut Aside,
         kept: usize,
     ) -> SeatLine<'t, D>
         requires table { seat.table_id ≡ words.now.table_id }
-        requires room { (kept ≤ 64) × (length replies.old ≡ 64) }
+        requires room { (kept ≤ 64) × (length aside.old.replies ≡ 64) }
         requires along { said.IsAlong (said.opening_of D.seen) (said.line_of words.now.key words.now.table_id seat.me machine.now desk (take kept
-            replies.old)) }
-        ensures value { result ≡ said.line_of words.now.key words.now.table_id seat.me machine.now desk (take kept replies.old) }
+            aside.old.replies)) }
+        ensures value { result ≡ said.line_of words.now.key words.now.table_id seat.me machine.now desk (take kept aside.old.replies) }
     {
         let own = machine.number();
         let from = Snapshot::of(machine);
@@ -142,9 +134,8 @@ impl<'t, D: Device> SeatLine<'t, D> {
             seat,
             desk,
             number: own,
-            replies,
+            aside,
             kept,
-            tail,
             machine: from,
         }
     }
@@ -154,23 +145,17 @@ impl<'t, D: Device> SeatLine<'t, D> {
     pub(crate) fn into_parts(self) -> Parts<'t, D>
         ensures table { result.seat.table_id ≡ self.entry.table }
         ensures me { result.seat.me ≡ self.entry.me }
-        ensures room { (result.kept ≤ 64) × (length result.replies.now ≡ 64) }
-        ensures replies { take result.kept result.replies.now ≡ self.entry.replies }
+        ensures room { (result.kept ≤ 64) × (length result.aside.now.replies ≡ 64) }
+        ensures replies { take result.kept result.aside.now.replies ≡ self.entry.replies }
         ensures along { said.IsAlong (said.opening_of D.seen) self.entry }
     {
         let SeatLine {
             seat,
-            replies,
-            tail,
+            aside,
             kept,
             ..
         } = self;
-        Parts {
-            seat,
-            replies,
-            tail,
-            kept,
-        }
+        Parts { seat, aside, kept }
     }
 
     /// The seat, with what is known of it.
@@ -198,7 +183,7 @@ impl<'t, D: Device> SeatLine<'t, D> {
     {
         law_start_stands(call);
         let reply = perform_first::<D, Brand>(self.words, &mut self.seat, ask, self.number, call);
-        keep(self.replies, 0, reply);
+        keep(&mut self.aside.replies, 0, reply);
         self.kept = 1;
         reply
     }
@@ -216,7 +201,7 @@ impl<'t, D: Device> SeatLine<'t, D> {
         ensures machine { self.new.machine ≡ self.old.machine }
     {
         let reply = perform::<D, Turn<Next>, Told>(self.words, &mut self.seat, ask);
-        keep(self.replies, self.kept, reply);
+        keep(&mut self.aside.replies, self.kept, reply);
         self.kept += 1;
         reply
     }
@@ -276,20 +261,20 @@ impl<'t, D: Device> Line for SeatLine<'t, D> {
             .words
             .compare_exchange::<Raises>(&mut self.seat, position(place), expected, expected + 1);
         if found == expected {
-            keep_twice(self.replies, self.kept, expected);
+            keep_twice(&mut self.aside.replies, self.kept, expected);
             self.kept += 2;
-            self.tail.add(expected);
+            self.aside.tail.add(expected);
         }
         found
     }
 
     #[inline(always)]
     fn guess(&self) -> u64 {
-        self.tail.next()
+        self.aside.tail.next()
     }
 
     #[inline(always)]
     fn replies(&self) -> &[u64] {
-        kept_in(self.replies, self.kept)
+        kept_in(&self.aside.replies, self.kept)
     }
 }
