@@ -62,7 +62,7 @@ struct warmer {
     bool has_more;           /* there is something to do, from `rests_until` on */
     bool is_crowded;         /* memory has no room for the newest record of each home */
     unsigned turn;           /* the session whose keys come next */
-    uint64_t next;           /* the record that it looks at next */
+    uint64_t next;           /* the record that it looks at next. It stays over a stop of the thread */
     uint64_t begun;          /* where the log ended as the thread began */
     uint64_t serial;         /* of the session's last update */
     uint64_t since;          /* from that record on so many were looked at, and so many of these were the newest of their homes */

@@ -243,7 +243,8 @@ void fkv_begin_warming(fkv_file *file) {
     its->has_more = false;
     if (its->is_on && fkv_hint_offsets(own(file), &at) < 0) its->is_on = false;
     its->begun = at.tail;
-    its->next = its->since = at.head;
+    /* What it has looked at before a stop it doesn't look at again: a record that isn't its home's newest never becomes it. */
+    its->next = its->since = most(its->next, at.head);
     its->looked = its->newest = 0;
     its->is_crowded = file->entries > ring_of(&file->shape) / 4 * 3;
     atomic_store(&file->warmed, UINT64_MAX);
