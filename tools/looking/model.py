@@ -34,9 +34,10 @@ def slot_line(image, index):
     if not fits:
         return unspelled
     kind = "full" if slot.checkpoint == slot.number else "log"
+    begin = f" begin {slot.begin}" * (slot.begin != 1)
     return (
         f"slot {index} commit {slot.number} {kind} format {form} end {slot.tail} checkpoint {slot.checkpoint} from {slot.start} "
-        f"triples {slot.count} area {slot.area} points{words(slot.points)} lost{words(colons(slot.lost))}"
+        f"triples {slot.count} area {slot.area}{begin} points{words(slot.points)} lost{words(colons(slot.lost))}"
     )
 
 
@@ -162,7 +163,7 @@ def slot_words(slot):
         return "closed"
     if slot["state"] == "unspelled":
         return f"commit {slot['commit']} and no slot's bytes"
-    named = "".join(f" {name} {slot[name]}" for name in ("format", "end", "checkpoint", "from", "triples", "area"))
+    named = "".join(f" {name} {slot[name]}" for name in ("format", "end", "checkpoint", "from", "triples", "area", "begin") if name in slot)
     return f"commit {slot['commit']} {slot['kind']}{named} points{words(slot['points'])} lost{words(colons(slot['lost']))}"
 
 

@@ -1,8 +1,8 @@
-"""Images written by hand in each of the three formats, and images of these with a byte or two changed."""
+"""Images written by hand in each of the four formats, and images of these with a byte or two changed."""
 import random
 from dataclasses import dataclass, replace
 
-from slow_opening import ABSENT, LIVING_TEXT, MARKS, OPEN, PLACES, SPECIFIED_TEXT, most_triples
+from slow_opening import ABSENT, BEGIN, LIVING_TEXT, MARKS, OPEN, PLACES, SPECIFIED_TEXT, most_triples
 
 FIRST = 1 << 48  # the header of a record of version 1
 SECOND = 2 << 48
@@ -32,6 +32,7 @@ class Commit:
     checkpoint: int = None  # by default the commit's own
     lost: tuple = ()  # end and version
     form: int = 3
+    begin: int = 1  # in the fourth format alone
 
     def place(self):
         return 512 + 512 * (self.number % 2)
@@ -47,6 +48,8 @@ class Commit:
             own = self.number if self.checkpoint is None else self.checkpoint
             numbers += [0] * (checkpoint - len(numbers))
             numbers += [own, len(self.lost), *(number for its in self.lost for number in its)]
+        if self.form == 4:
+            numbers += [0] * (BEGIN - len(numbers)) + [self.begin]
         numbers += [0] * (63 - len(numbers))
         return spelled(*numbers, 0 if self.form == 1 else self.form)
 
@@ -87,6 +90,8 @@ class Sample:
         for commit in self.commits:
             for start, end in [(0, 80), (120, 168), (312, 360), (500, 512)]:
                 places |= set(range(commit.place() + start, commit.place() + end))
+            if commit.form == 4:
+                places |= set(range(commit.place() + 8 * BEGIN - 8, commit.place() + 8 * BEGIN + 16))
         return sorted(places)
 
     def values(self):
@@ -210,6 +215,34 @@ CROWDED = replace(
 TRIPLES = replace(FULL, commits=(Commit(1, 29, 29, (28,), triples=tuple((key % 2, key // 2, key + 1) for key in range(28))),))
 
 
+# a living store whose log begins at address 4. Homes 2.0 and 5.0 are dead below it: their triples lead there, and so do the first records that
+# they have again. These are lost, and those behind them lead nowhere, as a store writes them that was opened between
+LATER = Commit(5, 7, 11, (9,), triples=((2, 0, 2), (*HOME, 6), (3, 0, 5), (5, 0, 3)), form=4, begin=4)
+BEGUN = Sample(
+    commits=(LATER, replace(LATER, number=6, tail=14, points=(12,), area=1, checkpoint=5, lost=((11, 6),))),
+    records=(
+        (0, 0, 0),
+        (2**64 - 1, 2**64 - 1, 2**64 - 1),
+        (of_version(2) + INVALID + 2, 77, 5),
+        (of_version(3) + 1, 1, 10),
+        (of_version(3), 3, 30),
+        (of_version(4) + 4, 524289, 11),
+        (of_version(5) + 6, 1, 12),
+        (of_version(6) + 2, 2, 21),
+        (of_version(6) + 3, 5, 51),
+        (of_version(5) + 5 + INVALID, 3, 31),
+        (of_version(6), 2, 22),
+        (of_version(6), 5, 52),
+        (of_version(7) + 12, 5, ABSENT),
+    ),
+    text=LIVING_TEXT,
+)
+BEGUN_WHOLE = (
+    "commit 6 begin 4 tail 14 points 12, checkpoint 5 from 7 triples 4 area 1, lost 11:6 14:7, entries 1.0:7 2.0:11 3.0:5 5.0:12, "
+    "pairs 1=12 2=22 3=30 5=52 524289=11"
+)
+
+
 def in_form(sample, form):
     """The sample with all its slots in this format."""
     return replace(sample, commits=tuple(replace(commit, form=form) for commit in sample.commits))
@@ -226,6 +259,7 @@ SAMPLES = [
     ("two full buckets", CROWD),
     ("two overflow buckets that are full", FULL),
     ("marks that come again", MARKED),
+    ("a log that begins later", BEGUN),
 ]
 
 TABLE = [
@@ -268,6 +302,7 @@ TABLE = [
     ("the mark of the next version", marked(8300, 8301), MARKED_WHOLE.replace("1.1:6 ", "").replace("17=30 ", "")),
     ("the same images of a specified store", replace(MARKED, text=SPECIFIED_TEXT), "Manifest 0"),
     ("a commit past the window of its checkpoint", marked(8302, 112), "Manifest 0"),
+    ("a log that begins later", BEGUN, BEGUN_WHOLE),
     (
         "as many triples as slots",
         TRIPLES,

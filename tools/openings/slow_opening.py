@@ -1,4 +1,4 @@
-"""What an image of any of the three formats holds, worked out slowly and from its bytes alone, rule by rule."""
+"""What an image of any of the four formats holds, worked out slowly and from its bytes alone, rule by rule."""
 MAX_SESSIONS = 32
 # a header holds the mark of its version: the versions 1, 2, 3, .. have the marks 1 to this in turn
 MARKS = 8191
@@ -13,7 +13,9 @@ INVALID = 62
 ABSENT = 2**64 - 1
 # of each format: how many places its slot has for points, and where what it says of the checkpoint begins, in numbers of
 # eight bytes
-PLACES = {1: (8, None), 2: (8, 15), 3: (32, 39)}
+PLACES = {1: (8, None), 2: (8, 15), 3: (32, 39), 4: (32, 39)}
+# where the fourth says at which address the log begins
+BEGIN = 57
 
 
 def find(image):
@@ -98,6 +100,9 @@ class Slot:
         self.number, self.start, self.tail, self.count, self.area, self.sessions = numbers[1:7]
         self.places, checkpoint = PLACES[form]
         self.points = numbers[7 : 7 + self.sessions]
+        self.begin = numbers[BEGIN] if form == 4 else 1
+        if form == 4:
+            numbers = [*numbers[:BEGIN], 0, *numbers[BEGIN + 1 :]]
         if checkpoint is None:
             self.checkpoint, self.range_count, self.lost = self.number, 0, []
             self.rest = numbers[7 + self.sessions : 63]
@@ -122,6 +127,8 @@ def slot_of(image, shape, index):
         slot.number < LAST_VERSION[number_at(image, 0)]
         and slot.number % 2 == index
         and 1 <= slot.start <= slot.tail <= shape[6] * shape[1]
+        and 1 <= slot.begin <= slot.start
+        and (form != 4 or number_at(image, 0) == LIVING_TEXT)
         and slot.count <= most_triples(shape)
         and slot.area < 2
         and (form != 1 or slot.area == index)
@@ -140,11 +147,11 @@ def slot_of(image, shape, index):
 
 
 class Log:
-    """The log that a slot names."""
+    """The log that a slot names. What stands below its begin was given back: an address below it leads nowhere."""
 
     def __init__(self, image, shape, slot):
         self.image, self.shape, self.slot = image, shape, slot
-        self.start, self.tail = slot.start, slot.tail
+        self.begin, self.start, self.tail = slot.begin, slot.start, slot.tail
         self.oldest = oldest(image, slot.checkpoint)
         self.triples_at = 1536 + 16 * most_triples(shape) * slot.area
         self.records_at = 1536 + 32 * most_triples(shape)
@@ -160,14 +167,23 @@ class Log:
         return [self.triple(i) for i in range(self.slot.count)]
 
     def triple_of(self, home):
-        """The address of a home's triple, if it has one."""
-        return next((address for its, _, address in self.triples() if its == home), None)
+        """The address of a home's triple, if it has one that leads into the log."""
+        return next((address for its, _, address in self.led() if its == home), None)
+
+    def led(self):
+        """The triples that lead into the log."""
+        return [triple for triple in self.triples() if triple[2] >= self.begin]
 
     def header(self, a):
         return number_at(self.image, self.records_at + 24 * a)
 
-    def previous(self, a):
+    def named(self, a):
+        """The address in its header."""
         return self.header(a) % 2**48
+
+    def previous(self, a):
+        """Where it leads: to that address if the log has it, and else nowhere."""
+        return self.named(a) if self.named(a) >= self.begin else 0
 
     def mark(self, a):
         return (self.header(a) >> 48) % 2**13
@@ -208,7 +224,7 @@ class Log:
         return not self.bit(a, 61) and not self.bit(a, 63) and self.mark(a) >= 1
 
     def is_record(self, a, last_version):
-        return self.is_spelled(a) and 1 <= self.version(a) <= last_version and self.previous(a) < a
+        return self.is_spelled(a) and 1 <= self.version(a) <= last_version and self.named(a) < a
 
     def triple_fault(self):
         homes = set()
@@ -265,7 +281,7 @@ class Log:
         its records leads to."""
         if self.known is None:
             self.known = {a for a in range(self.start, self.tail) if self.is_valid(a)}
-            self.known |= {address for _, _, address in self.triples()}
+            self.known |= {address for _, _, address in self.led()}
             found = list(self.known)
             while found:
                 a = found.pop()
@@ -278,7 +294,7 @@ class Log:
     def chain_faults(self):
         """All faults of the records below the start."""
         leading = {}  # the homes that lead to an address
-        for home, _, address in self.triples():
+        for home, _, address in self.led():
             leading.setdefault(address, set()).add(home)
         for b in filter(self.is_spelled, self.reached()):
             leading.setdefault(self.previous(b), set()).add(self.home(b))
@@ -322,8 +338,9 @@ class Log:
         lost = "".join(f" {to}:{version}" for to, version in self.lost_in_hand())
         entries = "".join(f" {bucket}.{tag}:{a}" for bucket, tag, a in self.entries())
         pairs = "".join(f" {key}={value}" for key, value in self.pairs())
+        begin = f" begin {slot.begin}" * (slot.begin != 1)
         return (
-            f"commit {slot.number} tail {slot.tail} points{points}, checkpoint {slot.checkpoint} from {slot.start} "
+            f"commit {slot.number}{begin} tail {slot.tail} points{points}, checkpoint {slot.checkpoint} from {slot.start} "
             f"triples {slot.count} area {slot.area}, lost{lost}, entries{entries}, "
             f"pairs{pairs}"
         )

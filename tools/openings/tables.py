@@ -1,5 +1,7 @@
 """Images of stores that are spelled number by number, and tables of them with bytes changed: the answer of each, worked out by
 hand."""
+import random
+
 
 
 def image(places, records=""):
@@ -94,6 +96,28 @@ EIGHT_LOST = [
     )
     for form, at in (("1152=8 1528=2", 1160), ("1344=8 1528=3", 1352))
 ]
+
+# The block of a living store of these sizes. Commit 3 in slot 1, in the fourth format: its log begins at address 3, its scan starts at 5, and it ends at 7.
+# Its triples lead home 1.0 to address 3, home 2.0 to address 2, which lies below the begin, and home 3.0 to address 4. So home 2.0 is dead until its record
+# at address 6, whose header still names address 2. Zeros stand at addresses 1 and 2. In slot 0 stands commit 2, in the third format
+LIVING_BLOCK = BLOCK.replace("0=3553990279542754118", f"0={3553990279542754118 + (1 << 56)}")
+BEFORE = "512=165 520=2 528=3 536=5 544=2 560=1 568=4 824=2 1016=3 1536=1 1544=1 1552=2 1560=2 "
+BEGUN_SLOT = "1024=165 1032=3 1040=5 1048=7 1056=3 1064=1 1072=1 1080=5 1336=3 1480=3 1528=4 3328=1 3336=3 3344=2 3352=2 3360=3 3368=4"
+BEGUN_RECORDS = f"0 0 0 0 0 0 {(2 << 48) + 1} 1 11 {2 << 48} 3 30 {(3 << 48) + 3} 1 12 {(3 << 48) + 2} 2 21"
+BEGUN = image(LIVING_BLOCK + BEFORE + BEGUN_SLOT, BEGUN_RECORDS)
+
+# log commit 4 over that checkpoint. The record at address 6 is of version 4 and lost; a store that was opened behind commit 3 had no entry of home 2.0, so
+# the one at address 7 leads nowhere
+AGAIN_SLOT = " 512=165 520=4 528=5 536=8 544=3 552=1 560=1 568=6 824=3 832=1 840=7 848=4 968=3 1016=4"
+AGAIN = image(LIVING_BLOCK + BEGUN_SLOT + AGAIN_SLOT, BEGUN_RECORDS.replace(f"{(3 << 48) + 2} 2 21", f"{(4 << 48) + 2} 2 21 {4 << 48} 2 22"))
+
+# commit 1, whose checkpoint has eight homes of bucket 1, one more than a bucket has slots: the first of them lies below the begin
+DEAD = image(
+    LIVING_BLOCK
+    + "1024=165 1032=1 1040=9 1048=9 1056=8 1064=1 1072=1 1080=8 1336=1 1480=2 1528=4 "
+    + " ".join(f"{3328 + 16 * i}={1 + (i << 32)} {3336 + 16 * i}={i + 1}" for i in range(8)),
+    " ".join(f"{1 << 48} {16 * i + 1} 10" for i in range(8)),
+)
 
 # what stands alike in all three formats; of two open slots with equal numbers slot 0 is the newest, whatever it says
 ONE_CHANGED = """
@@ -460,6 +484,95 @@ CROWD_CHANGED = """
     5320=97 5312=7: commit 1 tail 9 points 8, checkpoint 0 from 1 triples 0 area 0, lost, entries 1.0:1 1.1:2 1.2:3 1.3:4 1.4:5 1.5:6 1.6:8, pairs 1=10 17=10 33=10 49=10 65=10 81=10 97=10
 """
 
+# the begin: from 1 up to the address at which the scan starts, in a living store alone, with zeros around it. Where it is the first address, the zeros at 1
+# and 2 are no records, and where it is above a triple, the triple is none
+BEGIN_CHANGED = """
+    1480=0: Manifest 1
+    1480=1: Record 1
+    1480=2: Record 2
+    1480=4: commit 3 begin 4 tail 7 points 5, checkpoint 3 from 5 triples 3 area 1, lost, entries 1.0:5 2.0:6 3.0:4, pairs 1=12 2=21 3=30
+    1480=5: commit 3 begin 5 tail 7 points 5, checkpoint 3 from 5 triples 3 area 1, lost, entries 1.0:5 2.0:6, pairs 1=12 2=21
+    1480=6: Manifest 1
+    1481=1: Manifest 1
+    1487=1: Manifest 1
+    1472=1: Manifest 1
+    1488=1: Manifest 1
+    1520=1: Manifest 1
+    1528=3: Manifest 1
+    1528=5: Manifest 1
+    1480=0 1528=3: Record 1
+    7=49: Manifest 1
+    7=49 1480=1: Manifest 1
+    7=49 1480=0 1528=3: Record 1
+    1024=0: Record 1
+"""
+
+# all that names an address below the begin leads nowhere, and is otherwise as it may be: a triple has an address, and a header none at or above its own
+BEGUN_CHANGED = """
+    5264=0: commit 3 begin 3 tail 7 points 5, checkpoint 3 from 5 triples 3 area 1, lost, entries 1.0:5 2.0:6 3.0:4, pairs 1=12 2=21 3=30
+    5264=1: commit 3 begin 3 tail 7 points 5, checkpoint 3 from 5 triples 3 area 1, lost, entries 1.0:5 2.0:6 3.0:4, pairs 1=12 2=21 3=30
+    5264=3: Link 6
+    5264=4: Link 6
+    5264=5: Link 6
+    5264=6: Record 6
+    5271=64: commit 3 begin 3 tail 7 points 5, checkpoint 3 from 5 triples 3 area 1, lost, entries 1.0:5 3.0:4, pairs 1=12 3=30
+    5270=4: commit 3 begin 3 tail 7 points 5, checkpoint 3 from 5 triples 3 area 1, lost 7:4, entries 1.0:5 3.0:4, pairs 1=12 3=30
+    5240=0: Link 5
+    5240=2: Link 5
+    5240=4: Link 5
+    5192=0: commit 3 begin 3 tail 7 points 5, checkpoint 3 from 5 triples 3 area 1, lost, entries 1.0:5 2.0:6 3.0:4, pairs 1=12 2=21 3=30
+    5192=2: commit 3 begin 3 tail 7 points 5, checkpoint 3 from 5 triples 3 area 1, lost, entries 1.0:5 2.0:6 3.0:4, pairs 1=12 2=21 3=30
+    5192=3: Record 3
+    5198=0: Record 3
+    5199=64: Link 3
+    5200=17: Link 3
+    5216=3: Link 3
+    5216=2: commit 3 begin 3 tail 7 points 5, checkpoint 3 from 5 triples 3 area 1, lost, entries 1.0:5 2.0:6 3.0:4, pairs 1=12 2=21 3=30
+    5222=4: Record 4
+    3336=2: Link 5
+    3336=2 5240=2: commit 3 begin 3 tail 7 points 5, checkpoint 3 from 5 triples 3 area 1, lost, entries 1.0:5 2.0:6 3.0:4, pairs 1=12 2=21 3=30
+    3336=2 5240=0 5192=7 5193=255: commit 3 begin 3 tail 7 points 5, checkpoint 3 from 5 triples 3 area 1, lost, entries 1.0:5 2.0:6 3.0:4, pairs 1=12 2=21 3=30
+    3352=1: commit 3 begin 3 tail 7 points 5, checkpoint 3 from 5 triples 3 area 1, lost, entries 1.0:5 2.0:6 3.0:4, pairs 1=12 2=21 3=30
+    3352=0: Triple 1
+    3352=7: Triple 1
+    3344=1: Triple 1
+    3344=16: Triple 1
+    3352=4: Link 6
+    3352=6: commit 3 begin 3 tail 7 points 5, checkpoint 3 from 5 triples 3 area 1, lost, entries 1.0:5 2.0:6 3.0:4, pairs 1=12 2=21 3=30
+    1048=6: commit 3 begin 3 tail 6 points 5, checkpoint 3 from 5 triples 3 area 1, lost, entries 1.0:5 3.0:4, pairs 1=12 3=30
+    1048=5: commit 3 begin 3 tail 5 points 5, checkpoint 3 from 5 triples 3 area 1, lost, entries 1.0:3 3.0:4, pairs 1=11 3=30
+    1056=2: commit 3 begin 3 tail 7 points 5, checkpoint 3 from 5 triples 2 area 1, lost, entries 1.0:5 2.0:6, pairs 1=12 2=21
+"""
+
+# behind the log commit the lost record names address 2, and the one behind it nothing; a begin at or below address 2 makes them disagree
+AGAIN_CHANGED = """
+    5264=0: commit 4 begin 3 tail 8 points 6, checkpoint 3 from 5 triples 3 area 1, lost 7:4, entries 1.0:5 2.0:7 3.0:4, pairs 1=12 2=22 3=30
+    5264=3: Link 6
+    5288=1: commit 4 begin 3 tail 8 points 6, checkpoint 3 from 5 triples 3 area 1, lost 7:4, entries 1.0:5 2.0:7 3.0:4, pairs 1=12 2=22 3=30
+    5288=2: commit 4 begin 3 tail 8 points 6, checkpoint 3 from 5 triples 3 area 1, lost 7:4, entries 1.0:5 2.0:7 3.0:4, pairs 1=12 2=22 3=30
+    5288=3: Link 7
+    5288=6: Link 7
+    840=8: commit 4 begin 3 tail 8 points 6, checkpoint 3 from 5 triples 3 area 1, lost 8:4, entries 1.0:5 3.0:4, pairs 1=12 3=30
+    968=1: Link 7
+    968=2: Link 7
+    968=2 5288=2: Record 2
+    968=2 5264=0: Link 6
+    968=4: commit 4 begin 4 tail 8 points 6, checkpoint 3 from 5 triples 3 area 1, lost 7:4, entries 1.0:5 2.0:7 3.0:4, pairs 1=12 2=22 3=30
+    968=5: commit 4 begin 5 tail 8 points 6, checkpoint 3 from 5 triples 3 area 1, lost 7:4, entries 1.0:5 2.0:7, pairs 1=12 2=22
+    968=6: Manifest 0
+    968=0 1016=3: Link 7
+    512=0 1480=0: Manifest 1
+    512=0: commit 3 begin 3 tail 7 points 5, checkpoint 3 from 5 triples 3 area 1, lost 7:4, entries 1.0:5 3.0:4, pairs 1=12 3=30
+    1480=0: commit 4 begin 3 tail 8 points 6, checkpoint 3 from 5 triples 3 area 1, lost 7:4, entries 1.0:5 2.0:7 3.0:4, pairs 1=12 2=22 3=30
+"""
+
+# a dead home takes no slot of its bucket
+DEAD_CHANGED = """
+    1480=1: Full 1
+    1480=3: commit 1 begin 3 tail 9 points 8, checkpoint 1 from 9 triples 8 area 1, lost, entries 1.2:3 1.3:4 1.4:5 1.5:6 1.6:7 1.7:8, pairs 33=10 49=10 65=10 81=10 97=10 113=10
+    1480=9: commit 1 begin 9 tail 9 points 8, checkpoint 1 from 9 triples 8 area 1, lost, entries, pairs
+"""
+
 TABLES = [
     *((f"one commit, format {form + 1}", ONE[form], ONE_CHANGED) for form in (0, 1, 2)),
     ("one commit, format 1", ONE[0], FIRST_NUMBER),
@@ -479,6 +592,10 @@ TABLES = [
     ("three lives", LIVES, RANGES_CHANGED),
     ("32 sessions", MOST, MOST_CHANGED),
     ("eight homes", CROWD, CROWD_CHANGED),
+    ("a begin", BEGUN, BEGIN_CHANGED),
+    ("a dead home", BEGUN, BEGUN_CHANGED),
+    ("a home that comes back behind a log commit", AGAIN, AGAIN_CHANGED),
+    ("eight homes, one of them dead", DEAD, DEAD_CHANGED),
 ]
 
 # what the samples without a change are answered
@@ -489,10 +606,19 @@ LEFT_OUT_WHOLE = (
 LOGGED_WHOLE = (
     "commit 2 tail 6 points 3, checkpoint 1 from 3 triples 1 area 1, lost 5:2, entries 1.0:5, pairs 1=13 524289=20"
 )
+BEGUN_WHOLE = "commit 3 begin 3 tail 7 points 5, checkpoint 3 from 5 triples 3 area 1, lost, entries 1.0:5 2.0:6 3.0:4, pairs 1=12 2=21 3=30"
+AGAIN_WHOLE = "commit 4 begin 3 tail 8 points 6, checkpoint 3 from 5 triples 3 area 1, lost 7:4, entries 1.0:5 2.0:7 3.0:4, pairs 1=12 2=22 3=30"
+DEAD_WHOLE = (
+    "commit 1 begin 2 tail 9 points 8, checkpoint 1 from 9 triples 8 area 1, lost, entries 1.1:2 1.2:3 1.3:4 1.4:5 1.5:6 1.6:7 1.7:8, "
+    "pairs 17=10 33=10 49=10 65=10 81=10 97=10 113=10"
+)
 WHOLE = [
     *((f"one commit, format {form + 1}", ONE[form], ONE_WHOLE) for form in (0, 1, 2)),
     *((f"records left out, format {form + 1}", LEFT_OUT[form], LEFT_OUT_WHOLE) for form in (0, 1, 2)),
     *((f"a log commit, format {form + 2}", LOGGED[form], LOGGED_WHOLE) for form in (0, 1)),
+    ("a begin", BEGUN, BEGUN_WHOLE),
+    ("a home that comes back behind a log commit", AGAIN, AGAIN_WHOLE),
+    ("eight homes, one of them dead", DEAD, DEAD_WHOLE),
 ]
 
 # a store over many lives whose log commits leave a record out each: those of commits 1, 2, 3 and 9, over the checkpoint of commit
@@ -575,6 +701,16 @@ def format_changes():
     yield "a format changes", cut_off(10, 255), SECOND_WHOLE
 
 
+def holes():
+    """Nothing below the begin counts, whatever stands there: zeros, as a hole reads, or garbage, or records that once counted."""
+    chosen = random.Random(2)
+    live = b"".join(number.to_bytes(8, "little") for number in (1 << 48, 1, 7, 1 << 48, 2, 8))
+    for name, whole, first, wanted in (("a begin", BEGUN, 2, BEGUN_WHOLE), ("a home that comes back", AGAIN, 2, AGAIN_WHOLE), ("eight homes", DEAD, 1, DEAD_WHOLE)):
+        size = 24 * first
+        for part in (bytes(size), b"\xff" * size, live[:size], *(chosen.randbytes(size) for _ in range(8))):
+            yield f"{name}: {part.hex()} below it", written(whole, 5144, part), wanted
+
+
 # an image that ends early has zeros from there on
 CUT = {
     63: "NotAStore",
@@ -603,5 +739,6 @@ def rows():
         for places, wanted in split(table):
             yield f"{name}: {places}", changed(whole, places), wanted
     yield from format_changes()
+    yield from holes()
     for size, wanted in CUT.items():
         yield f"one commit: {size} bytes", ONE[0][:size], wanted

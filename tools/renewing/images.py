@@ -25,7 +25,7 @@ def bytes_to(sizes, tail):
 def told(answer):
     """The number, tail, points and pairs of an opened store, from a line that tells them."""
     words = answer.replace(",", " ,").split()
-    number, tail = int(words[1]), int(words[3])
+    number, tail = int(words[1]), int(words[words.index("tail") + 1])
     points = words[words.index("points") + 1 : words.index(",")]
     pairs = [tuple(map(int, word.split("="))) for word in words[words.index("pairs") + 1 :]]
     return number, tail, points, pairs

@@ -8,7 +8,7 @@ use Rattle.fkv_record.specs.declared.records.Record.{Record}
 use Rattle.fkv_record.specs.Layout.{record_bytes}
 use Rattle.fkv_scan.specs.declared.scans.Scanned.{Scanned}
 use Rattle.fkv_scan.specs.Log.{Log, AreBelow, record_home}
-use Rattle.fkv_scan.specs.Records.{IsCounted}
+use Rattle.fkv_scan.specs.Records.{next_of, IsCounted}
 use Rattle.fkv_scan.specs.Scan.{HasNone, IsGreatest}
 use Rattle.fkv_scan.specs.Scanned.{AreScanned, GoesOnAt, IsEntryOf}
 use Rattle.fkv_chains.specs.Reached.{Reached, in_scan, linked, LeadsTo, from_record}
@@ -32,10 +32,10 @@ module _ (apart : SpellsApart record_bytes) (log : Log) (chains : HasChains log)
   of_home its_home a b reached low leads (on _ _ x some stands rest) =
       let this = chains a reached low in
       let equal : this.held ≡ x = apart this.held x (this.old.stands ∙ sym stands) in
-      let more = along_some log x.header.previous.0 b rest in
-      let falls : x.header.previous.0 < a = subst (λ (y : Record). y.header.previous.0 < a) equal this.old.falls in
+      let more = along_some log (next_of log x) b rest in
+      let falls : next_of log x < a = subst (λ (y : Record). next_of log y < a) equal this.old.falls in
       let same : record_home log.shape.bucket_bits x ≡ its_home = ap (λ (y : Record). record_home log.shape.bucket_bits y) (sym equal) ∙ this.same its_home leads in
-      of_home its_home x.header.previous.0 b (linked a x.header.previous.0 x reached stands refl more) (omega (arith, low, falls)) (from_record a x reached stands same refl more) rest
+      of_home its_home (next_of log x) b (linked a (next_of log x) x reached stands refl more) (omega (arith, low, falls)) (from_record a x reached stands same refl more) rest
 
   pub followed : (its_home w : ℕ) → GoesOnAt log its_home log.tail w → IsFollowed log its_home w
   followed its_home w at b along =
@@ -49,8 +49,8 @@ module _ (apart : SpellsApart record_bytes) (log : Log) (chains : HasChains log)
   lower its_home a b sound (on _ _ x some stands rest) =
       let this = sound a (here a some) in
       let equal : this.held ≡ x = apart this.held x (this.old.stands ∙ sym stands) in
-      let falls : x.header.previous.0 < a = subst (λ (y : Record). y.header.previous.0 < a) equal this.old.falls in
-      let rest_low = lower its_home x.header.previous.0 b (λ c along. sound c (on a c x some stands along)) rest in
+      let falls : next_of log x < a = subst (λ (y : Record). next_of log y < a) equal this.old.falls in
+      let rest_low = lower its_home (next_of log x) b (λ c along. sound c (on a c x some stands along)) rest in
       omega (arith, falls, rest_low)
 
   module _ (in_log : AreBelow log.tail log.triples) (scan : Scanned) (are : AreScanned log scan) where

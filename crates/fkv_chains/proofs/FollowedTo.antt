@@ -6,7 +6,7 @@ use Rattle.fkv_record.specs.declared.records.Record.{Record}
 use Rattle.fkv_record.specs.Layout.{record_bytes}
 use Rattle.fkv_record.specs.Places.{record_place}
 use Rattle.fkv_scan.specs.Log.{Log, record_home}
-use Rattle.fkv_scan.specs.Records.{Stands}
+use Rattle.fkv_scan.specs.Records.{Stands, next_of}
 use Rattle.fkv_chains.specs.Reached.{linked, from_record}
 use Rattle.fkv_chains.specs.Along.{IsAlong, here, on, IsOf, IsFollowed, IsToFollow}
 use Rattle.fkv_chains.specs.Chains.{IsOld, IsChainRecordFault, IsChainLinkFault}
@@ -42,17 +42,17 @@ all_followed log its_home from to b along = ⊎_elim (λ is_of. is_of) (λ left.
 module _ (log : Log) (its_home from a : ℕ) (some : a ≢ 0) where
   -- what stands at the address is this record alone
   module _ (x : Record) (stands : Stands log a x) (alone : (y : Record) → Stands log a y → y ≡ x) where
-    step : (b : ℕ) → IsOf log its_home a → IsAlong log a b → IsOf log its_home b ⊎ IsAlong log x.header.previous.0 b
+    step : (b : ℕ) → IsOf log its_home a → IsAlong log a b → IsOf log its_home b ⊎ IsAlong log (next_of log x) b
     step b is_of (here _ _) = inl is_of
-    step b is_of (on _ _ y more its rest) = inr (subst (λ (z : Record). IsAlong log z.header.previous.0 b) (alone y its) rest)
+    step b is_of (on _ _ y more its rest) = inr (subst (λ (z : Record). IsAlong log (next_of log z) b) (alone y its) rest)
 
-    pub follow_on : IsOf log its_home a → IsFollowedTo log its_home from a → IsFollowedTo log its_home from x.header.previous.0
+    pub follow_on : IsOf log its_home a → IsFollowedTo log its_home from a → IsFollowedTo log its_home from (next_of log x)
     follow_on is_of so_far b along = ⊎_elim inl (λ left. step b is_of left) (so_far b along)
 
-    pub led_on : x.header.previous.0 < a → record_home log.shape.bucket_bits x ≡ its_home → IsToFollow log its_home a → IsToFollow log its_home x.header.previous.0
+    pub led_on : next_of log x < a → record_home log.shape.bucket_bits x ≡ its_home → IsToFollow log its_home a → IsToFollow log its_home (next_of log x)
     led_on falls same led = record {
       below_start = λ more. (let low = led.below_start some in omega (arith, low, falls));
-      reached = λ more. linked a x.header.previous.0 x (led.reached some) stands refl more;
+      reached = λ more. linked a (next_of log x) x (led.reached some) stands refl more;
       led = λ more. from_record a x (led.reached some) stands same refl more;
     }
 

@@ -6,7 +6,7 @@ use Rattle.fkv_record.specs.declared.records.Record.{Record}
 use Rattle.fkv_record.specs.Layout.{record_bytes}
 use Rattle.fkv_scan.specs.declared.scans.Scanned.{Scanned}
 use Rattle.fkv_scan.specs.Log.{Log, HasTriple, AreBelow, record_home}
-use Rattle.fkv_scan.specs.Records.{Stands, losses_of, IsValid, IsKept}
+use Rattle.fkv_scan.specs.Records.{Stands, next_of, losses_of, IsValid, IsKept}
 use Rattle.fkv_scan.specs.Scan.{Has, HasNone, IsGreatest, IsScanned, IsLinked, GoesOn, by_triple, by_record}
 use Rattle.fkv_scan.specs.Scanned.{AreScanned, GoesOnAt}
 use Rattle.fkv_chains.specs.Reached.{Reached, in_scan, led_to, linked, LeadsTo, from_triple, from_record}
@@ -24,9 +24,9 @@ at_or_below : (b a : ℕ) → b < suc a → (b < a) ⊎ (b ≡ a)
 at_or_below b a less = grind arith
 
 -- a chain goes on from a record
-along_next : (log : Log) (w a : ℕ) (x : Record) → ((y : Record) → Stands log a y → y ≡ x) → Stands log a x → x.header.previous.0 ≢ 0 → IsAlong log w a → IsAlong log w x.header.previous.0
-along_next log w a x alone stands more (here _ some) = on a x.header.previous.0 x some stands (here x.header.previous.0 more)
-along_next log w a x alone stands more (on _ _ y some its rest) = on w x.header.previous.0 y some its (along_next log y.header.previous.0 a x alone stands more rest)
+along_next : (log : Log) (w a : ℕ) (x : Record) → ((y : Record) → Stands log a y → y ≡ x) → Stands log a x → next_of log x ≢ 0 → IsAlong log w a → IsAlong log w (next_of log x)
+along_next log w a x alone stands more (here _ some) = on a (next_of log x) x some stands (here (next_of log x) more)
+along_next log w a x alone stands more (on _ _ y some its rest) = on w (next_of log x) y some its (along_next log (next_of log y) a x alone stands more rest)
 
 module _ (apart : SpellsApart record_bytes) (log : Log) (in_log : AreBelow log.tail log.triples) (told : Scanned) (are : AreScanned log told) where
   one : (a : ℕ) (x y : Record) → Stands log a x → Stands log a y → x ≡ y
@@ -94,16 +94,16 @@ module _ (apart : SpellsApart record_bytes) (log : Log) (in_log : AreBelow log.t
     links : IsLinked log a x
     links = subst (λ (y : Record). IsLinked log a y) same (this.linked (ap (λ (y : Record). y.header.invalid) same ∙ valid))
 
-    falls : x.header.previous.0 < a
-    falls = subst (λ (y : Record). y.header.previous.0 < a) same this.fits.falls
+    falls : next_of log x < a
+    falls = subst (λ (y : Record). next_of log y < a) same this.fits.falls
 
-    by_nearest : losses_of log a x ≡ 0 → log.start ≤ x.header.previous.0 → Nearest (record_home log.shape.bucket_bits x) a → Has (IsValid log (record_home log.shape.bucket_bits x)) x.header.previous.0
+    by_nearest : losses_of log a x ≡ 0 → log.start ≤ next_of log x → Nearest (record_home log.shape.bucket_bits x) a → Has (IsValid log (record_home log.shape.bucket_bits x)) (next_of log x)
     by_nearest kept high (inl found) =
         let leads = (links.nearest kept found.0 found.1).0 in
         subst (λ (n : ℕ). Has (IsValid log (record_home log.shape.bucket_bits x)) n) (sym leads) (found.1.here.0, found.1.here.1.here)
     by_nearest kept high (inr none) = (let low = links.first kept none in absurd (omega (arith, low, high)))
 
-    leads_to_valid : log.start ≤ x.header.previous.0 → Has (IsValid log (record_home log.shape.bucket_bits x)) x.header.previous.0
+    leads_to_valid : log.start ≤ next_of log x → Has (IsValid log (record_home log.shape.bucket_bits x)) (next_of log x)
     leads_to_valid high = ⊎_elim (λ kept. by_nearest kept high (nearest (record_home log.shape.bucket_bits x) a (omega (arith, within)))) (λ lost. links.lost lost high)
         (cases_eq (losses_of log a x) 0)
 
@@ -112,25 +112,25 @@ module _ (apart : SpellsApart record_bytes) (log : Log) (in_log : AreBelow log.t
     begins : (its_home a : ℕ) → a ≢ 0 → a < log.start → GoesOn log its_home log.tail a → Told log a
     begins its_home a some low goes = of_chain low its_home a (at_way log told are its_home a some goes) (here a some)
 
-    goes_on : (a b its_home w : ℕ) (x : Record) → Stands log a x → x.header.previous.0 ≡ b → b ≢ 0 → GoesOnAt log its_home log.tail w → IsAlong log w a → IsOf log its_home a → (b < a) × IsAlong log w b × (record_home log.shape.bucket_bits x ≡ its_home)
+    goes_on : (a b its_home w : ℕ) (x : Record) → Stands log a x → next_of log x ≡ b → b ≢ 0 → GoesOnAt log its_home log.tail w → IsAlong log w a → IsOf log its_home a → (b < a) × IsAlong log w b × (record_home log.shape.bucket_bits x ≡ its_home)
     goes_on a b its_home w x stands is some at along is_of =
         let equal : x ≡ is_of.held = one a x is_of.held stands is_of.old.stands in
-        let falls : x.header.previous.0 < a = subst (λ (y : Record). y.header.previous.0 < a) (sym equal) is_of.old.falls in
-        let next : IsAlong log w x.header.previous.0 = along_next log w a x (λ y its. one a y x its stands) stands (λ none. some (sym is ∙ none)) along in (
+        let falls : next_of log x < a = subst (λ (y : Record). next_of log y < a) (sym equal) is_of.old.falls in
+        let next : IsAlong log w (next_of log x) = along_next log w a x (λ y its. one a y x its stands) stands (λ none. some (sym is ∙ none)) along in (
           omega (arith, falls, is),
           subst (λ (n : ℕ). IsAlong log w n) is next,
           ap (λ (y : Record). record_home log.shape.bucket_bits y) equal ∙ is_of.same,
         )
 
-    told_next : (a b : ℕ) (x : Record) → Stands log a x → x.header.previous.0 ≡ b → b ≢ 0 → Told log a → Told log b
+    told_next : (a b : ℕ) (x : Record) → Stands log a x → next_of log x ≡ b → b ≢ 0 → Told log a → Told log b
     told_next a b x stands is some (of_scan from within y its valid) =
         let equal : x ≡ y = one a x y stands its in
         let valid_x : x.header.invalid ≡ false = ap (λ (z : Record). z.header.invalid) equal ∙ valid in
         ⊎_elim
         (λ low. begins (record_home log.shape.bucket_bits x) b some low (by_record a x from within (record { stands = stands; valid = valid_x; same = refl }) is low))
         (λ high.
-        let leads : Has (IsValid log (record_home log.shape.bucket_bits x)) x.header.previous.0 = leads_to_valid a x from within stands valid_x (omega (arith, high, is)) in
-        let lower : x.header.previous.0 < a = falls a x from within stands valid_x in
+        let leads : Has (IsValid log (record_home log.shape.bucket_bits x)) (next_of log x) = leads_to_valid a x from within stands valid_x (omega (arith, high, is)) in
+        let lower : next_of log x < a = falls a x from within stands valid_x in
         of_scan high (omega (arith, lower, is, within)) leads.0 (subst (λ (n : ℕ). Stands log n leads.0) is leads.1.stands) leads.1.valid)
         (cases_lt b log.start)
     told_next a b x stands is some (of_chain low its_home w at along) =
@@ -156,7 +156,7 @@ module _ (apart : SpellsApart record_bytes) (log : Log) (in_log : AreBelow log.t
     abbrev OnChain : ℕ → ℕ → Type 0
     OnChain its_home a = (w : ℕ) × GoesOnAt log its_home log.tail w × IsAlong log w a
 
-    record_leads : (its_home a b : ℕ) (x : Record) → Stands log b x → record_home log.shape.bucket_bits x ≡ its_home → x.header.previous.0 ≡ a → a ≢ 0 → a < log.start → Told log b → OnChain its_home a
+    record_leads : (its_home a b : ℕ) (x : Record) → Stands log b x → record_home log.shape.bucket_bits x ≡ its_home → next_of log x ≡ a → a ≢ 0 → a < log.start → Told log b → OnChain its_home a
     record_leads its_home a b x stands same is some low (of_scan from within y its valid) =
         let equal : x ≡ y = one b x y stands its in
         let valid_x : x.header.invalid ≡ false = ap (λ (z : Record). z.header.invalid) equal ∙ valid in

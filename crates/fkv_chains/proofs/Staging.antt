@@ -9,13 +9,13 @@ use Rattle.fkv_base.specs.declared.faults.Fault.TheVariants as fault
 use Rattle.fkv_disk.specs.Device.{Rose}
 use Rattle.fkv_record.specs.declared.triples.Triple.{Triple}
 use Rattle.fkv_scan.specs.declared.scans.Scanned.{Scanned}
-use Rattle.fkv_scan.specs.Log.{Log, HasTriple, triple_home}
+use Rattle.fkv_scan.specs.Log.{Log, triple_home}
 use Rattle.fkv_scan.specs.Scanned.{AreScanned, GoesOnAt}
 use Rattle.fkv_chains.specs.Along.{IsFollowed, IsToFollow}
 use Rattle.fkv_chains.specs.Chains.{IsChainFault}
 use Rattle.fkv_chains.specs.Refused.{IsRefused}
 use Rattle.fkv_chains.specs.Ways.{way_below}
-use Rattle.fkv_chains.proofs.Ways.{to_follow, way_told}
+use Rattle.fkv_chains.proofs.Ways.{IsListed, to_follow, way_told}
 
 rose_before : (before mid now : ℕ) → before ≤ mid → Rose mid now → Rose before now
 rose_before before mid now later rose = omega (arith, later, rose)
@@ -26,13 +26,10 @@ refused_after before mid now later premise premise_mid log log_mid to fault.Devi
 refused_after before mid now later premise premise_mid log log_mid to other off = absurd (off)
 
 module _ (log : Log) (told : Scanned) where
-  triple_here : (i : ℕ) (t : Triple) → slice_get log.triples i ≡ Some t → HasTriple log (triple_home t) t.addr.0
-  triple_here i t stands = record { place = i; triple = t; stands = stands; same = refl; address = refl }
-
   -- where a triple's chain is followed from
   pub follows_from : AreScanned log told → (i : ℕ) (t : Triple) → slice_get log.triples i ≡ Some t → (home from : ℕ) → home ≡ triple_home t → from ≡ way_below (get nat_cmp told.homes home) log.start → IsToFollow log home from
   follows_from are i t stands home from is_home is_from =
-      let way = way_told log told are (triple_home t) t.addr.0 (triple_here i t stands) in
+      let way = way_told log told are (triple_home t) in
       let same : from ≡ way.0 = is_from ∙ ap (λ (h : ℕ). way_below (get nat_cmp told.homes h) log.start) is_home ∙ way.2 in
       subst (λ (h : ℕ). IsToFollow log h from) (sym is_home) (subst (λ (n : ℕ). IsToFollow log (triple_home t) n) (sym same) (to_follow log (triple_home t) way.0 way.1.there))
 
@@ -54,9 +51,9 @@ module _ (log : Log) (told : Scanned) where
       (subst (λ (h : ℕ). IsFollowed log h (way_below (get nat_cmp told.homes h) log.start)) is_home (subst (λ (n : ℕ). IsFollowed log home n) is_from followed)))
       (last_or_below j i below)
 
-  pub each_way : AreScanned log told → AreFollowed (length log.triples) → (its_home a w : ℕ) → HasTriple log its_home a → GoesOnAt log its_home log.tail w → IsFollowed log its_home w
-  each_way are followed its_home a w t at =
-      let way = way_told log told are its_home a t in
+  pub each_way : AreScanned log told → AreFollowed (length log.triples) → (its_home w : ℕ) → IsListed log.triples its_home → GoesOnAt log its_home log.tail w → IsFollowed log its_home w
+  each_way are followed its_home w t at =
+      let way = way_told log told are its_home in
       let same : way_below (get nat_cmp told.homes its_home) log.start ≡ w = way.2 ∙ sym (way.1.alone w at.there) in
       let this = followed t.place t.triple (slice_get_within log.triples t.place t.triple t.stands) t.stands in
       subst (λ (n : ℕ). IsFollowed log its_home n) same (subst (λ (h : ℕ). IsFollowed log h (way_below (get nat_cmp told.homes h) log.start)) t.same this)

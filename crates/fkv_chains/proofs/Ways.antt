@@ -43,6 +43,15 @@ module _ (log : Log) (told : Scanned) (are : AreScanned log told) where
   unmet its_home q some none (by_none none_there is) = some is
   unmet its_home q some none (by_record c x from to valid is low) = none.records c x from to valid
 
+  -- a home that isn't met goes on nowhere
+  unmet_at : (its_home : ℕ) → IsUnmet log its_home log.tail → GoesOnAt log its_home log.tail 0
+  unmet_at its_home none = record { there = by_none none.triples refl; alone = λ q goes. nowhere q goes }
+    where
+      nowhere : (q : ℕ) → GoesOn log its_home log.tail q → q ≡ 0
+      nowhere q (by_triple t low) = absurd (none.triples q t)
+      nowhere q (by_none none_there is) = is
+      nowhere q (by_record c x from to valid is low) = absurd (none.records c x from to valid)
+
   by_known : (its_home q : ℕ) (o : Option HomeScan) → get nat_cmp told.homes its_home ≡ o → q ≢ 0 → GoesOn log its_home log.tail q → GoesOnAt log its_home log.tail q
   by_known its_home q None is some goes = absurd (unmet its_home q some (are.others its_home is) goes)
   by_known its_home q (Some s) is some goes =
@@ -52,16 +61,16 @@ module _ (log : Log) (told : Scanned) (are : AreScanned log told) where
   pub at_way : (its_home q : ℕ) → q ≢ 0 → GoesOn log its_home log.tail q → GoesOnAt log its_home log.tail q
   at_way its_home q some goes = by_known its_home q (get nat_cmp told.homes its_home) refl some goes
 
-  -- a home that has a triple is told of
-  tells_way : (its_home a : ℕ) (o : Option HomeScan) → get nat_cmp told.homes its_home ≡ o → HasTriple log its_home a → (w : ℕ) × GoesOnAt log its_home log.tail w × (way_below o log.start ≡ w)
+  -- the way of each home is told, also where it leads nowhere
+  tells_way : (its_home : ℕ) (o : Option HomeScan) → get nat_cmp told.homes its_home ≡ o → (w : ℕ) × GoesOnAt log its_home log.tail w × (way_below o log.start ≡ w)
   unfolding way_below
-  tells_way its_home a None is t = absurd ((are.others its_home is).triples a t)
-  tells_way its_home a (Some s) is t =
+  tells_way its_home None is = (0, unmet_at its_home (are.others its_home is), refl)
+  tells_way its_home (Some s) is =
       let tells = are.each its_home s is in
       (tells.way.0, tells.below, ap (λ (o : Option Addr). address_below o log.start) tells.known ∙ cut tells.way.0 log.start (low_way log its_home tells.way.0 tells.below.there))
 
-  pub way_told : (its_home a : ℕ) → HasTriple log its_home a → (w : ℕ) × GoesOnAt log its_home log.tail w × (way_below (get nat_cmp told.homes its_home) log.start ≡ w)
-  way_told its_home a t = tells_way its_home a (get nat_cmp told.homes its_home) refl t
+  pub way_told : (its_home : ℕ) → (w : ℕ) × GoesOnAt log its_home log.tail w × (way_below (get nat_cmp told.homes its_home) log.start ≡ w)
+  way_told its_home = tells_way its_home (get nat_cmp told.homes its_home) refl
 
 -- whether a triple has this home
 pub record IsListed (triples : List Triple) (its_home : ℕ) : Type 0 where
@@ -81,10 +90,10 @@ listed_or_not (t ∷ rest) its_home = ⊎_elim (λ same. inl (record { place = 0
     off other none (suc i) y is same = none (record { place = i; triple = y; stands = is; same = same })
 
 -- where each chain of a triple was followed, each chain was
-pub all_ways : (log : Log) → ((its_home a w : ℕ) → HasTriple log its_home a → GoesOnAt log its_home log.tail w → IsFollowed log its_home w)
+pub all_ways : (log : Log) → ((its_home w : ℕ) → IsListed log.triples its_home → GoesOnAt log its_home log.tail w → IsFollowed log its_home w)
     → (its_home w : ℕ) → GoesOnAt log its_home log.tail w → IsFollowed log its_home w
 all_ways log followed its_home w at = ⊎_elim
-    (λ is. followed its_home is.triple.addr.0 w (record { place = is.place; triple = is.triple; stands = is.stands; same = is.same; address = refl }) at)
+    (λ is. followed its_home w is at)
     (λ none.
     let nowhere : 0 ≡ w = at.alone 0 (by_none (λ a t. none (record { place = t.place; triple = t.triple; stands = t.stands; same = t.same })) refl) in
     λ b along. absurd (none_along log b (subst (λ (n : ℕ). IsAlong log n b) (sym nowhere) along)))

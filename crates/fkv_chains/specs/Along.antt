@@ -2,14 +2,14 @@
 use Rattle.std.specs.Prelude.{◌≡◌, ◌≢◌, ℕ, ◌<◌, false}
 use Rattle.fkv_record.specs.declared.records.Record.{Record}
 use Rattle.fkv_scan.specs.Log.{Log, record_home}
-use Rattle.fkv_scan.specs.Records.{Stands}
+use Rattle.fkv_scan.specs.Records.{Stands, next_of}
 use Rattle.fkv_chains.specs.Reached.{Reached, LeadsTo}
 use Rattle.fkv_chains.specs.Chains.{IsOld}
 
 -- an address is on the chain that goes down from another; nothing is on a chain from address 0
 pub data IsAlong (log : Log) : ℕ → ℕ → Type 0 where
   here : (a : ℕ) → a ≢ 0 → IsAlong log a a
-  on : (a b : ℕ) (x : Record) → a ≢ 0 → Stands log a x → IsAlong log x.header.previous.0 b → IsAlong log a b
+  on : (a b : ℕ) (x : Record) → a ≢ 0 → Stands log a x → IsAlong log (next_of log x) b → IsAlong log a b
 
 -- the record there is an old and valid one of this home
 pub record IsOf (log : Log) (its_home a : ℕ) : Type 0 where

@@ -5,7 +5,7 @@ use Rattle.fkv_base.specs.declared.faults.Fault.TheVariants.{Damaged}
 use Rattle.fkv_base.specs.declared.faults.Damage.TheVariants.{Record as of_record, Link as of_link}
 use Rattle.fkv_record.specs.declared.records.Record.{Record}
 use Rattle.fkv_scan.specs.Log.{Log, record_home}
-use Rattle.fkv_scan.specs.Records.{Stands}
+use Rattle.fkv_scan.specs.Records.{Stands, next_of}
 use Rattle.fkv_chains.specs.Reached.{Reached, LeadsTo}
 
 -- The bytes at an address spell a record that leads below it, whose mark is at most the commit's number. Up to commit 8190 that is its version. From commit 8191
@@ -13,7 +13,7 @@ use Rattle.fkv_chains.specs.Reached.{Reached, LeadsTo}
 pub record IsOld (log : Log) (a : ℕ) (x : Record) : Type 0 where
   pub stands : Stands log a x
   pub old_enough : x.header.version.0 ≤ log.version
-  pub falls : x.header.previous.0 < a
+  pub falls : next_of log x < a
 
 -- they spell such a record, a valid one, of each home that leads there
 pub record IsChained (log : Log) (a : ℕ) : Type 0 where

@@ -10,7 +10,7 @@ ghost use Rattle.fkv_chains.specs.Refused.{IsRefused};
 use crate::readings::{record_at, record_home};
 use fkv_base::{Addr, Damage, Fault, Shape};
 use fkv_disk::Device;
-use fkv_record::ManifestSlot;
+use fkv_record::{ManifestSlot, from_or_none};
 
 /// Follows the chain of a home from an address below the scan's start down to its end. The fault of the first record that
 /// has one.
@@ -33,13 +33,14 @@ pub(crate) fn follow<D: Device>(
         let Some(found) = record_at(d, shape, addr)? else {
             return Err(Fault::Damaged(Damage::Record, addr.0));
         };
-        if found.header.version.0 > slot.number || found.header.previous.0 >= addr.0 {
+        let previous = from_or_none(slot.begin, found.header.previous);
+        if found.header.version.0 > slot.number || previous.0 >= addr.0 {
             return Err(Fault::Damaged(Damage::Record, addr.0));
         }
         if found.header.invalid || record_home(&found, shape.bucket_bits) != home {
             return Err(Fault::Damaged(Damage::Link, addr.0));
         }
-        addr = found.header.previous;
+        addr = previous;
     }
     Ok(())
 }

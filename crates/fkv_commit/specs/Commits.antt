@@ -13,8 +13,8 @@ is_log Full = false
 is_log Log = true
 
 -- as it has started: its end and the epoch of its last arming aren't known yet
-abbrev pub commit_begun : Version → CommitKind → Addr → Commit
-commit_begun number kind first = record { number = number; kind = kind; first = first; end = record { 0 = 0 }; epoch = 0; is_copied = is_log kind }
+abbrev pub commit_begun : Version → CommitKind → Addr → Addr → Commit
+commit_begun number kind begin first = record { number = number; kind = kind; begin = begin; first = first; end = record { 0 = 0 }; epoch = 0; is_copied = is_log kind }
 
 -- the version that follows, up to the last
 abbrev pub version_after : Version → Version

@@ -10,6 +10,8 @@ pub struct Commit {
     /// The commit's number, and the version that it commits.
     pub number: Version,
     pub kind: CommitKind,
+    /// The address at which its log begins.
+    pub begin: Addr,
     /// The tail as it was in prepare: a home's entry that the copy doesn't have is of a record from here on.
     pub first: Addr,
     /// Where the committed part of the log ends; 0 before the points are taken.
@@ -22,12 +24,13 @@ pub struct Commit {
 
 impl Commit {
     /// The commit as it has started.
-    pub fn begun(number: Version, kind: CommitKind, first: Addr) -> Commit
-        ensures { result ≡ commit_begun number kind first }
+    pub fn begun(number: Version, kind: CommitKind, begin: Addr, first: Addr) -> Commit
+        ensures { result ≡ commit_begun number kind begin first }
     {
         Commit {
             number,
             kind,
+            begin,
             first,
             end: Addr(0),
             epoch: 0,

@@ -39,14 +39,15 @@ point_there o number points d same below =
     ap (λ (its : List Serial). get_or (map (λ (it : Serial). it.0) its) number 0) (sym same) ∙ get_or-map (λ (it : Serial). it.0) points number d 0 below
 
 pub sits_down : (o : Opened) (number : ℕ) (seen : Seen) (points : List Serial) (d : Serial) (s : Sitter) → IsOpeningSeen o seen → points ≡ o.points.items → number < length points
-    → s.seat.shape ≡ o.shape → s.seat.number ≡ number → ArePlacesOfStore o.shape s.seat.places → s.state.seen ≡ seen → s.state.serial ≡ (get_or points number d).0 → IsOpened s.state → IsOpeningSitter o number s
-sits_down o number seen points d s shown same below shape at places saw serial opened = record {
+    → s.seat.shape ≡ o.shape → s.seat.number ≡ number → ArePlacesOfStore o.shape s.seat.places → s.state.seen ≡ seen → s.state.serial ≡ (get_or points number d).0 → s.state.floor ≡ o.begin → IsOpened s.state → IsOpeningSitter o number s
+sits_down o number seen points d s shown same below shape at places saw serial floor opened = record {
   shape = shape;
   at_number = at;
   places = places;
   state = record {
     opened = opened;
     serial = serial ∙ sym (point_there o number points d same below);
+    floor = floor;
     saw = subst (λ (it : Seen). IsOpeningSeen o it) (sym saw) shown;
   };
 }

@@ -21,10 +21,11 @@ pub record IsOpeningSeen (o : Opened) (seen : Seen) : Type 0 where
   pub head : seen.offsets.head ≡ o.warm
   pub read_only : seen.offsets.read_only ≡ o.tail
 
--- a session that is awake with no call in hand: its point is its last serial
+-- a session that is awake with no call in hand: its point is its last serial, and its floor the log's begin
 pub record IsOpeningSession (o : Opened) (number : ℕ) (s : SessionState) : Type 0 where
   pub opened : IsOpened s
   pub serial : s.serial ≡ point_of o number
+  pub floor : s.floor ≡ o.begin
   pub saw : IsOpeningSeen o s.seen
 
 -- it sits at its number, in this store
@@ -45,6 +46,7 @@ area_numbered number = if number == 0 then First else Second
 abbrev pub newest_commit : Opened → Finality
 newest_commit o = record {
   number = o.number;
+  begin = o.begin;
   points = o.points.items;
   checkpoint = record { number = o.checkpoint.number; first = o.checkpoint.first; triples = o.checkpoint.triples; area = area_numbered o.checkpoint.area };
   gates = o.gates;

@@ -42,7 +42,7 @@ impl<D: Device + Drop> World<D> {
     }
 }
 
-/// A session for each seat: each has seen what the words say, and its point is its last serial.
+/// A session for each seat: each has seen what the words say, its point is its last serial, and its floor is the log's begin.
 #[tactic(auto, using(crate::proofs::Sitters::none_sit))]
 fn opening_sessions(alloc: Global, opened: &Opened) -> Result<Vec<Session>, Fault>
     ensures seats { IfOk result (λ sessions. length sessions.items ≡ opened.now.shape.sessions) }
@@ -52,7 +52,7 @@ fn opening_sessions(alloc: Global, opened: &Opened) -> Result<Vec<Session>, Faul
     let seen = seen_at_opening(opened);
     let mut sessions = Vec::new(alloc);
     for (number, point) in opened.points.iter().enumerate() {
-        sessions.push(Session::new(opened.shape, number, seen, *point))?;
+        sessions.push(Session::new(opened.shape, number, seen, *point, opened.begin))?;
     }
     Ok(sessions)
 }
@@ -88,11 +88,12 @@ fn opening_keeper(alloc: Global, opened: &Opened) -> Result<Keeper, Fault>
 
 /// The newest finished commit, with the checkpoint that it uses.
 fn newest_commit(opened: &Opened) -> LastCommit
-    ensures { record { number = result.number; points = result.points.items; checkpoint = result.checkpoint; gates = result.gates } ≡ newest_commit opened.now }
+    ensures { record { number = result.number; begin = result.begin; points = result.points.items; checkpoint = result.checkpoint; gates = result.gates } ≡ newest_commit opened.now }
 {
     let used = opened.checkpoint;
     LastCommit {
         number: opened.number,
+        begin: opened.begin,
         points: points_listed(&opened.points),
         checkpoint: Checkpoint {
             number: used.number,

@@ -15,7 +15,8 @@ use Rattle.fkv_record.specs.declared.formats.Format.TheVariants.{Third}
 use Rattle.fkv_record.specs.declared.manifest_slots.ManifestSlot.{ManifestSlot}
 use Rattle.fkv_record.specs.declared.points.Points.{Points}
 use Rattle.fkv_record.specs.Layout.{shape_bytes}
-use Rattle.fkv_record.specs.Manifest.{SlotSaid, manifest_bytes, newest_bytes, said_in, third_numbers}
+use Rattle.fkv_record.specs.Manifest.{SlotSaid, newest_bytes, said_in}
+use Rattle.fkv_record.proofs.Shown.{third_spelled}
 use Rattle.fkv_record.specs.Points.{serial_numbers}
 use Rattle.fkv_creating.specs.Created.{IsCreated, IsNew, IsNewSlot, IsNewStore, created_bytes, laid, new_said}
 use Rattle.fkv_creating.specs.Long.{IsLong}
@@ -55,17 +56,19 @@ new_slot shape = record {
   points = new_points shape;
   checkpoint = 0;
   lost = record { ranges = record { items = [] }; few_ranges = omega arith };
+  begin = record { 0 = 1 };
   number_fits = omega arith;
   first_fits = omega arith;
   end_fits = omega arith;
   triples_fit = omega arith;
   area_fits = omega arith;
   checkpoint_fits = omega arith;
+  begin_fits = omega arith;
 }
 
 is_new_slot : (shape : Shape) → IsNewSlot shape.sessions (new_slot shape)
 unfolding new_slot new_points
-is_new_slot shape = record { number = refl; first = refl; end = refl; triples = refl; area = refl; points = numbers_of shape.sessions; checkpoint = refl; lost = refl }
+is_new_slot shape = record { number = refl; first = refl; end = refl; triples = refl; area = refl; points = numbers_of shape.sessions; checkpoint = refl; lost = refl; begin = refl }
 
 new_newest : Shape → Newest
 new_newest shape = record { shape = shape; index = 0; format = Third; slot = new_slot shape; open_numbers = (Some 0, None); fits = suits_new shape (new_slot shape) (is_new_slot shape) }
@@ -101,10 +104,13 @@ same_serials (x ∷ xs) (y ∷ ys) e =
 -- what a new slot says
 pub said_new : (sessions : ℕ) (slot : ManifestSlot) → IsNewSlot sessions slot → said_in slot ≡ new_said sessions
 unfolding addr_at no_serials
-said_new sessions slot new = λ i. record { number = new.number i; first = first i; end = end i; triples = new.triples i; area = new.area i; points = points i; checkpoint = new.checkpoint i; lost = new.lost i }
+said_new sessions slot new = λ i. record { number = new.number i; first = first i; end = end i; triples = new.triples i; area = new.area i; points = points i; checkpoint = new.checkpoint i; lost = new.lost i; begin = begin i }
   where
     first : slot.first ≡ addr_at 1
     first = addr_is slot.first (addr_at 1) new.first
+
+    begin : slot.begin ≡ addr_at 1
+    begin = addr_is slot.begin (addr_at 1) new.begin
 
     end : slot.end ≡ addr_at 1
     end = addr_is slot.end (addr_at 1) new.end
@@ -113,10 +119,6 @@ said_new sessions slot new = λ i. record { number = new.number i; first = first
     points = same_serials slot.points.serials.items (no_serials sessions) (new.points ∙ sym (numbers_of sessions))
 
 -- ---- the bytes
-spelled_so : (slot : ManifestSlot) → Some (newest_bytes (said_in slot)) ≡ manifest_bytes (Third, slot)
-unfolding manifest_bytes newest_bytes third_numbers
-spelled_so slot = refl
-
 pub is_created : (old : List ℕ) (shape : Shape) → IsCreated shape (created_bytes old shape)
 is_created old shape =
     let n : Newest = new_newest shape in
@@ -125,7 +127,7 @@ is_created old shape =
     record {
       newest = n;
       is_new = new;
-      told = subst (λ (image : List ℕ). IsNewestOf image n) as_said (newest_told old n shape new (spelled_so n.slot));
+      told = subst (λ (image : List ℕ). IsNewestOf image n) as_said (newest_told old n shape new (third_spelled n.slot new.slot.begin));
       long = subst (λ (image : List ℕ). IsLong image n.shape n.slot) as_said (is_long old n shape new);
     }
 
@@ -145,6 +147,7 @@ unfolding vec_of
 new_opened shape = record {
   shape = shape;
   number = record { 0 = 0 };
+  begin = record { 0 = 1 };
   tail = record { 0 = 1 };
   points = vec_of (no_serials shape.sessions) (few_points shape);
   gates = (true, false);
@@ -159,11 +162,15 @@ new_opened shape = record {
   some_tail = omega arith;
   tail_on_disk = on_disk shape;
   some_warm = omega arith;
+  warm_from_begin = omega arith;
   warm_in_log = omega arith;
   warm_in_ring = room_in_ring shape 1;
   three_words = refl;
   each_session = many shape.sessions;
   small_points = points_fit (no_serials shape.sessions) shape.sessions (numbers_of shape.sessions);
+  some_begin = omega arith;
+  begin_before_scan = omega arith;
+  whole = λ specified. refl;
   some_first = omega arith;
   upwards = omega arith;
   few_triples = omega arith;
@@ -176,6 +183,7 @@ unfolding new_opened vec_of
 opened_is_new shape = record {
   its_shape = refl;
   number = refl;
+  begin = refl;
   tail = refl;
   points = numbers_of shape.sessions;
   gate_0 = refl;
@@ -194,6 +202,7 @@ module _ (image : List ℕ) (shape : Shape) (n : Newest) (o : Opened) (new : IsN
   tells = record {
     shape = store.its_shape ∙ sym new.its_shape;
     number = store.number ∙ sym new.slot.number;
+    begin = addr_is o.begin n.slot.begin (store.begin ∙ sym new.slot.begin);
     tail = addr_is o.tail n.slot.end (store.tail ∙ sym new.slot.end);
     points = same_serials o.points.items n.slot.points.serials.items (store.points ∙ sym new.slot.points);
     gate_0 = store.gate_0 ∙ sym (ap is_some new.open_0);

@@ -84,6 +84,7 @@ module _ (image : List ℕ) (shape : Shape) (n : Newest) (o : Opened) (apart : (
   only_new = record {
     its_shape = held.tells.shape ∙ same_shape;
     number = held.tells.number ∙ slot.number;
+    begin = ap (λ (x : Addr). x.0) held.tells.begin ∙ slot.begin;
     tail = ap (λ (x : Addr). x.0) held.tells.tail ∙ slot.end;
     points = ap serial_numbers held.tells.points ∙ slot.points;
     gate_0 = held.tells.gate_0 ∙ gate_0;

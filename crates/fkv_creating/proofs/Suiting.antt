@@ -36,6 +36,7 @@ suits_new shape slot new = record {
     upwards = omega (arith, new.first, new.end);
     on_disk = omega (arith, new.end, (let room : 1 ≤ shape.disk_pages * shape.page = mul-le-mul shape.limits.some_disk (page_some shape.page shape.limits.page_size) in room));
   };
+  begin = record { some = omega (arith, new.begin); before_scan = omega (arith, new.begin, new.first); whole = λ specified. (new.begin, λ same. cc) };
   checkpoint = record {
     few = omega (arith, new.triples);
     area = omega (arith, new.area);

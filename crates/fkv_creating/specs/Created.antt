@@ -25,6 +25,7 @@ pub record IsNewSlot (sessions : ℕ) (slot : ManifestSlot) : Type 0 where
   pub points : serial_numbers slot.points.serials.items ≡ replicate sessions 0
   pub checkpoint : slot.checkpoint ≡ 0
   pub lost : slot.lost.ranges.items ≡ []
+  pub begin : slot.begin.0 ≡ 1
 
 -- A store of this shape is new: such a slot, in the third format, is the newest, and it alone is open.
 pub record IsNew (shape : Shape) (n : Newest) : Type 0 where
@@ -40,6 +41,7 @@ pub record IsNew (shape : Shape) (n : Newest) : Type 0 where
 pub record IsNewStore (shape : Shape) (store : Opened) : Type 0 where
   pub its_shape : store.shape ≡ shape
   pub number : store.number.0 ≡ 0
+  pub begin : store.begin.0 ≡ 1
   pub tail : store.tail.0 ≡ 1
   pub points : serial_numbers store.points.items ≡ replicate shape.sessions 0
   pub gate_0 : store.gates.0 ≡ true
@@ -84,7 +86,7 @@ pub record IsCreated (shape : Shape) (image : List ℕ) : Type 0 where
 
 -- what the slot of commit 0 says, where a store has so many sessions
 abbrev pub new_said : ℕ → SlotSaid
-new_said sessions = record { number = 0; first = record { 0 = 1 }; end = record { 0 = 1 }; triples = 0; area = 0; points = replicate sessions (record { 0 = 0 }); checkpoint = 0; lost = [] }
+new_said sessions = record { number = 0; first = record { 0 = 1 }; end = record { 0 = 1 }; triples = 0; area = 0; points = replicate sessions (record { 0 = 0 }); checkpoint = 0; lost = []; begin = record { 0 = 1 } }
 
 -- the bytes of a new store of a shape, over a device that holds these
 abbrev pub created_bytes : List ℕ → Shape → List ℕ

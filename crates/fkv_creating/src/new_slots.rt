@@ -34,6 +34,7 @@ fn new_slot(shape: Shape) -> ManifestSlot
         lost: LostRanges {
             ranges: ArrayVec::new(),
         },
+        begin: Addr(1),
     }
 }
 

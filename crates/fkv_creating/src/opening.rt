@@ -43,6 +43,7 @@ fn opened(alloc: Global, newest: &Newest) -> Result<Opened, Fault>
     Ok(Opened {
         shape: newest.shape,
         number: Version(newest.slot.number),
+        begin: newest.slot.begin,
         tail: newest.slot.end,
         points,
         gates,

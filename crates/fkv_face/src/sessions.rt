@@ -39,11 +39,12 @@ pub(crate) fn run_op(session: &mut HeldSession, op: Op) -> Numbers
     told_by(session.lent().op(op))
 }
 
+/// Tells what came of an update.
 #[inline(always)]
-fn make_update(session: &mut HeldSession, op: Op, told: &mut Update) -> i32
-    ensures { says.IsUpdated (says.opening ⟦<Posted<'static> as Device>⟧) session.old.value op result told.new session.new.value }
+fn tell_update(its: Numbers, told: &mut Update) -> i32
+    ensures result { result ≡ its.result }
+    ensures told { told.new ≡ record { serial = its.first; value = its.second; reason = its.third } }
 {
-    let its = run_op(session, op);
     told.serial = its.first;
     told.value = its.second;
     told.reason = its.third;
@@ -70,7 +71,7 @@ pub extern "C" fn fkv_upsert(
 ) -> i32
     ensures { says.IsUpdated (says.opening ⟦<Posted<'static> as Device>⟧) session.old.value (says.upsert_of key value) result told.new session.new.value }
 {
-    make_update(session, Op::Upsert(Key(key), Value(value)), told)
+    tell_update(run_op(session, Op::Upsert(Key(key), Value(value))), told)
 }
 
 /// Adds to the value of a key, up to 2^64 - 2, and tells what it left. Answers and refusals are those of `fkv_upsert`.
@@ -83,7 +84,7 @@ pub extern "C" fn fkv_add(
 ) -> i32
     ensures { says.IsUpdated (says.opening ⟦<Posted<'static> as Device>⟧) session.old.value (says.add_of key number) result told.new session.new.value }
 {
-    make_update(session, Op::Add(Key(key), number), told)
+    tell_update(run_op(session, Op::Add(Key(key), number)), told)
 }
 
 /// Raises the value of a key to this number, and tells what it left. Answers and refusals are those of `fkv_upsert`.
@@ -96,7 +97,7 @@ pub extern "C" fn fkv_max(
 ) -> i32
     ensures { says.IsUpdated (says.opening ⟦<Posted<'static> as Device>⟧) session.old.value (says.max_of key number) result told.new session.new.value }
 {
-    make_update(session, Op::Max(Key(key), number), told)
+    tell_update(run_op(session, Op::Max(Key(key), number)), told)
 }
 
 /// The merge of this number, if there is one.
@@ -129,7 +130,7 @@ pub extern "C" fn fkv_merge(
         session.new.value }
 {
     match merge_numbered(which) {
-        Some(which) => make_update(session, Op::Merge(Key(key), which, number), told),
+        Some(which) => tell_update(run_op(session, Op::Merge(Key(key), which, number)), told),
         None => NO_MERGE,
     }
 }
@@ -140,7 +141,7 @@ pub extern "C" fn fkv_merge(
 pub extern "C" fn fkv_keep(session: &mut HeldSession, key: u64, told: &mut Update) -> i32
     ensures { says.IsUpdated (says.opening ⟦<Posted<'static> as Device>⟧) session.old.value (says.keep_of key) result told.new session.new.value }
 {
-    make_update(session, Op::Merge(Key(key), Merge::Keep, 0), told)
+    tell_update(run_op(session, Op::Merge(Key(key), Merge::Keep, 0)), told)
 }
 
 /// Takes the value of a key away. Answers and refusals are those of `fkv_upsert`, but for `ValueReserved`.
@@ -148,7 +149,7 @@ pub extern "C" fn fkv_keep(session: &mut HeldSession, key: u64, told: &mut Updat
 pub extern "C" fn fkv_delete(session: &mut HeldSession, key: u64, told: &mut Update) -> i32
     ensures { says.IsUpdated (says.opening ⟦<Posted<'static> as Device>⟧) session.old.value (says.delete_of key) result told.new session.new.value }
 {
-    make_update(session, Op::Delete(Key(key)), told)
+    tell_update(run_op(session, Op::Delete(Key(key))), told)
 }
 
 /// Tells the phase and the version that the session has seen from now on. `Asleep`.

@@ -158,7 +158,7 @@ module _ (w : GuardWorld) (a : ℕ) (x : Actor) (sound : IsSound w) (got : slice
   begun_arms ToShift slot c e = inl (e, refl)
   begun_arms (ToTurnPage form tail) slot c e = inl (e, refl)
   begun_arms ToFlush slot c e = inl (e, refl)
-  begun_arms ToServe slot c e = inl (e, refl)
+  begun_arms (ToServe begin) slot c e = inl (e, refl)
 
   resumed_arms : (d : EpochMachine) (slot c : ℕ) → WillArm (resumed_machine d) slot c → WillArm d slot c
   resumed_arms (Refreshes step) slot c e = cc
@@ -173,14 +173,14 @@ module _ (w : GuardWorld) (a : ℕ) (x : Actor) (sound : IsSound w) (got : slice
   worked_arms (Shifts s) its busy = shift_arms s.step s.mover (subst (Known w a x) its (sound.knows a x got)) busy
   worked_arms (Turns s) its busy = turn_arms s.step s.mover (subst (Known w a x) its (sound.knows a x got)) busy
   worked_arms (Flushes step bytes) its busy = stays (work_step w.now a x (Flushes step bytes)) refl refl
-  worked_arms (Serves step) its busy = stays (work_step w.now a x (Serves step)) refl refl
+  worked_arms (Serves begin step) its busy = stays (work_step w.now a x (Serves begin step)) refl refl
 
   called_arms : (done : Bool) (work : Work) → ArmsBy (called_near w.now done x work)
   called_arms done (Flushes step bytes) slot c e = inl (e, refl)
   called_arms done work slot c e = inl (e, refl)
 
   read_arms : (bytes : Option (List ℕ)) (work : Work) → ArmsBy (read_near w.now bytes x work)
-  read_arms bytes (Serves step) slot c e = inl (e, refl)
+  read_arms bytes (Serves begin step) slot c e = inl (e, refl)
   read_arms bytes work slot c e = inl (e, refl)
 
   raised_arms : (action : Action) (d : EpochMachine) → x.machine ≡ d → ArmsBy (raised_near w.now action x d)
@@ -230,14 +230,14 @@ module _ (w : GuardWorld) (a : ℕ) (x : Actor) (sound : IsSound w) (got : slice
     worked_keeps (Shifts s) none busy = put_elsewhere w.now.actions (shift_ask (shift_next w.now.shape s (reply_to w.now.words (shift_ask s)))) slot none
     worked_keeps (Turns s) none busy = put_elsewhere w.now.actions (turn_ask w.now.shape (turn_next w.now.shape s (reply_to w.now.words (turn_ask w.now.shape s)))) slot none
     worked_keeps (Flushes step bytes) none busy = refl
-    worked_keeps (Serves step) none busy = refl
+    worked_keeps (Serves begin step) none busy = refl
 
     called_keeps : (done : Bool) (work : Work) → Keeps (called_near w.now done x work).actions
     called_keeps done (Flushes step bytes) = refl
     called_keeps done work = refl
 
     read_keeps : (bytes : Option (List ℕ)) (work : Work) → Keeps (read_near w.now bytes x work).actions
-    read_keeps bytes (Serves step) = refl
+    read_keeps bytes (Serves begin step) = refl
     read_keeps bytes work = refl
 
     raised_keeps : (action : Action) (d : EpochMachine) → (raise_puts d ≡ Some slot → ⊥) → Keeps (raised_near w.now action x d).actions

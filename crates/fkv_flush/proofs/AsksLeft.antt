@@ -16,7 +16,7 @@ use Rattle.fkv_flush.specs.declared.serving.Serving.{Serving}
 use Rattle.fkv_flush.specs.declared.serving.Serving.TheVariants as serve
 use Rattle.fkv_flush.specs.Devices.{calls_asked}
 use Rattle.fkv_flush.specs.Flushing.{flush_ask, flush_next, flush_done, part_begun}
-use Rattle.fkv_flush.specs.Serving.{serve_ask, serve_next, serve_read, mailbox_from, asked_state}
+use Rattle.fkv_flush.specs.Serving.{serve_ask, serve_next, serve_read, gone_mail, mailbox_from, asked_state}
 use Rattle.fkv_flush.specs.AsksLeft.{GoesOnWhereLeft, asks_behind, flush_asks_left, most_flush_asks, EndsWithin, serve_asks_left, most_serve_asks}
 
 never : {X : Type 0} → true ≡ false → X
@@ -135,24 +135,26 @@ mailbox_left sessions session = tested (nat_lt session sessions) refl
 pub serve_begun_left : (sessions : ℕ) → serve_asks_left sessions (mailbox_from sessions 0) ≤ most_serve_asks sessions
 serve_begun_left sessions = let left = mailbox_left sessions 0 in omega (arith, left)
 
-pub serve_fewer : (sessions : ℕ) (step : Serving) (reply : ℕ) → calls_asked (serve_ask step) ≡ 0 → serve_asks_left sessions (serve_next sessions step reply) ≤ serve_asks_left sessions step - 1
+pub serve_fewer : (sessions begin : ℕ) (step : Serving) (reply : ℕ) → calls_asked (serve_ask step) ≡ 0 → serve_asks_left sessions (serve_next sessions begin step reply) ≤ serve_asks_left sessions step - 1
 unfolding serve_ask serve_next serve_asks_left
-serve_fewer sessions serve.AtRest reply calls = omega arith
-serve_fewer sessions (serve.LoadsState session) reply calls = let left = tested (reply == asked_state) in omega (arith, left)
+serve_fewer sessions begin serve.AtRest reply calls = omega arith
+serve_fewer sessions begin (serve.LoadsState session) reply calls = let left = tested (reply == asked_state) in omega (arith, left)
   where
     tested : (b : Bool) → serve_asks_left sessions (if b then serve.LoadsAddress session else mailbox_from sessions (session + 1)) ≤ 7 * (sessions - (session + 1)) + 6
     tested true = omega arith
     tested false = let left = mailbox_left sessions (session + 1) in omega (arith, left)
-serve_fewer sessions (serve.LoadsAddress session) reply calls = let left = tested (nat_lt reply (2 ^ 48)) in omega (arith, left)
+serve_fewer sessions begin (serve.LoadsAddress session) reply calls = let left = tested (nat_lt reply begin) (nat_lt reply (2 ^ 48)) in omega (arith, left)
   where
-    tested : (b : Bool) → serve_asks_left sessions (if b then serve.Reads session reply else mailbox_from sessions (session + 1)) ≤ 7 * (sessions - (session + 1)) + 5
-    tested true = omega arith
-    tested false = let left = mailbox_left sessions (session + 1) in omega (arith, left)
-serve_fewer sessions (serve.Reads session addr) reply calls = no_call calls
-serve_fewer sessions (serve.StoresHeader session mail) reply calls = omega arith
-serve_fewer sessions (serve.StoresKey session mail) reply calls = omega arith
-serve_fewer sessions (serve.StoresValue session mail) reply calls = omega arith
-serve_fewer sessions (serve.StoresReady session) reply calls = let left = mailbox_left sessions (session + 1) in omega (arith, left)
+    tested : (gone b : Bool)
+        → serve_asks_left sessions (if gone then serve.StoresHeader session (gone_mail begin) else (if b then serve.Reads session reply else mailbox_from sessions (session + 1))) ≤ 7 * (sessions - (session + 1)) + 5
+    tested true b = omega arith
+    tested false true = omega arith
+    tested false false = let left = mailbox_left sessions (session + 1) in omega (arith, left)
+serve_fewer sessions begin (serve.Reads session addr) reply calls = no_call calls
+serve_fewer sessions begin (serve.StoresHeader session mail) reply calls = omega arith
+serve_fewer sessions begin (serve.StoresKey session mail) reply calls = omega arith
+serve_fewer sessions begin (serve.StoresValue session mail) reply calls = omega arith
+serve_fewer sessions begin (serve.StoresReady session) reply calls = let left = mailbox_left sessions (session + 1) in omega (arith, left)
 
 pub serve_read_fewer : (sessions : ℕ) (step : Serving) (bytes : List ℕ) → serve_asks_left sessions (serve_read step bytes) ≤ serve_asks_left sessions step - calls_asked (serve_ask step)
 unfolding serve_ask serve_read serve_asks_left

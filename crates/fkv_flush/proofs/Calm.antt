@@ -328,18 +328,18 @@ module _ (w : GuardWorld) (a : ℕ) (x : Actor) (sound : IsSound w) (got : slice
   work_calm (Turns s) its = asks (turn_ask w.now.shape s) (turn_calm s.step s.mover (subst (Known w a x) its (sound.knows a x got)))
   work_calm (Flushes (flush.RaisesFlushed end) bytes) its = asks (flush_ask w.now.places (flush.RaisesFlushed end)) (omega arith)
   work_calm (Flushes step bytes) its = asks (flush_ask w.now.places step) tt
-  work_calm (Serves (serve.StoresHeader session mail)) its = asks (serve_ask (serve.StoresHeader session mail)) (mail_aside S a session 7 (omega arith) (omega arith))
-  work_calm (Serves (serve.StoresKey session mail)) its = asks (serve_ask (serve.StoresKey session mail)) (mail_aside S a session 8 (omega arith) (omega arith))
-  work_calm (Serves (serve.StoresValue session mail)) its = asks (serve_ask (serve.StoresValue session mail)) (mail_aside S a session 9 (omega arith) (omega arith))
-  work_calm (Serves (serve.StoresReady session)) its = asks (serve_ask (serve.StoresReady session)) (mail_aside S a session 5 (omega arith) (omega arith))
-  work_calm (Serves step) its = asks (serve_ask step) tt
+  work_calm (Serves begin (serve.StoresHeader session mail)) its = asks (serve_ask (serve.StoresHeader session mail)) (mail_aside S a session 7 (omega arith) (omega arith))
+  work_calm (Serves begin (serve.StoresKey session mail)) its = asks (serve_ask (serve.StoresKey session mail)) (mail_aside S a session 8 (omega arith) (omega arith))
+  work_calm (Serves begin (serve.StoresValue session mail)) its = asks (serve_ask (serve.StoresValue session mail)) (mail_aside S a session 9 (omega arith) (omega arith))
+  work_calm (Serves begin (serve.StoresReady session)) its = asks (serve_ask (serve.StoresReady session)) (mail_aside S a session 5 (omega arith) (omega arith))
+  work_calm (Serves begin step) its = asks (serve_ask step) tt
 
   called_calm : (done : Bool) (work : Work) → CalmTo (called_near w.now done x work).words
   called_calm done (Flushes step bytes) = still
   called_calm done work = still
 
   read_calm : (bytes : Option (List ℕ)) (work : Work) → CalmTo (read_near w.now bytes x work).words
-  read_calm bytes (Serves step) = still
+  read_calm bytes (Serves begin step) = still
   read_calm bytes work = still
 
   raises_calm : (action : Action) (d : EpochMachine) → x.machine ≡ d → CalmTo (raised_near w.now action x d).words

@@ -70,8 +70,8 @@ module _ (n : GuardNow) (a : ℕ) (x : Actor) (got : slice_get n.actors a ≡ So
   calls step bytes done its = leads (Calls a done) _ (ap (called_near n done x) its) (one_event n (Calls a done) a x refl got)
 
   -- the read for a mailbox
-  pub reads : (step : Serving) (bytes : Option (List ℕ)) → x.work ≡ Serves step → Leads (Reads a bytes) (near n.words n.actions (record x { work = Serves (mail_read step bytes) }))
-  reads step bytes its = leads (Reads a bytes) _ (ap (read_near n bytes x) its) (one_event n (Reads a bytes) a x refl got)
+  pub reads : (begin : ℕ) (step : Serving) (bytes : Option (List ℕ)) → x.work ≡ Serves begin step → Leads (Reads a bytes) (near n.words n.actions (record x { work = Serves begin (mail_read step bytes) }))
+  reads begin step bytes its = leads (Reads a bytes) _ (ap (read_near n bytes x) its) (one_event n (Reads a bytes) a x refl got)
 
   pub sees : (sight : Sight) → is_none x.undecided ≡ true → Leads (Sees a sight) (near n.words n.actions (record x { seen = seen_with x.seen (Some sight) n.words }))
   sees sight none = leads (Sees a sight) _ (rw none refl) (one_event n (Sees a sight) a x refl got)

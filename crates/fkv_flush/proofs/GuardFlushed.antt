@@ -411,7 +411,7 @@ module _ (keeper start : ℕ) (opened : List ℕ) (calls : List Call) (words : �
       by (Invalidates step) its = aside_case a x got (inr (ap is_flush its))
       by (Shifts s) its = aside_case a x got (inr (ap is_flush its))
       by (Turns s) its = aside_case a x got (inr (ap is_flush its))
-      by (Serves step) its = aside_case a x got (inr (ap is_flush its))
+      by (Serves begin step) its = aside_case a x got (inr (ap is_flush its))
       by (Flushes step bytes) its = elim (truth (is_idle (Flushes step bytes))) [
         | inl idle ↦ aside_case a x got (inl (ap is_idle its ∙ idle))
         | inr busy ↦ elim (subst (Row keeper shape opened calls words flushed a) its (was.rows a x got)) [
@@ -456,7 +456,7 @@ module _ (keeper start : ℕ) (opened : List ℕ) (calls : List Call) (words : �
       by (Invalidates step) its = no_flush_call a done (λ b y found. to_work (Invalidates step) b y its found)
       by (Shifts s) its = no_flush_call a done (λ b y found. to_work (Shifts s) b y its found)
       by (Turns s) its = no_flush_call a done (λ b y found. to_work (Turns s) b y its found)
-      by (Serves step) its = no_flush_call a done (λ b y found. to_work (Serves step) b y its found)
+      by (Serves begin step) its = no_flush_call a done (λ b y found. to_work (Serves begin step) b y its found)
 
   pub happens_flushed : (event : GuardEvent) → FlushesAlone keeper event → IsPermittedEvent w.now event → After event (event_calls w.now event ++ calls)
   happens_flushed (Begins a (ToDo task)) alone permitted = quiet_case (Begins a (ToDo task)) permitted refl
@@ -466,7 +466,7 @@ module _ (keeper start : ℕ) (opened : List ℕ) (calls : List Call) (words : �
   happens_flushed (Begins a ToShift) alone permitted = quiet_case (Begins a ToShift) permitted refl
   happens_flushed (Begins a (ToTurnPage form tail)) alone permitted = quiet_case (Begins a (ToTurnPage form tail)) permitted refl
   happens_flushed (Begins a ToFlush) alone permitted = begins_case a alone
-  happens_flushed (Begins a ToServe) alone permitted = quiet_case (Begins a ToServe) permitted refl
+  happens_flushed (Begins a (ToServe begin)) alone permitted = quiet_case (Begins a (ToServe begin)) permitted refl
   happens_flushed (Moves a) alone permitted = moves_case a (slice_get w.now.actors a) refl
   happens_flushed (Calls a done) alone permitted = calls_case a done (slice_get w.now.actors a) refl
   happens_flushed (Resumes a) alone permitted = quiet_case (Resumes a) permitted refl

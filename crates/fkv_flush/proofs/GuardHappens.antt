@@ -69,7 +69,7 @@ idle_knows w l A d u (Invalidates invalidate.AtRest) e = tt
 idle_knows w l A d u (Shifts s) e = shift_rest_knows l d s.step s.mover e
 idle_knows w l A d u (Turns s) e = turn_rest_knows w.now.shape l d s.step s.mover e
 idle_knows w l A d u (Flushes flush.AtRest bytes) e = tt
-idle_knows w l A d u (Serves serve.AtRest) e = tt
+idle_knows w l A d u (Serves begin serve.AtRest) e = tt
 idle_knows w l A d u work e = cc
 
 -- the machine of the epochs goes on
@@ -117,8 +117,8 @@ moved_by w a x (Shifts s) sound got its = shift_moved w a x s.step s.mover sound
 moved_by w a x (Turns s) sound got its = turn_moved w a x s.step s.mover sound got its
 moved_by w a x (Flushes flush.AtRest bytes) sound got its = machine_case w a x x.machine sound got (ap is_idle its) refl
 moved_by w a x (Flushes step bytes) sound got its = flush_moves w a x step bytes sound got refl (subst (Known w a x) its (sound.knows a x got))
-moved_by w a x (Serves serve.AtRest) sound got its = machine_case w a x x.machine sound got (ap is_idle its) refl
-moved_by w a x (Serves step) sound got its = serve_moves w a x step sound got refl (subst (Known w a x) its (sound.knows a x got))
+moved_by w a x (Serves begin serve.AtRest) sound got its = machine_case w a x x.machine sound got (ap is_idle its) refl
+moved_by w a x (Serves begin step) sound got its = serve_moves w a x begin step sound got refl (subst (Known w a x) its (sound.knows a x got))
 
 pub moved_sound : (w : GuardWorld) (a : ℕ) (found : Option Actor) → slice_get w.now.actors a ≡ found → IsSound w → IsSound (record { now = moved w.now a found; past = machine_moved w.now a w.past found })
 moved_sound w a None got sound = sound
@@ -230,7 +230,7 @@ begins w a x (ToInvalidate header) sound got rest idle may = looks w a x (record
 begins w a x ToShift sound got rest idle may = looks w a x (record x { work = Shifts shift_begun }) sound got refl refl (λ addr u. u) (refl, rest)
 begins w a x (ToTurnPage form tail) sound got rest idle may = looks w a x (record x { work = Turns (turn_begun form tail) }) sound got refl refl (λ addr u. u) (refl, rest)
 begins w a x ToFlush sound got rest idle may = looks w a x (record x { work = Flushes flush.LoadsFlushed [] }) sound got refl refl (λ addr u. u) tt
-begins w a x ToServe sound got rest idle may = looks w a x (started w.now x ToServe) sound got refl refl (λ addr u. u) (next_mailbox w a x 0)
+begins w a x (ToServe begin) sound got rest idle may = looks w a x (started w.now x (ToServe begin)) sound got refl refl (λ addr u. u) (next_mailbox w a x begin 0)
 
 pub begun_so : (w : GuardWorld) (a : ℕ) (task : GuardTask) (found : Option Actor) → slice_get w.now.actors a ≡ found → IsSound w → IsSound (record { now = begun w.now a task found; past = w.past })
 begun_so w a task None got sound = sound
@@ -281,8 +281,8 @@ called_so w a done None got sound = sound
 called_so w a done (Some x) got sound = called_case w a done x x.work sound got refl
 
 read_case : (w : GuardWorld) (a : ℕ) (bytes : Option (List ℕ)) (x : Actor) (work : Work) → IsSound w → slice_get w.now.actors a ≡ Some x → x.work ≡ work → IsSound (record { now = read_by w.now a bytes x work; past = w.past })
-read_case w a None x (Serves step) sound got its = looks w a x (record x { work = Serves serve.AtRest }) sound got refl refl (λ addr u. u) tt
-read_case w a (Some bytes) x (Serves step) sound got its = read_sound w a x step bytes sound got (subst (Known w a x) its (sound.knows a x got))
+read_case w a None x (Serves begin step) sound got its = looks w a x (record x { work = Serves begin serve.AtRest }) sound got refl refl (λ addr u. u) tt
+read_case w a (Some bytes) x (Serves begin step) sound got its = read_sound w a x begin step bytes sound got (subst (Known w a x) its (sound.knows a x got))
 read_case w a bytes x work sound got its = sound
 
 pub read_so : (w : GuardWorld) (a : ℕ) (bytes : Option (List ℕ)) (found : Option Actor) → slice_get w.now.actors a ≡ found → IsSound w → IsSound (record { now = read w.now a bytes found; past = w.past })

@@ -82,7 +82,7 @@ low_aside sessions place low = λ session few is. omega (arith, low, is.0)
 
 -- whether the work is to serve mailboxes
 abbrev pub is_serve : Work → Bool
-is_serve (Serves step) = true
+is_serve (Serves begin step) = true
 is_serve work = false
 
 -- An actor that there is, in a world that is sound.
@@ -136,7 +136,7 @@ module _ (w : GuardWorld) (a : ℕ) (x : Actor) (sound : IsSound w) (got : slice
   work_aside (Turns s) its apart = turn_aside s.step s.mover (subst (Known w a x) its (sound.knows a x got))
   work_aside (Flushes (flush.RaisesFlushed end) bytes) its apart = low_aside S 7 (omega arith)
   work_aside (Flushes step bytes) its apart = tt
-  work_aside (Serves step) its apart = cc
+  work_aside (Serves begin step) its apart = cc
 
   -- a step of an actor that is not serving
   pub moves_aside : (is_idle x.work ≡ true) ⊎ (is_serve x.work ≡ false) → SparesMail S (event_writes w.now (Moves a))

@@ -9,7 +9,7 @@ use Rattle.fkv_flush.specs.declared.serving.Serving.{Serving}
 use Rattle.fkv_flush.specs.declared.serving.Serving.TheVariants as serve
 use Rattle.fkv_flush.specs.Serving.{asked_state, ready_state, mailbox_from}
 use Rattle.fkv_flush.specs.GuardCalm.{actor_of}
-use Rattle.fkv_flush.specs.GuardMail.{Mailbox, MailRead, HasRead, FindsAsked, ServesAlone, AskerChanges}
+use Rattle.fkv_flush.specs.GuardMail.{Mailbox, MailGiven, HasGiven, FindsAsked, ServesAlone, AskerChanges}
 use Rattle.fkv_flush.specs.GuardWorld.{Actor, Work, Rests, Reserves, Fills, Invalidates, Shifts, Turns, Flushes, Serves, GuardTask, ToDo, ToReserve, ToFill, ToInvalidate, ToShift, ToTurnPage, ToFlush, ToServe, GuardNow, GuardWorld, GuardEvent, Begins, Resumes, Moves, Calls, Reads, Sees, Publishes, Updates, RaisesReadOnly, RaisesFor, Changes, CallsElse, is_idle, is_none, is_stored, may_work, work_step, actor_step, started}
 use Rattle.fkv_flush.proofs.GuardSound.{IsSound}
 use Rattle.fkv_flush.proofs.GuardWorks.{truth, Known}
@@ -17,9 +17,9 @@ use Rattle.fkv_flush.proofs.GuardMailPlaces.{is_serve}
 use Rattle.fkv_flush.proofs.OneEvent.{event_near, called_near, read_near, raised_near}
 
 -- what is known of an actor that serves: it is at rest, or it is the keeper and finds what it goes by
-abbrev pub Row : ℕ → List MailRead → (ℕ → Mailbox) → ℕ → Work → Type 0
-Row keeper reads boxes b (Serves step) = (step ≡ serve.AtRest) ⊎ ((b ≡ keeper) × FindsAsked reads boxes step)
-Row keeper reads boxes b work = ⊤
+abbrev pub Row : ℕ → List MailGiven → (ℕ → Mailbox) → ℕ → Work → Type 0
+Row keeper given boxes b (Serves begin step) = (step ≡ serve.AtRest) ⊎ ((b ≡ keeper) × FindsAsked given boxes step)
+Row keeper given boxes b work = ⊤
 
 -- an event that is no ask of an actor, and no read that succeeds
 abbrev pub is_still : GuardEvent → Bool
@@ -42,13 +42,13 @@ IsServedBelow sessions (serve.StoresKey session mail) = session < sessions
 IsServedBelow sessions (serve.StoresValue session mail) = session < sessions
 IsServedBelow sessions (serve.StoresReady session) = session < sessions
 
-pub served_below : (w : GuardWorld) (b : ℕ) (y : Actor) (step : Serving) → IsSound w → slice_get w.now.actors b ≡ Some y → y.work ≡ Serves step → IsServedBelow w.now.places.sessions step
-served_below w b y step sound got its = by step (subst (Known w b y) its (sound.knows b y got))
+pub served_below : (w : GuardWorld) (b : ℕ) (y : Actor) (begin : ℕ) (step : Serving) → IsSound w → slice_get w.now.actors b ≡ Some y → y.work ≡ Serves begin step → IsServedBelow w.now.places.sessions step
+served_below w b y begin step sound got its = by step (subst (Known w b y) its (sound.knows b y got))
   where
     fits : w.now.places.sessions ≡ w.now.shape.sessions
     fits = sound.fits.sessions
 
-    by : (step : Serving) → Known w b y (Serves step) → IsServedBelow w.now.places.sessions step
+    by : (step : Serving) → Known w b y (Serves begin step) → IsServedBelow w.now.places.sessions step
     by serve.AtRest k = tt
     by (serve.LoadsState session) k = rw fits k
     by (serve.LoadsAddress session) k = rw fits k
@@ -59,22 +59,22 @@ served_below w b y step sound got its = by step (subst (Known w b y) its (sound.
     by (serve.StoresReady session) k = rw fits k
 
 -- the keeper finds what it found, where the mailboxes stay or its own is not one that changes
-pub finds_on : (sessions : ℕ) (reads : List MailRead) (boxes boxes' : ℕ → Mailbox) (step : Serving) → ((session : ℕ) → session < sessions → StaysOrIsApart (boxes session) (boxes' session))
-    → IsServedBelow sessions step → FindsAsked reads boxes step → FindsAsked reads boxes' step
-finds_on sessions reads boxes boxes' step stay few finds = by step few finds
+pub finds_on : (sessions : ℕ) (given : List MailGiven) (boxes boxes' : ℕ → Mailbox) (step : Serving) → ((session : ℕ) → session < sessions → StaysOrIsApart (boxes session) (boxes' session))
+    → IsServedBelow sessions step → FindsAsked given boxes step → FindsAsked given boxes' step
+finds_on sessions given boxes boxes' step stay few finds = by step few finds
   where
     with_box : (session : ℕ) (P : Mailbox → Type 0) → session < sessions → (boxes session).state ≡ asked_state → P (boxes session) → P (boxes' session)
     with_box session P few asked holds = elim (stay session few) [ inl same ↦ subst P (sym same) holds | inr apart ↦ absurd (apart.0 asked) ]
 
-    by : (step : Serving) → IsServedBelow sessions step → FindsAsked reads boxes step → FindsAsked reads boxes' step
+    by : (step : Serving) → IsServedBelow sessions step → FindsAsked given boxes step → FindsAsked given boxes' step
     by serve.AtRest few finds = tt
     by (serve.LoadsState session) few finds = tt
     by (serve.LoadsAddress session) few finds = with_box session (λ box. box.state ≡ asked_state) few finds finds
     by (serve.Reads session addr) few finds = with_box session (λ box. (box.state ≡ asked_state) × (box.addr ≡ addr)) few finds.0 finds
-    by (serve.StoresHeader session mail) few finds = with_box session (λ box. HasRead reads session box mail) few finds.0 finds
-    by (serve.StoresKey session mail) few finds = with_box session (λ box. HasRead reads session box mail × (box.mail.header ≡ mail.header)) few finds.0.0 finds
-    by (serve.StoresValue session mail) few finds = with_box session (λ box. HasRead reads session box mail × (box.mail.header ≡ mail.header) × (box.mail.key ≡ mail.key)) few finds.0.0 finds
-    by (serve.StoresReady session) few finds = with_box session (λ box. HasRead reads session box box.mail) few finds.0 finds
+    by (serve.StoresHeader session mail) few finds = with_box session (λ box. HasGiven given session box mail) few finds.0 finds
+    by (serve.StoresKey session mail) few finds = with_box session (λ box. HasGiven given session box mail × (box.mail.header ≡ mail.header)) few finds.0.0 finds
+    by (serve.StoresValue session mail) few finds = with_box session (λ box. HasGiven given session box mail × (box.mail.header ≡ mail.header) × (box.mail.key ≡ mail.key)) few finds.0.0 finds
+    by (serve.StoresReady session) few finds = with_box session (λ box. HasGiven given session box box.mail) few finds.0 finds
 
 -- what an asker changes is no mailbox in which a record is asked for, and none that is ready then
 pub asker_apart : (before after : Mailbox) → AskerChanges before after → (before.state ≢ asked_state) × (after.state ≢ ready_state)
@@ -83,14 +83,14 @@ asker_apart before after (inr (inl asks, same)) = let h = asks.0 in let k = asks
 asker_apart before after (inr (inr takes, same)) = let h = takes.0 in let k = takes.1 in (λ i. omega (arith, i, h), λ i. omega (arith, i, k))
 
 -- nothing is found yet in the mailbox that comes next
-pub next_row : (keeper : ℕ) (reads : List MailRead) (boxes : ℕ → Mailbox) (a sessions session : ℕ) → a ≡ keeper → Row keeper reads boxes a (Serves (mailbox_from sessions session))
+pub next_row : (keeper : ℕ) (given : List MailGiven) (boxes : ℕ → Mailbox) (a begin sessions session : ℕ) → a ≡ keeper → Row keeper given boxes a (Serves begin (mailbox_from sessions session))
 unfolding mailbox_from
-next_row keeper reads boxes a sessions session mine = elim (truth (nat_lt session sessions)) [ inl e ↦ rw e (inr (mine, tt)) | inr e ↦ rw e (inl refl) ]
+next_row keeper given boxes a begin sessions session mine = elim (truth (nat_lt session sessions)) [ inl e ↦ rw e (inr (mine, tt)) | inr e ↦ rw e (inl refl) ]
 
 -- What an event makes of the row of its actor.
-module _ (n : GuardNow) (keeper : ℕ) (reads : List MailRead) (boxes : ℕ → Mailbox) (a : ℕ) (x : Actor) (row : Row keeper reads boxes a x.work) where
+module _ (n : GuardNow) (keeper : ℕ) (given : List MailGiven) (boxes : ℕ → Mailbox) (a : ℕ) (x : Actor) (row : Row keeper given boxes a x.work) where
   abbrev Holds : Work → Type 0
-  Holds = Row keeper reads boxes a
+  Holds = Row keeper given boxes a
 
   either_row : (b : Bool) (y z : Actor) → Holds y.work → Holds z.work → Holds (if b then y else z).work
   either_row true y z p q = p
@@ -104,14 +104,14 @@ module _ (n : GuardNow) (keeper : ℕ) (reads : List MailRead) (boxes : ℕ → 
   started_row ToShift alone = tt
   started_row (ToTurnPage form tail) alone = tt
   started_row ToFlush alone = tt
-  started_row ToServe alone = next_row keeper reads boxes a n.shape.sessions 0 alone
+  started_row (ToServe begin) alone = next_row keeper given boxes a begin n.shape.sessions 0 alone
 
   called_row : (done : Bool) (work : Work) → Holds (called_near n done x work).actor.work
   called_row done (Flushes step bytes) = tt
   called_row done work = row
 
   failed_row : (work : Work) → Holds (read_near n None x work).actor.work
-  failed_row (Serves step) = inl refl
+  failed_row (Serves begin step) = inl refl
   failed_row work = row
 
   raised_row : (action : Action) (d : EpochMachine) → Holds (raised_near n action x d).actor.work
@@ -127,7 +127,7 @@ module _ (n : GuardNow) (keeper : ℕ) (reads : List MailRead) (boxes : ℕ → 
   works_row (Shifts s) apart = tt
   works_row (Turns s) apart = tt
   works_row (Flushes step bytes) apart = tt
-  works_row (Serves step) apart = cc
+  works_row (Serves begin step) apart = cc
 
   pub stepped_row : (is_idle x.work ≡ true) ⊎ (is_serve x.work ≡ false) → Holds (actor_step n a x).actor.work
   stepped_row why = elim (truth (is_idle x.work)) [

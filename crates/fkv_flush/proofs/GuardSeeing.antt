@@ -44,7 +44,7 @@ begun_seen n x (ToInvalidate header) = refl
 begun_seen n x ToShift = refl
 begun_seen n x (ToTurnPage form tail) = refl
 begun_seen n x ToFlush = refl
-begun_seen n x ToServe = refl
+begun_seen n x (ToServe begin) = refl
 
 -- a machine of the epochs that neither protects itself nor refreshes loads no offset
 steady_sight : (d : EpochMachine) → is_steady d ≡ true → sight_of d ≡ None
@@ -73,7 +73,7 @@ moved_seen w a x sound got addr u = by (is_idle x.work) x.work
     by false (Shifts s) = refl
     by false (Turns s) = refl
     by false (Flushes step bytes) = refl
-    by false (Serves step) = refl
+    by false (Serves begin step) = refl
 
 some_not : {X : Type 0} (u : Option ℕ) (addr : ℕ) → is_none u ≡ true → u ≡ Some addr → X
 some_not None addr e f = cc
@@ -108,7 +108,7 @@ all_see w (Calls a done) sound = by (slice_get w.now.actors a) refl
 all_see w (Reads a bytes) sound = by (slice_get w.now.actors a) refl
   where
     by_work : (x : Actor) (work : Work) → slice_get w.now.actors a ≡ Some x → AllSee w.now.actors (read_by w.now a bytes x work).actors
-    by_work x (Serves step) got = put_sees w.now.actors a x _ got (λ addr u. refl)
+    by_work x (Serves begin step) got = put_sees w.now.actors a x _ got (λ addr u. refl)
     by_work x work got = all_same w.now.actors
 
     by : (found : Option Actor) → slice_get w.now.actors a ≡ found → AllSee w.now.actors (read w.now a bytes found).actors

@@ -102,14 +102,14 @@ Knows shape l Awake d undecided (Flushes (flush.LoadsWord part addr word) bytes)
 Knows shape l Awake d undecided (Flushes (flush.WritesPart part) bytes) = part.end ≤ l.safe_read_only
 Knows shape l Awake d undecided (Flushes (flush.Syncs end) bytes) = end ≤ l.safe_read_only
 Knows shape l Awake d undecided (Flushes (flush.RaisesFlushed end) bytes) = end ≤ l.safe_read_only
-Knows shape l Awake d undecided (Serves serve.AtRest) = ⊤
-Knows shape l Awake d undecided (Serves (serve.LoadsState session)) = session < shape.sessions
-Knows shape l Awake d undecided (Serves (serve.LoadsAddress session)) = session < shape.sessions
-Knows shape l Awake d undecided (Serves (serve.Reads session addr)) = session < shape.sessions
-Knows shape l Awake d undecided (Serves (serve.StoresHeader session mail)) = session < shape.sessions
-Knows shape l Awake d undecided (Serves (serve.StoresKey session mail)) = session < shape.sessions
-Knows shape l Awake d undecided (Serves (serve.StoresValue session mail)) = session < shape.sessions
-Knows shape l Awake d undecided (Serves (serve.StoresReady session)) = session < shape.sessions
+Knows shape l Awake d undecided (Serves begin serve.AtRest) = ⊤
+Knows shape l Awake d undecided (Serves begin (serve.LoadsState session)) = session < shape.sessions
+Knows shape l Awake d undecided (Serves begin (serve.LoadsAddress session)) = session < shape.sessions
+Knows shape l Awake d undecided (Serves begin (serve.Reads session addr)) = session < shape.sessions
+Knows shape l Awake d undecided (Serves begin (serve.StoresHeader session mail)) = session < shape.sessions
+Knows shape l Awake d undecided (Serves begin (serve.StoresKey session mail)) = session < shape.sessions
+Knows shape l Awake d undecided (Serves begin (serve.StoresValue session mail)) = session < shape.sessions
+Knows shape l Awake d undecided (Serves begin (serve.StoresReady session)) = session < shape.sessions
 
 ahead_more : (l l' : Levels) (offset : Offset) (to : ℕ) → Rises l l' → IsAhead l offset to → IsAhead l' offset to
 ahead_more l l' ReadOnly to up h = let r = up.tail in omega (arith, h, r)
@@ -178,14 +178,14 @@ knows_more shape l l' A A' d u (Flushes (flush.LoadsWord part addr word) bytes) 
 knows_more shape l l' A A' d u (Flushes (flush.WritesPart part) bytes) up on k = let r = up.safe_read_only in omega (arith, k, r)
 knows_more shape l l' A A' d u (Flushes (flush.Syncs end) bytes) up on k = let r = up.safe_read_only in omega (arith, k, r)
 knows_more shape l l' A A' d u (Flushes (flush.RaisesFlushed end) bytes) up on k = let r = up.safe_read_only in omega (arith, k, r)
-knows_more shape l l' A A' d u (Serves serve.AtRest) up on k = tt
-knows_more shape l l' A A' d u (Serves (serve.LoadsState session)) up on k = k
-knows_more shape l l' A A' d u (Serves (serve.LoadsAddress session)) up on k = k
-knows_more shape l l' A A' d u (Serves (serve.Reads session addr)) up on k = k
-knows_more shape l l' A A' d u (Serves (serve.StoresHeader session mail)) up on k = k
-knows_more shape l l' A A' d u (Serves (serve.StoresKey session mail)) up on k = k
-knows_more shape l l' A A' d u (Serves (serve.StoresValue session mail)) up on k = k
-knows_more shape l l' A A' d u (Serves (serve.StoresReady session)) up on k = k
+knows_more shape l l' A A' d u (Serves begin serve.AtRest) up on k = tt
+knows_more shape l l' A A' d u (Serves begin (serve.LoadsState session)) up on k = k
+knows_more shape l l' A A' d u (Serves begin (serve.LoadsAddress session)) up on k = k
+knows_more shape l l' A A' d u (Serves begin (serve.Reads session addr)) up on k = k
+knows_more shape l l' A A' d u (Serves begin (serve.StoresHeader session mail)) up on k = k
+knows_more shape l l' A A' d u (Serves begin (serve.StoresKey session mail)) up on k = k
+knows_more shape l l' A A' d u (Serves begin (serve.StoresValue session mail)) up on k = k
+knows_more shape l l' A A' d u (Serves begin (serve.StoresReady session)) up on k = k
 
 -- a session that goes by a read-only offset, and will as long as it turns to nothing else
 abbrev pub Awake : GuardNow → ℕ → EpochMachine → Type 0

@@ -48,7 +48,7 @@ same_store w (Calls a done) = by (slice_get w.now.actors a)
 same_store w (Reads a bytes) = by (slice_get w.now.actors a)
   where
     by_work : (x : Actor) (work : Work) → SameStore w.now (read_by w.now a bytes x work)
-    by_work x (Serves step) = (refl, refl)
+    by_work x (Serves begin step) = (refl, refl)
     by_work x work = (refl, refl)
 
     by : (found : Option Actor) → SameStore w.now (read w.now a bytes found)
@@ -142,7 +142,7 @@ begins_none n x a (ToInvalidate header) quiet = refl
 begins_none n x a ToShift quiet = refl
 begins_none n x a (ToTurnPage form tail) quiet = refl
 begins_none n x a ToFlush quiet = cc
-begins_none n x a ToServe quiet = refl
+begins_none n x a (ToServe begin) quiet = refl
 
 pub quiet_stays : (w : GuardWorld) (event : GuardEvent) → is_quiet event ≡ true → AllStay w.now.actors (guard_happens w event).now.actors
 unfolding guard_happens
@@ -161,7 +161,7 @@ quiet_stays w (Calls a done) quiet = cc
 quiet_stays w (Reads a bytes) quiet = by (slice_get w.now.actors a) refl
   where
     by_work : (x : Actor) (work : Work) → slice_get w.now.actors a ≡ Some x → AllStay w.now.actors (read_by w.now a bytes x work).actors
-    by_work x (Serves step) got = put_stay w.now.actors a x _ got (inr refl)
+    by_work x (Serves begin step) got = put_stay w.now.actors a x _ got (inr refl)
     by_work x work got = all_same w.now.actors
 
     by : (found : Option Actor) → slice_get w.now.actors a ≡ found → AllStay w.now.actors (read w.now a bytes found).actors
@@ -212,7 +212,7 @@ works_none n a x (Invalidates step) apart = inl refl
 works_none n a x (Shifts s) apart = inl refl
 works_none n a x (Turns s) apart = inl refl
 works_none n a x (Flushes step bytes) apart = cc
-works_none n a x (Serves step) apart = inl refl
+works_none n a x (Serves begin step) apart = inl refl
 
 -- a step of an actor that is not flushing
 pub moved_stays : (w : GuardWorld) (a : ℕ) (x : Actor) → slice_get w.now.actors a ≡ Some x → (is_idle x.work ≡ true) ⊎ (is_flush x.work ≡ false) → AllStay w.now.actors (moved w.now a (Some x)).actors

@@ -71,7 +71,7 @@ worked_same n a x (Invalidates step) p h = spared n.words (invalidate_ask n.plac
 worked_same n a x (Shifts s) p h = spared n.words (shift_ask s) p h
 worked_same n a x (Turns s) p h = spared n.words (turn_ask n.shape s) p h
 worked_same n a x (Flushes step bytes) p h = spared n.words (flush_ask n.places step) p h
-worked_same n a x (Serves step) p h = spared n.words (serve_ask step) p h
+worked_same n a x (Serves begin step) p h = spared n.words (serve_ask step) p h
 
 -- a machine begins, with no word written
 begun_same : (n : GuardNow) (a : ℕ) (task : GuardTask) (found : Option Actor) (p : ℕ) → word_at (begun n a task found).words p ≡ word_at n.words p
@@ -106,7 +106,7 @@ read_same n a bytes None p = refl
 read_same n a bytes (Some x) p = by x.work
   where
     by : (work : Work) → word_at (read_by n a bytes x work).words p ≡ word_at n.words p
-    by (Serves step) = refl
+    by (Serves begin step) = refl
     by work = refl
 
 -- nor a load of a value that the session goes by
@@ -233,10 +233,10 @@ work_spares n a x (Invalidates (invalidate.StoresHeader addr header)) p h = inl 
 work_spares n a x (Shifts s) p h = inl (shift_spares n s.step s.mover p h)
 work_spares n a x (Turns s) p h = turn_spares n s.step s.mover p h
 work_spares n a x (Flushes (flush.RaisesFlushed end) bytes) p h = elim (same_or p 7) [ inl e ↦ inr e | inr u ↦ inl u ]
-work_spares n a x (Serves (serve.StoresHeader session mail)) p h = inl (λ e. omega (arith, e, h.1))
-work_spares n a x (Serves (serve.StoresKey session mail)) p h = inl (λ e. omega (arith, e, h.1))
-work_spares n a x (Serves (serve.StoresValue session mail)) p h = inl (λ e. omega (arith, e, h.1))
-work_spares n a x (Serves (serve.StoresReady session)) p h = inl (λ e. omega (arith, e, h.1))
+work_spares n a x (Serves begin (serve.StoresHeader session mail)) p h = inl (λ e. omega (arith, e, h.1))
+work_spares n a x (Serves begin (serve.StoresKey session mail)) p h = inl (λ e. omega (arith, e, h.1))
+work_spares n a x (Serves begin (serve.StoresValue session mail)) p h = inl (λ e. omega (arith, e, h.1))
+work_spares n a x (Serves begin (serve.StoresReady session)) p h = inl (λ e. omega (arith, e, h.1))
 work_spares n a x work p h = inl tt
 
 -- the event is a step of an actor with such work

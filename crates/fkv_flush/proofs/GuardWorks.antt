@@ -22,7 +22,7 @@ use Rattle.fkv_flush.specs.declared.flushing.Flushing.TheVariants as flush
 use Rattle.fkv_flush.specs.declared.serving.Serving.{Serving}
 use Rattle.fkv_flush.specs.declared.serving.Serving.TheVariants as serve
 use Rattle.fkv_flush.specs.Flushing.{flush_ask, flush_next, flush_done, bytes_next, bytes_done}
-use Rattle.fkv_flush.specs.Serving.{serve_ask, serve_next, serve_read, mailbox_from}
+use Rattle.fkv_flush.specs.Serving.{serve_ask, serve_next, serve_read, gone_mail, mailbox_from}
 use Rattle.fkv_flush.specs.GuardLevels.{Levels, levels_of}
 use Rattle.fkv_flush.specs.GuardWorld.{Actor, Work, Reserves, Fills, Invalidates, Flushes, Serves, GuardWorld, put_near, work_step, is_idle}
 use Rattle.fkv_flush.proofs.GuardSound.{Knows, IsSound, Awake, after}
@@ -133,12 +133,12 @@ flush_moves w a x (flush.RaisesFlushed end) bytes sound got busy k =
     sound.guard.cover refl refl (λ sight. refl) refl (λ slot c i. i) refl (λ addr u. inl u) tt
 
 -- the session that comes next in a round of the mailboxes is one of the store's
-pub next_mailbox : (w : GuardWorld) (a : ℕ) (x : Actor) (session : ℕ) → Known w a x (Serves (mailbox_from w.now.shape.sessions session))
+pub next_mailbox : (w : GuardWorld) (a : ℕ) (x : Actor) (begin session : ℕ) → Known w a x (Serves begin (mailbox_from w.now.shape.sessions session))
 unfolding mailbox_from
-next_mailbox w a x session = elim (truth (nat_lt session w.now.shape.sessions)) [ inl e ↦ rw e (grind (arith, nat_tests, e)) | inr e ↦ rw e tt ]
+next_mailbox w a x begin session = elim (truth (nat_lt session w.now.shape.sessions)) [ inl e ↦ rw e (grind (arith, nat_tests, e)) | inr e ↦ rw e tt ]
 
-serve_looks : (w : GuardWorld) (a : ℕ) (x : Actor) (step : Serving) → IsSound w → slice_get w.now.actors a ≡ Some x → Known w a x (Serves step) → IsSound (after w a (record x { work = Serves step }) w.now.words w.now.actions w.past)
-serve_looks w a x step sound got k = looks w a x (record x { work = Serves step }) sound got refl refl (λ addr u. u) k
+serve_looks : (w : GuardWorld) (a : ℕ) (x : Actor) (begin : ℕ) (step : Serving) → IsSound w → slice_get w.now.actors a ≡ Some x → Known w a x (Serves begin step) → IsSound (after w a (record x { work = Serves begin step }) w.now.words w.now.actions w.past)
+serve_looks w a x begin step sound got k = looks w a x (record x { work = Serves begin step }) sound got refl refl (λ addr u. u) k
 
 -- a word of a mailbox is none of the epochs'
 mail_elsewhere : (S p r session : ℕ) → p ≡ 24 + 16 * session + r → 1 ≤ r → r < 16 → IsElsewhere S p
@@ -157,30 +157,33 @@ mail_elsewhere S p r session e low high =
     none false true false = refl
     none false false d = refl
 
-pub serve_moves : (w : GuardWorld) (a : ℕ) (x : Actor) (step : Serving) → IsSound w → slice_get w.now.actors a ≡ Some x → is_idle (Serves step) ≡ false → Known w a x (Serves step) → SoundAfter w a x (Serves step)
+pub serve_moves : (w : GuardWorld) (a : ℕ) (x : Actor) (begin : ℕ) (step : Serving) → IsSound w → slice_get w.now.actors a ≡ Some x → is_idle (Serves begin step) ≡ false → Known w a x (Serves begin step) → SoundAfter w a x (Serves begin step)
 unfolding serve_ask serve_next
-serve_moves w a x serve.AtRest sound got busy k = cc
-serve_moves w a x (serve.LoadsState session) sound got busy k =
+serve_moves w a x begin serve.AtRest sound got busy k = cc
+serve_moves w a x begin (serve.LoadsState session) sound got busy k =
     rw (set-get_or w.now.words (session_place session own.MailState) 0)
     (elim (truth (word_at w.now.words (session_place session own.MailState) == 1)) [
-      | inl e ↦ rw e (serve_looks w a x (serve.LoadsAddress session) sound got k)
-      | inr e ↦ rw e (serve_looks w a x (mailbox_from w.now.shape.sessions (session + 1)) sound got (next_mailbox w a x (session + 1)))
+      | inl e ↦ rw e (serve_looks w a x begin (serve.LoadsAddress session) sound got k)
+      | inr e ↦ rw e (serve_looks w a x begin (mailbox_from w.now.shape.sessions (session + 1)) sound got (next_mailbox w a x begin (session + 1)))
     ])
-serve_moves w a x (serve.LoadsAddress session) sound got busy k =
+serve_moves w a x begin (serve.LoadsAddress session) sound got busy k =
     rw (set-get_or w.now.words (session_place session own.MailAddress) 0)
-    (elim (truth (nat_lt (word_at w.now.words (session_place session own.MailAddress)) (2 ^ 48))) [
-      | inl e ↦ rw e (serve_looks w a x (serve.Reads session (word_at w.now.words (session_place session own.MailAddress))) sound got k)
-      | inr e ↦ rw e (serve_looks w a x (mailbox_from w.now.shape.sessions (session + 1)) sound got (next_mailbox w a x (session + 1)))
+    (elim (truth (nat_lt (word_at w.now.words (session_place session own.MailAddress)) begin)) [
+      | inl e ↦ rw e (serve_looks w a x begin (serve.StoresHeader session (gone_mail begin)) sound got k)
+      | inr e ↦ rw e (elim (truth (nat_lt (word_at w.now.words (session_place session own.MailAddress)) (2 ^ 48))) [
+        | inl e ↦ rw e (serve_looks w a x begin (serve.Reads session (word_at w.now.words (session_place session own.MailAddress))) sound got k)
+        | inr e ↦ rw e (serve_looks w a x begin (mailbox_from w.now.shape.sessions (session + 1)) sound got (next_mailbox w a x begin (session + 1)))
+      ])
     ])
-serve_moves w a x (serve.Reads session addr) sound got busy k = serve_looks w a x (serve.Reads session addr) sound got k
-serve_moves w a x (serve.StoresHeader session mail) sound got busy k =
-    writes_elsewhere w a x (record x { work = Serves (serve.StoresKey session mail) }) (session_place session own.MailHeader) mail.header sound got (mail_elsewhere w.now.places.sessions (session_place session own.MailHeader) 7 session (omega arith) (omega arith) (omega arith)) refl refl (λ addr u. u) k
-serve_moves w a x (serve.StoresKey session mail) sound got busy k =
-    writes_elsewhere w a x (record x { work = Serves (serve.StoresValue session mail) }) (session_place session own.MailKey) mail.key sound got (mail_elsewhere w.now.places.sessions (session_place session own.MailKey) 8 session (omega arith) (omega arith) (omega arith)) refl refl (λ addr u. u) k
-serve_moves w a x (serve.StoresValue session mail) sound got busy k =
-    writes_elsewhere w a x (record x { work = Serves (serve.StoresReady session) }) (session_place session own.MailValue) mail.value sound got (mail_elsewhere w.now.places.sessions (session_place session own.MailValue) 9 session (omega arith) (omega arith) (omega arith)) refl refl (λ addr u. u) k
-serve_moves w a x (serve.StoresReady session) sound got busy k =
-    writes_elsewhere w a x (record x { work = Serves (mailbox_from w.now.shape.sessions (session + 1)) }) (session_place session own.MailState) 2 sound got (mail_elsewhere w.now.places.sessions (session_place session own.MailState) 5 session (omega arith) (omega arith) (omega arith)) refl refl (λ addr u. u) (next_mailbox w a x (session + 1))
+serve_moves w a x begin (serve.Reads session addr) sound got busy k = serve_looks w a x begin (serve.Reads session addr) sound got k
+serve_moves w a x begin (serve.StoresHeader session mail) sound got busy k =
+    writes_elsewhere w a x (record x { work = Serves begin (serve.StoresKey session mail) }) (session_place session own.MailHeader) mail.header sound got (mail_elsewhere w.now.places.sessions (session_place session own.MailHeader) 7 session (omega arith) (omega arith) (omega arith)) refl refl (λ addr u. u) k
+serve_moves w a x begin (serve.StoresKey session mail) sound got busy k =
+    writes_elsewhere w a x (record x { work = Serves begin (serve.StoresValue session mail) }) (session_place session own.MailKey) mail.key sound got (mail_elsewhere w.now.places.sessions (session_place session own.MailKey) 8 session (omega arith) (omega arith) (omega arith)) refl refl (λ addr u. u) k
+serve_moves w a x begin (serve.StoresValue session mail) sound got busy k =
+    writes_elsewhere w a x (record x { work = Serves begin (serve.StoresReady session) }) (session_place session own.MailValue) mail.value sound got (mail_elsewhere w.now.places.sessions (session_place session own.MailValue) 9 session (omega arith) (omega arith) (omega arith)) refl refl (λ addr u. u) k
+serve_moves w a x begin (serve.StoresReady session) sound got busy k =
+    writes_elsewhere w a x (record x { work = Serves begin (mailbox_from w.now.shape.sessions (session + 1)) }) (session_place session own.MailState) 2 sound got (mail_elsewhere w.now.places.sessions (session_place session own.MailState) 5 session (omega arith) (omega arith) (omega arith)) refl refl (λ addr u. u) (next_mailbox w a x begin (session + 1))
 
 -- a call of the device, made or failed
 pub called_sound : (w : GuardWorld) (a : ℕ) (x : Actor) (step : Flushing) (bytes : List ℕ) (done : Bool) → IsSound w → slice_get w.now.actors a ≡ Some x → Known w a x (Flushes step bytes)
@@ -196,8 +199,8 @@ called_sound w a x (flush.Syncs end) bytes false sound got k = flush_looks w a x
 called_sound w a x step bytes done sound got k = flush_looks w a x step bytes sound got k
 
 -- a read for a mailbox, made or failed
-pub read_sound : (w : GuardWorld) (a : ℕ) (x : Actor) (step : Serving) (bytes : List ℕ) → IsSound w → slice_get w.now.actors a ≡ Some x → Known w a x (Serves step)
-    → IsSound (after w a (record x { work = Serves (serve_read step bytes) }) w.now.words w.now.actions w.past)
+pub read_sound : (w : GuardWorld) (a : ℕ) (x : Actor) (begin : ℕ) (step : Serving) (bytes : List ℕ) → IsSound w → slice_get w.now.actors a ≡ Some x → Known w a x (Serves begin step)
+    → IsSound (after w a (record x { work = Serves begin (serve_read step bytes) }) w.now.words w.now.actions w.past)
 unfolding serve_read
-read_sound w a x (serve.Reads session addr) bytes sound got k = serve_looks w a x _ sound got k
-read_sound w a x step bytes sound got k = serve_looks w a x step sound got k
+read_sound w a x begin (serve.Reads session addr) bytes sound got k = serve_looks w a x begin _ sound got k
+read_sound w a x begin step bytes sound got k = serve_looks w a x begin step sound got k

@@ -173,17 +173,17 @@ writes_by w a x (Turns s) place sound got its e high = turn_writes w a x s.step 
 writes_by w a x (Flushes flush.AtRest bytes) place sound got its e high = low_none w (machine_writes a x.machine) place (machine_low w a x x.machine sound got refl) e high
 writes_by w a x (Flushes (flush.RaisesFlushed end) bytes) place sound got its e high = low_none w (Some 7) place (omega arith) e high
 writes_by w a x (Flushes step bytes) place sound got its e high = no_place place e
-writes_by w a x (Serves serve.AtRest) place sound got its e high = low_none w (machine_writes a x.machine) place (machine_low w a x x.machine sound got refl) e high
-writes_by w a x (Serves (serve.LoadsState session)) place sound got its e high = no_place place e
-writes_by w a x (Serves (serve.LoadsAddress session)) place sound got its e high = no_place place e
-writes_by w a x (Serves (serve.Reads session addr)) place sound got its e high = no_place place e
-writes_by w a x (Serves (serve.StoresHeader session mail)) place sound got its e high =
+writes_by w a x (Serves begin serve.AtRest) place sound got its e high = low_none w (machine_writes a x.machine) place (machine_low w a x x.machine sound got refl) e high
+writes_by w a x (Serves begin (serve.LoadsState session)) place sound got its e high = no_place place e
+writes_by w a x (Serves begin (serve.LoadsAddress session)) place sound got its e high = no_place place e
+writes_by w a x (Serves begin (serve.Reads session addr)) place sound got its e high = no_place place e
+writes_by w a x (Serves begin (serve.StoresHeader session mail)) place sound got its e high =
     let k : session < w.now.shape.sessions = subst (Known w a x) its (sound.knows a x got) in let s = sound.fits.sessions in low_none w (Some (session_place session own.MailHeader)) place (omega (arith, k, s)) e high
-writes_by w a x (Serves (serve.StoresKey session mail)) place sound got its e high =
+writes_by w a x (Serves begin (serve.StoresKey session mail)) place sound got its e high =
     let k : session < w.now.shape.sessions = subst (Known w a x) its (sound.knows a x got) in let s = sound.fits.sessions in low_none w (Some (session_place session own.MailKey)) place (omega (arith, k, s)) e high
-writes_by w a x (Serves (serve.StoresValue session mail)) place sound got its e high =
+writes_by w a x (Serves begin (serve.StoresValue session mail)) place sound got its e high =
     let k : session < w.now.shape.sessions = subst (Known w a x) its (sound.knows a x got) in let s = sound.fits.sessions in low_none w (Some (session_place session own.MailValue)) place (omega (arith, k, s)) e high
-writes_by w a x (Serves (serve.StoresReady session)) place sound got its e high =
+writes_by w a x (Serves begin (serve.StoresReady session)) place sound got its e high =
     let k : session < w.now.shape.sessions = subst (Known w a x) its (sound.knows a x got) in let s = sound.fits.sessions in low_none w (Some (session_place session own.MailState)) place (omega (arith, k, s)) e high
 
 moves_case : (w : GuardWorld) (a : ℕ) (found : Option Actor) (place : ℕ) → IsSound w → slice_get w.now.actors a ≡ found → actor_writes w.now a found ≡ Some place → frames_start w.now.places ≤ place → IsOpenPlace w place

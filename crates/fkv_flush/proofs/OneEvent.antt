@@ -24,7 +24,7 @@ called_near n done x work = near n.words n.actions x
 
 -- where a read for a mailbox leads
 abbrev pub read_near : GuardNow → Option (List ℕ) → Actor → Work → GuardNear
-read_near n bytes x (Serves step) = near n.words n.actions (record x { work = Serves (mail_read step bytes) })
+read_near n bytes x (Serves begin step) = near n.words n.actions (record x { work = Serves begin (mail_read step bytes) })
 read_near n bytes x work = near n.words n.actions x
 
 -- where the Add that raises the epoch leads
@@ -74,7 +74,7 @@ called_one n a done x (Flushes step bytes) got = refl
 called_one n a done x work got = put_still n a x got
 
 read_one : (n : GuardNow) (a : ℕ) (bytes : Option (List ℕ)) (x : Actor) (work : Work) → slice_get n.actors a ≡ Some x → read_by n a bytes x work ≡ put_near n a (read_near n bytes x work)
-read_one n a bytes x (Serves step) got = refl
+read_one n a bytes x (Serves begin step) got = refl
 read_one n a bytes x work got = put_still n a x got
 
 raised_one : (n : GuardNow) (a : ℕ) (action : Action) (x : Actor) (d : EpochMachine) → slice_get n.actors a ≡ Some x → raised_with n a action x d ≡ put_near n a (raised_near n action x d)

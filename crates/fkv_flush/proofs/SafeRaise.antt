@@ -124,10 +124,10 @@ work_spares n a x (Invalidates (invalidate.StoresHeader addr header)) busy = λ 
 work_spares n a x (Shifts s) busy = shift_spares s.step s.mover
 work_spares n a x (Turns s) busy = turn_spares n s.step s.mover
 work_spares n a x (Flushes (flush.RaisesFlushed end) bytes) busy = λ e. omega (arith, e)
-work_spares n a x (Serves (serve.StoresHeader session mail)) busy = λ e. omega (arith, e)
-work_spares n a x (Serves (serve.StoresKey session mail)) busy = λ e. omega (arith, e)
-work_spares n a x (Serves (serve.StoresValue session mail)) busy = λ e. omega (arith, e)
-work_spares n a x (Serves (serve.StoresReady session)) busy = λ e. omega (arith, e)
+work_spares n a x (Serves begin (serve.StoresHeader session mail)) busy = λ e. omega (arith, e)
+work_spares n a x (Serves begin (serve.StoresKey session mail)) busy = λ e. omega (arith, e)
+work_spares n a x (Serves begin (serve.StoresValue session mail)) busy = λ e. omega (arith, e)
+work_spares n a x (Serves begin (serve.StoresReady session)) busy = λ e. omega (arith, e)
 work_spares n a x work busy = tt
 
 -- the step that runs that action

@@ -150,7 +150,7 @@ module _ (w : GuardWorld) (a : ℕ) (x : Actor) (slot : ℕ) (sound : IsSound w)
   work_moves (Fills step) its moves = absurd (moves refl)
   work_moves (Invalidates step) its moves = absurd (moves refl)
   work_moves (Flushes step bytes) its moves = absurd (moves refl)
-  work_moves (Serves step) its moves = absurd (moves refl)
+  work_moves (Serves begin step) its moves = absurd (moves refl)
 
   step_moves : IsMoved w.now.actions (actor_step w.now a x).actions slot → Leads (actor_step w.now a x).actor.machine
   step_moves moves = by (is_idle x.work) moves
@@ -180,7 +180,7 @@ module _ (w : GuardWorld) (a : ℕ) (x : Actor) (slot : ℕ) (sound : IsSound w)
   called_moves done work moves = absurd (moves refl)
 
   read_moves : {X : Type 0} (bytes : Option (List ℕ)) (work : Work) → IsMoved w.now.actions (read_near w.now bytes x work).actions slot → X
-  read_moves bytes (Serves step) moves = absurd (moves refl)
+  read_moves bytes (Serves begin step) moves = absurd (moves refl)
   read_moves bytes work moves = absurd (moves refl)
 
   -- where its event leads

@@ -61,7 +61,7 @@ module _ (n : GuardNow) (x : Actor) where
   begun ToShift = was
   begun (ToTurnPage form tail) = was
   begun ToFlush = was
-  begun ToServe = was
+  begun (ToServe begin) = was
 
   worked : (a : ℕ) (work : Work) → Next (work_step n a x work).actor.undecided
   unfolding invalidate_next
@@ -73,14 +73,14 @@ module _ (n : GuardNow) (x : Actor) where
   worked a (Shifts s) = was
   worked a (Turns s) = was
   worked a (Flushes step bytes) = was
-  worked a (Serves step) = was
+  worked a (Serves begin step) = was
 
   called : (done : Bool) (work : Work) → Next (called_near n done x work).actor.undecided
   called done (Flushes step bytes) = was
   called done work = was
 
   read : (bytes : Option (List ℕ)) (work : Work) → Next (read_near n bytes x work).actor.undecided
-  read bytes (Serves step) = was
+  read bytes (Serves begin step) = was
   read bytes work = was
 
   raised : (action : Action) (d : EpochMachine) → Next (raised_near n action x d).actor.undecided

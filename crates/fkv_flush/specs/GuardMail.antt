@@ -1,5 +1,5 @@
--- Mailboxes: what a session may do to its own, the reads that are made for them, and what they hold.
-use Rattle.std.specs.Prelude.{◌≡◌, ◌⊎◌, ℕ, ◌^◌, ◌<◌, ◌==◌, if◌then◌else◌, List, [], ◌∷◌, ◌++◌, slice_get, Option, Some, None, ⊤}
+-- Mailboxes: what a session may do to its own, what is given for them, and what they hold.
+use Rattle.std.specs.Prelude.{◌≡◌, ◌⊎◌, ℕ, ◌^◌, ◌<◌, ◌==◌, nat_lt, if◌then◌else◌, List, [], ◌∷◌, ◌++◌, slice_get, Option, Some, None, ⊤}
 use Rattle.fkv_base.specs.declared.shapes.Shape.{Shape}
 use Rattle.fkv_record.specs.Numbers.{spelled}
 use Rattle.fkv_record.specs.Places as image
@@ -11,7 +11,7 @@ use Rattle.fkv_plane.specs.Asked.{word_at}
 use Rattle.fkv_flush.specs.declared.serving.Mail.{Mail}
 use Rattle.fkv_flush.specs.declared.serving.Serving.{Serving}
 use Rattle.fkv_flush.specs.declared.serving.Serving.TheVariants as serve
-use Rattle.fkv_flush.specs.Serving.{asked_state, ready_state, mail_of, mail_place}
+use Rattle.fkv_flush.specs.Serving.{asked_state, ready_state, mail_of, mail_place, gone_mail}
 use Rattle.fkv_flush.specs.GuardCalm.{actor_of}
 use Rattle.fkv_flush.specs.GuardWorld.{Actor, Work, Serves, ToServe, GuardNow, GuardWorld, GuardEvent, Begins, Moves, Reads, Changes, guard_run}
 
@@ -46,57 +46,71 @@ abbrev pub GivesWords : ℕ → ℕ → ℕ → Type 0
 GivesWords header key value =
     header < 2 ^ 64 → key < 2 ^ 64 → value < 2 ^ 64 → mail_of (spelled (header ∷ key ∷ value ∷ [])) ≡ record { header = header; key = key; value = value }
 
--- a record that the device has read for a session: the words that it gave, and the address
-pub record MailRead : Type 0 where
+-- What was given for a session: the words of a record that the device has read, or that it is gone; and the address.
+pub record MailGiven : Type 0 where
   pub session : ℕ
   pub addr : ℕ
   pub mail : Mail
 
-abbrev pub work_reads : List ℕ → Work → List MailRead
-work_reads bytes (Serves (serve.Reads session addr)) = record { session = session; addr = addr; mail = mail_of bytes } ∷ []
+abbrev pub work_reads : List ℕ → Work → List MailGiven
+work_reads bytes (Serves begin (serve.Reads session addr)) = record { session = session; addr = addr; mail = mail_of bytes } ∷ []
 work_reads bytes work = []
 
-abbrev pub actor_reads : List ℕ → Option Actor → List MailRead
+abbrev pub actor_reads : List ℕ → Option Actor → List MailGiven
 actor_reads bytes None = []
 actor_reads bytes (Some x) = work_reads bytes x.work
 
--- the read for a mailbox that an event makes. One that fails gives nothing.
-abbrev pub event_reads : GuardNow → GuardEvent → List MailRead
-event_reads n (Reads actor (Some bytes)) = actor_reads bytes (slice_get n.actors actor)
-event_reads n event = []
+-- where an address below the begin is asked for, it is told that what lay there is gone
+abbrev pub gone_at : ℕ → ℕ → ℕ → List MailGiven
+gone_at begin session addr = if nat_lt addr begin then record { session = session; addr = addr; mail = gone_mail begin } ∷ [] else []
+
+-- that shows as the address is loaded
+abbrev pub work_loads : List ℕ → Work → List MailGiven
+work_loads words (Serves begin (serve.LoadsAddress session)) = gone_at begin session (mailbox_of words session).addr
+work_loads words work = []
+
+abbrev pub actor_loads : List ℕ → Option Actor → List MailGiven
+actor_loads words None = []
+actor_loads words (Some x) = work_loads words x.work
+
+-- What an event gives for a mailbox. A read that fails gives nothing.
+abbrev pub event_gives : GuardNow → GuardEvent → List MailGiven
+event_gives n (Reads actor (Some bytes)) = actor_reads bytes (slice_get n.actors actor)
+event_gives n (Moves actor) = actor_loads n.words (slice_get n.actors actor)
+event_gives n event = []
 
 -- those of a whole run, the newest first
-unfoldable pub mail_reads : GuardWorld → List GuardEvent → List MailRead
-mail_reads opening [] = []
-mail_reads opening (event ∷ before) = event_reads (guard_run opening before).now event ++ mail_reads opening before
+unfoldable pub mails_given : GuardWorld → List GuardEvent → List MailGiven
+mails_given opening [] = []
+mails_given opening (event ∷ before) = event_gives (guard_run opening before).now event ++ mails_given opening before
 
--- the newest read for a session
-abbrev pub newest_for : ℕ → List MailRead → Option MailRead
+-- what was given for a session last
+abbrev pub newest_for : ℕ → List MailGiven → Option MailGiven
 newest_for session [] = None
 newest_for session (newest ∷ before) = if newest.session == session then Some newest else newest_for session before
 
--- the newest read for the session was at this address, and gave this
-abbrev pub WasRead : List MailRead → ℕ → ℕ → Mail → Type 0
-WasRead reads session addr mail = newest_for session reads ≡ Some (record { session = session; addr = addr; mail = mail })
+-- what was given for the session last was of this address, and was this
+abbrev pub WasGiven : List MailGiven → ℕ → ℕ → Mail → Type 0
+WasGiven given session addr mail = newest_for session given ≡ Some (record { session = session; addr = addr; mail = mail })
 
--- A mailbox that is ready has what the newest read for its session gave, and that was at the address asked for.
-abbrev pub ReadyWasRead : List MailRead → ℕ → Mailbox → Type 0
-ReadyWasRead reads session box = box.state ≡ ready_state → WasRead reads session box.addr box.mail
+-- A mailbox that is ready has what was given for its session last, and that was of the address asked for.
+abbrev pub ReadyWasGiven : List MailGiven → ℕ → Mailbox → Type 0
+ReadyWasGiven given session box = box.state ≡ ready_state → WasGiven given session box.addr box.mail
 
--- a record is asked for in the mailbox, and the newest read for the session was at its address, and gave this
-abbrev pub HasRead : List MailRead → ℕ → Mailbox → Mail → Type 0
-HasRead reads session box mail = (box.state ≡ asked_state) × WasRead reads session box.addr mail
+-- a record is asked for in the mailbox, and what was given for the session last was of its address, and was this
+abbrev pub HasGiven : List MailGiven → ℕ → Mailbox → Mail → Type 0
+HasGiven given session box mail = (box.state ≡ asked_state) × WasGiven given session box.addr mail
 
--- What the keeper finds in the mailbox that it has come to: a record is asked for there. The address that it has loaded is the mailbox's; what it has read is
--- what the newest read for the session gave, at that address; and the words that it has stored are those.
-abbrev pub FindsAsked : List MailRead → (ℕ → Mailbox) → Serving → Type 0
-FindsAsked reads boxes (serve.LoadsAddress session) = (boxes session).state ≡ asked_state
-FindsAsked reads boxes (serve.Reads session addr) = ((boxes session).state ≡ asked_state) × ((boxes session).addr ≡ addr)
-FindsAsked reads boxes (serve.StoresHeader session mail) = HasRead reads session (boxes session) mail
-FindsAsked reads boxes (serve.StoresKey session mail) = HasRead reads session (boxes session) mail × ((boxes session).mail.header ≡ mail.header)
-FindsAsked reads boxes (serve.StoresValue session mail) = HasRead reads session (boxes session) mail × ((boxes session).mail.header ≡ mail.header) × ((boxes session).mail.key ≡ mail.key)
-FindsAsked reads boxes (serve.StoresReady session) = HasRead reads session (boxes session) (boxes session).mail
-FindsAsked reads boxes step = ⊤
+-- What the keeper finds in the mailbox that it has come to: a record is asked for there. The address that it has loaded is the mailbox's; what it is to store is
+-- what was given for the session last, of that address; and the words that it has stored are those.
+abbrev pub FindsAsked : List MailGiven → (ℕ → Mailbox) → Serving → Type 0
+FindsAsked given boxes (serve.LoadsAddress session) = (boxes session).state ≡ asked_state
+FindsAsked given boxes (serve.Reads session addr) = ((boxes session).state ≡ asked_state) × ((boxes session).addr ≡ addr)
+FindsAsked given boxes (serve.StoresHeader session mail) = HasGiven given session (boxes session) mail
+FindsAsked given boxes (serve.StoresKey session mail) = HasGiven given session (boxes session) mail × ((boxes session).mail.header ≡ mail.header)
+FindsAsked given boxes (serve.StoresValue session mail) = HasGiven given session (boxes session) mail × ((boxes session).mail.header ≡ mail.header) × ((boxes session).mail.key ≡ mail.key)
+FindsAsked given boxes (serve.StoresReady session) = HasGiven given session (boxes session) (boxes session).mail
+FindsAsked given boxes step = ⊤
 
 -- a session asks where its mailbox is empty, and empties it where it is ready
 abbrev pub AsksOrTakes : ℕ → ℕ → Type 0
@@ -118,7 +132,7 @@ KeepsMailboxes n event = ⊤
 
 -- no other actor begins to serve
 abbrev pub ServesAlone : ℕ → GuardEvent → Type 0
-ServesAlone keeper (Begins actor ToServe) = actor ≡ keeper
+ServesAlone keeper (Begins actor (ToServe begin)) = actor ≡ keeper
 ServesAlone keeper event = ⊤
 
 -- in a whole run one actor alone serves, and each session alone changes its mailbox, as it may

@@ -62,7 +62,8 @@ pub data Work : Type 0 where
   Turns : TurnState → Work
   -- with the bytes in hand
   Flushes : Flushing → List ℕ → Work
-  Serves : Serving → Work
+  -- in a log that begins at this address
+  Serves : ℕ → Serving → Work
 
 pub record Actor : Type 0 where
   -- the machine of the epochs that it drove last, by itself or inside its work
@@ -87,7 +88,8 @@ pub data GuardTask : Type 0 where
   -- the next page is opened, or in a whole turn a frame set free for it, with the tail as it was loaded
   ToTurnPage : TurnForm → ℕ → GuardTask
   ToFlush : GuardTask
-  ToServe : GuardTask
+  -- in a log that begins at this address
+  ToServe : ℕ → GuardTask
 
 -- What may happen next. Those from `Sees` on are no step of these machines, but of whoever else works on the same words; each
 -- happens only where it may, but for a change in place: that it is made where it may be is the premise of who makes it.
@@ -156,7 +158,7 @@ is_idle (Invalidates invalidate.AtRest) = true
 is_idle (Shifts s) = shift_rests s.step
 is_idle (Turns s) = turn_rests s.step
 is_idle (Flushes flush.AtRest bytes) = true
-is_idle (Serves serve.AtRest) = true
+is_idle (Serves begin serve.AtRest) = true
 is_idle work = false
 
 abbrev pub is_none : Option ℕ → Bool
@@ -190,7 +192,7 @@ started n x (ToInvalidate header) = record x { work = Invalidates (invalidate.St
 started n x ToShift = record x { work = Shifts shift_begun }
 started n x (ToTurnPage form tail) = record x { work = Turns (turn_begun form tail) }
 started n x ToFlush = record x { work = Flushes flush.LoadsFlushed [] }
-started n x ToServe = record x { work = Serves (mailbox_from n.shape.sessions 0) }
+started n x (ToServe begin) = record x { work = Serves begin (mailbox_from n.shape.sessions 0) }
 
 -- an actor and all that one of its steps touches
 pub record GuardNear : Type 0 where
@@ -286,7 +288,7 @@ work_step n actor x (Invalidates step) = near (words_after n.words (invalidate_a
 work_step n actor x (Shifts s) = shifted n x s
 work_step n actor x (Turns s) = turned n x s
 work_step n actor x (Flushes step bytes) = near (words_after n.words (flush_ask n.places step)) n.actions (record x { work = Flushes (flush_next n.shape.page step (reply_to n.words (flush_ask n.places step))) (bytes_next step bytes (reply_to n.words (flush_ask n.places step))) })
-work_step n actor x (Serves step) = near (words_after n.words (serve_ask step)) n.actions (record x { work = Serves (serve_next n.shape.sessions step (reply_to n.words (serve_ask step))) })
+work_step n actor x (Serves begin step) = near (words_after n.words (serve_ask step)) n.actions (record x { work = Serves begin (serve_next n.shape.sessions begin step (reply_to n.words (serve_ask step))) })
 
 abbrev pub actor_step : GuardNow → ℕ → Actor → GuardNear
 actor_step n actor x = if is_idle x.work then epoch_step n actor x else work_step n actor x x.work
@@ -310,7 +312,7 @@ mail_read step None = serve.AtRest
 mail_read step (Some bytes) = serve_read step bytes
 
 abbrev pub read_by : GuardNow → ℕ → Option (List ℕ) → Actor → Work → GuardNow
-read_by n actor bytes x (Serves step) = with_actor n actor (record x { work = Serves (mail_read step bytes) })
+read_by n actor bytes x (Serves begin step) = with_actor n actor (record x { work = Serves begin (mail_read step bytes) })
 read_by n actor bytes x work = n
 
 abbrev pub read : GuardNow → ℕ → Option (List ℕ) → Option Actor → GuardNow

@@ -116,7 +116,7 @@ work_writes n actor x (Invalidates step) = writes (invalidate_ask n.places step)
 work_writes n actor x (Shifts s) = writes (shift_ask s)
 work_writes n actor x (Turns s) = writes (turn_ask n.shape s)
 work_writes n actor x (Flushes step bytes) = writes (flush_ask n.places step)
-work_writes n actor x (Serves step) = writes (serve_ask step)
+work_writes n actor x (Serves begin step) = writes (serve_ask step)
 
 abbrev pub actor_writes : GuardNow → ℕ → Option Actor → Option ℕ
 actor_writes n actor None = None

@@ -1,6 +1,7 @@
 -- How the sessions' mailboxes are served.
 use Rattle.std.specs.Prelude.{ℕ, ◌+◌, ◌^◌, ◌<◌, ◌==◌, nat_lt, if◌then◌else◌, List, ⊤, Option, Some, None}
 use Rattle.fkv_base.specs.Limits.{max_sessions}
+use Rattle.fkv_base.specs.declared.numbers.Addr.{Addr}
 use Rattle.fkv_base.specs.declared.shapes.Shape.{Shape}
 use Rattle.fkv_disk.specs.Asks.{AskedCall}
 use Rattle.fkv_disk.specs.Asks as disk
@@ -15,8 +16,10 @@ use Rattle.fkv_flush.specs.declared.serving.Mail.{Mail}
 use Rattle.fkv_flush.specs.declared.serving.Serving.{Serving}
 use Rattle.fkv_flush.specs.declared.serving.Serving.TheVariants.{AtRest, LoadsState, LoadsAddress, Reads, StoresHeader, StoresKey, StoresValue, StoresReady}
 
+-- of a log that begins at this address
 pub record Server : Type 0 where
   pub shape : Shape
+  pub begin : Addr
   pub step : Serving
 
 -- a session is below max_sessions, and an address below 2^48
@@ -41,6 +44,10 @@ ready_state = 2
 abbrev pub mail_of : List ℕ → Mail
 mail_of bytes = record { header = number_at bytes 0; key = number_at bytes 8; value = number_at bytes 16 }
 
+-- What lay below the log's begin is gone. That is told by header 0, which no record has, with the begin as key.
+abbrev pub gone_mail : ℕ → Mail
+gone_mail begin = record { header = 0; key = begin; value = 0 }
+
 -- what each state asks
 unfoldable pub serve_ask : Serving → Ask DeviceAnswer
 serve_ask AtRest = Done answer.Through
@@ -56,16 +63,21 @@ serve_ask (StoresReady session) = Store (session_place session own.MailState) re
 unfoldable pub mailbox_from : ℕ → ℕ → Serving
 mailbox_from sessions session = if nat_lt session sessions then LoadsState session else AtRest
 
--- where the reply leads
-unfoldable pub serve_next : ℕ → Serving → ℕ → Serving
-serve_next sessions AtRest reply = AtRest
-serve_next sessions (LoadsState session) reply = if reply == asked_state then LoadsAddress session else mailbox_from sessions (session + 1)
-serve_next sessions (LoadsAddress session) reply = if nat_lt reply (2 ^ 48) then Reads session reply else mailbox_from sessions (session + 1)
-serve_next sessions (Reads session addr) reply = Reads session addr
-serve_next sessions (StoresHeader session mail) reply = StoresKey session mail
-serve_next sessions (StoresKey session mail) reply = StoresValue session mail
-serve_next sessions (StoresValue session mail) reply = StoresReady session
-serve_next sessions (StoresReady session) reply = mailbox_from sessions (session + 1)
+-- An address at which a record is asked for. Below the begin nothing is read: what lay there is gone. At what is no address nothing is answered.
+abbrev pub address_met : ℕ → ℕ → ℕ → ℕ → Serving
+address_met sessions begin session addr =
+    if nat_lt addr begin then StoresHeader session (gone_mail begin) else (if nat_lt addr (2 ^ 48) then Reads session addr else mailbox_from sessions (session + 1))
+
+-- where the reply leads, in a log with this begin
+unfoldable pub serve_next : ℕ → ℕ → Serving → ℕ → Serving
+serve_next sessions begin AtRest reply = AtRest
+serve_next sessions begin (LoadsState session) reply = if reply == asked_state then LoadsAddress session else mailbox_from sessions (session + 1)
+serve_next sessions begin (LoadsAddress session) reply = address_met sessions begin session reply
+serve_next sessions begin (Reads session addr) reply = Reads session addr
+serve_next sessions begin (StoresHeader session mail) reply = StoresKey session mail
+serve_next sessions begin (StoresKey session mail) reply = StoresValue session mail
+serve_next sessions begin (StoresValue session mail) reply = StoresReady session
+serve_next sessions begin (StoresReady session) reply = mailbox_from sessions (session + 1)
 
 -- where the bytes that were read lead
 unfoldable pub serve_read : Serving → List ℕ → Serving

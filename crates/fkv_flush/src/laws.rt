@@ -14,7 +14,7 @@ ghost use Rattle.fkv_flush.specs.GuardSlots.{FindsSlots};
 ghost use Rattle.fkv_flush.specs.GuardWorld.{GuardWorld, GuardEvent, Actor, Serves, guard_happens, guard_run, levels};
 ghost use Rattle.fkv_flush.specs.GuardTurned.{GoesRound};
 ghost use Rattle.fkv_flush.specs.GuardFlushed.{OneFlushes, IsSynced, SparesRecord, stands, calls_made};
-ghost use Rattle.fkv_flush.specs.GuardMail.{AreEmpty, AreMailboxesKept, ReadyWasRead, FindsAsked, ChangesMailbox, ReadsItsPlace, GivesWords, mailbox_of, mail_reads};
+ghost use Rattle.fkv_flush.specs.GuardMail.{AreEmpty, AreMailboxesKept, ReadyWasGiven, FindsAsked, ChangesMailbox, ReadsItsPlace, GivesWords, mailbox_of, mails_given};
 ghost use Rattle.fkv_flush.specs.declared.serving.Serving.{Serving};
 ghost use Rattle.fkv_flush.specs.Guarded.{IsOpened, opening, IsCovered, UndecidedIsFresh, GoesBy, seen_of, event_writes, IsPermittedEvent, ArePermittedEvents, GuardsWrites, GuardsLimit, KeepsSeen};
 
@@ -101,9 +101,9 @@ pub fn law_finds_slots()
 {}
 
 /// Where one actor alone serves the mailboxes, and each session alone changes its own, the address while it is empty, and
-/// the state from empty to asked and from ready to empty: at every moment a mailbox that is ready has the words that the
-/// newest read for its session gave, which was at the address asked for; the actor that serves finds asked for what it
-/// has come to; and each event leaves a mailbox as it is, or is one of its session where it was empty or ready, or one of
+/// the state from empty to asked and from ready to empty: at every moment a mailbox that is ready has the words that were
+/// given for its session last, of the address asked for: those that the device has read there, or that what lay below the log's
+/// begin is gone; the actor that serves finds asked for what it has come to; and each event leaves a mailbox as it is, or is one of its session where it was empty or ready, or one of
 /// the actor that serves where a record was asked for. A read at an address is one at that record's place in the image,
 /// and the bytes of three words give these as header, key and value.
 pub fn law_mail()
@@ -111,11 +111,11 @@ pub fn law_mail()
     ensures words { (header key value : ℕ) → GivesWords header key value }
     ensures ready { (shape : Shape) (places : Places) (actors : ℕ) (words : List ℕ) (start keeper : ℕ) (events : List GuardEvent) (session : ℕ)
         → IsOpened shape places actors words start → AreEmpty places words → AreMailboxesKept keeper (opening shape places actors words start) events → session < places.sessions
-        → ReadyWasRead (mail_reads (opening shape places actors words start) events) session (mailbox_of (guard_run (opening shape places actors words start) events).now.words session) }
-    ensures asked { (shape : Shape) (places : Places) (actors : ℕ) (words : List ℕ) (start keeper : ℕ) (events : List GuardEvent) (actor : ℕ) (x : Actor) (step : Serving)
+        → ReadyWasGiven (mails_given (opening shape places actors words start) events) session (mailbox_of (guard_run (opening shape places actors words start) events).now.words session) }
+    ensures asked { (shape : Shape) (places : Places) (actors : ℕ) (words : List ℕ) (start keeper : ℕ) (events : List GuardEvent) (actor : ℕ) (x : Actor) (begin : ℕ) (step : Serving)
         → IsOpened shape places actors words start → AreEmpty places words → AreMailboxesKept keeper (opening shape places actors words start) events
-        → slice_get (guard_run (opening shape places actors words start) events).now.actors actor ≡ Some x → x.work ≡ Serves step
-        → FindsAsked (mail_reads (opening shape places actors words start) events) (mailbox_of (guard_run (opening shape places actors words start) events).now.words) step }
+        → slice_get (guard_run (opening shape places actors words start) events).now.actors actor ≡ Some x → x.work ≡ Serves begin step
+        → FindsAsked (mails_given (opening shape places actors words start) events) (mailbox_of (guard_run (opening shape places actors words start) events).now.words) step }
     ensures left { (shape : Shape) (places : Places) (actors : ℕ) (words : List ℕ) (start keeper : ℕ) (events : List GuardEvent) (event : GuardEvent) (session : ℕ)
         → IsOpened shape places actors words start → AreEmpty places words → AreMailboxesKept keeper (opening shape places actors words start) (event ∷ events) → session < places.sessions
         → ChangesMailbox keeper session event (mailbox_of (guard_run (opening shape places actors words start) events).now.words session) (mailbox_of (guard_run (opening shape places actors words start) (event ∷ events)).now.words session) }

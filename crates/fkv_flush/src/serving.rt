@@ -1,12 +1,13 @@
 //! How the sessions' mailboxes are served.
 ghost use Rattle.std.specs.Prelude.{◌≡◌, ◌+◌, ◌-◌, ◌<◌, ◌≤◌, ◌↔◌, ℕ, List, length, is_ok, IfOk, OnOk, OnErr};
+ghost use Rattle.fkv_base.specs.Limits.{max_sessions};
 ghost use Rattle.fkv_disk.specs.Asks.{asked_call, kinds_by};
 ghost use Rattle.fkv_disk.specs.Bytes.{bytes_at};
 ghost use Rattle.fkv_disk.specs.Device.{LeavesNoMore, Elapses, HasCause, MakesCalls};
 ghost use Rattle.fkv_flush.specs.AsksLeft.{serve_asks_left, most_serve_asks, GoesOnWhereLeft};
 ghost use Rattle.fkv_flush.specs.Devices.{calls_asked};
 ghost use Rattle.fkv_record.specs.Places.{number_at};
-ghost use Rattle.fkv_flush.specs.Serving.{serve_ask, serve_next, serve_read, mailbox_from, mail_place, mail_read, mail_of, IsServeInRange};
+ghost use Rattle.fkv_flush.specs.Serving.{serve_ask, serve_next, serve_read, address_met, gone_mail, mailbox_from, mail_place, mail_read, mail_of, IsServeInRange};
 ghost use Rattle.fkv_flush.specs.declared.serving.Serving.TheVariants.{AtRest};
 
 use crate::answers::DeviceAnswer;
@@ -38,10 +39,11 @@ pub(crate) enum Serving {
 }
 
 /// Goes over the sessions' mailboxes once. Where a session asks for a record, the record is read from the device and its
-/// words are put into the mailbox, which is ready then.
+/// words are put into the mailbox, which is ready then. Below the log's begin nothing is read: there the words say that the record is gone.
 #[derive(Drop)]
 pub struct Serve {
     shape: Shape,
+    begin: Addr,
     step: Serving,
 }
 
@@ -50,7 +52,7 @@ impl Model for Serve {
 
     ghost Value = { Server };
 
-    ghost view = { λ m. record { shape = m.shape; step = m.step } };
+    ghost view = { λ m. record { shape = m.shape; begin = m.begin; step = m.step } };
 
     ghost invariant = { λ m. IsServeInRange m.step };
 }
@@ -65,12 +67,13 @@ const ASKED: u64 = 1;
 const READY: u64 = 2;
 
 impl Serve {
-    /// The machine at rest.
-    pub fn new(shape: Shape) -> Serve
-        ensures { result ≡ record { shape = shape; step = AtRest } }
+    /// The machine at rest, of a log that begins at this address.
+    pub fn new(shape: Shape, begin: Addr) -> Serve
+        ensures { result ≡ record { shape = shape; begin = begin; step = AtRest } }
     {
         Serve {
             shape,
+            begin,
             step: Serving::AtRest,
         }
     }
@@ -90,8 +93,8 @@ impl Serve {
     /// Goes on with the reply to its ask. Where it needs the device it stays where it is.
     #[tactic(auto, unfolding(crate::specs::Serving::serve_next))]
     pub fn drive(&mut self, reply: u64) -> Ask<DeviceAnswer>
-        ensures next { self.new ≡ record self.old { step = serve_next self.old.shape.sessions self.old.step reply } }
-        ensures ask { result ≡ serve_ask (serve_next self.old.shape.sessions self.old.step reply) }
+        ensures next { self.new ≡ record self.old { step = serve_next self.old.shape.sessions self.old.begin.0 self.old.step reply } }
+        ensures ask { result ≡ serve_ask (serve_next self.old.shape.sessions self.old.begin.0 self.old.step reply) }
         ensures left { GoesOnWhereLeft (serve_asks_left self.old.shape.sessions self.new.step) result }
         ensures fewer { calls_asked (serve_ask self.old.step) ≡ 0 → serve_asks_left self.old.shape.sessions self.new.step ≤ serve_asks_left self.old.shape.sessions self.old.step - 1 }
     {
@@ -104,13 +107,7 @@ impl Serve {
                     mailbox_from(&self.shape, session + 1)
                 }
             }
-            Serving::LoadsAddress(session) => {
-                if reply < 1 << 48 {
-                    Serving::Reads(session, reply)
-                } else {
-                    mailbox_from(&self.shape, session + 1)
-                }
-            }
+            Serving::LoadsAddress(session) => self.address_met(session, reply),
             Serving::Reads(session, addr) => Serving::Reads(session, addr),
             Serving::StoresHeader(session, mail) => Serving::StoresKey(session, mail),
             Serving::StoresKey(session, mail) => Serving::StoresValue(session, mail),
@@ -118,6 +115,21 @@ impl Serve {
             Serving::StoresReady(session) => mailbox_from(&self.shape, session + 1),
         };
         self.ask()
+    }
+
+    /// Where an address leads at which a record is asked for.
+    fn address_met(&self, session: usize, addr: u64) -> Serving
+        requires { session < max_sessions }
+        ensures next { result ≡ address_met self.now.shape.sessions self.now.begin.0 session addr }
+        ensures in_range { IsServeInRange result }
+    {
+        if addr < self.begin.0 {
+            Serving::StoresHeader(session, gone_mail(self.begin))
+        } else if addr < 1 << 48 {
+            Serving::Reads(session, addr)
+        } else {
+            mailbox_from(&self.shape, session + 1)
+        }
     }
 
     /// Makes the one call of the device that it needs, a read of 24 bytes, and goes on. Where it needs none it makes none,
@@ -198,6 +210,17 @@ fn mailbox_from(shape: &Shape, session: usize) -> Serving
         Serving::LoadsState(session)
     } else {
         Serving::AtRest
+    }
+}
+
+// What is told of an address below the begin.
+fn gone_mail(begin: Addr) -> Mail
+    ensures { result ≡ gone_mail begin.0 }
+{
+    Mail {
+        header: 0,
+        key: begin.0,
+        value: 0,
     }
 }
 

@@ -1,7 +1,8 @@
 //! Lives of one store.
+use crate::begins::move_begin;
 use crate::draws::Draws;
 use crate::scripts::lines_of;
-use crate::shapes::{first_of, shape_of};
+use crate::shapes::{begins_later, first_of, shape_of};
 use crate::verdicts::{Told, Wrong, judge};
 use fkv_base::{Fault, Key, Value, Version};
 use fkv_creating::create;
@@ -24,9 +25,14 @@ pub(crate) fn hammer<R: Threads + Wait + Sync>(
 ) -> Result<(), Wrong> {
     let mut disk = MemDisk::new(alloc);
     create(&mut disk, shape_of(number)?)?;
-    begin_at(&mut disk, first_of(number))?;
+    let is_later = begins_later(number);
+    let end = if is_later { draws.below(100) } else { 0 };
+    begin_at(&mut disk, first_of(number), end.saturating_add(1))?;
     let mut found = found_on(alloc, disk)?;
     for _ in 0..lives {
+        if is_later {
+            found = begun_later(alloc, draws, found)?;
+        }
         found = live(rt, alloc, draws, found)?;
     }
     Ok(())
@@ -35,10 +41,16 @@ pub(crate) fn hammer<R: Threads + Wait + Sync>(
 /// Where the first slot of a new store tells its commit, and that of its checkpoint.
 const NUMBER_PLACES: [u64; 2] = [520, 824];
 
-/// Makes the commit of a new store one of this number, which is even: an odd one stands in the second slot.
-fn begin_at(disk: &mut MemDisk, number: u64) -> Result<(), Fault> {
+/// Where it tells at which address its scan starts, and where its log ends.
+const END_PLACES: [u64; 2] = [528, 536];
+
+/// Makes the commit of a new store one of this number, which is even: an odd one stands in the second slot. Its log ends at this address.
+fn begin_at(disk: &mut MemDisk, number: u64, end: u64) -> Result<(), Fault> {
     for place in &NUMBER_PLACES {
         disk.write(*place, &number.to_le_bytes())?;
+    }
+    for place in &END_PLACES {
+        disk.write(*place, &end.to_le_bytes())?;
     }
     disk.sync()
 }
@@ -62,6 +74,24 @@ fn found_on(alloc: Global, disk: MemDisk) -> Result<Found, Fault> {
     })
 }
 
+/// The store with its begin moved. It has no pair that it had not.
+fn begun_later(alloc: Global, draws: &mut Draws, found: Found) -> Result<Found, Wrong> {
+    let Found {
+        disk,
+        opened,
+        pairs,
+    } = found;
+    let mut disk = disk;
+    move_begin(&mut disk, draws, &opened)?;
+    let after = found_on(alloc, disk)?;
+    for pair in &after.pairs {
+        if !pairs.contains(pair) {
+            return Err(Wrong::Pairs);
+        }
+    }
+    Ok(after)
+}
+
 /// One life, and what a crash then leaves. The device fails from a call on that is drawn from all that the life would make, or behind the last.
 fn live<R: Threads + Wait + Sync>(
     rt: &R,
@@ -74,7 +104,7 @@ fn live<R: Threads + Wait + Sync>(
         opened,
         pairs,
     } = found;
-    let number = opened.number;
+    let (number, begin) = (opened.number, opened.begin);
     let lines = lines_of(alloc, draws)?;
     let whole = count_calls(rt, alloc, &disk, &lines)?;
     let calls = draws.below(whole.saturating_add(1));
@@ -92,6 +122,7 @@ fn live<R: Threads + Wait + Sync>(
     let after = found_on(alloc, keeper.device.crash(torn)?)?;
     let told = Told {
         number,
+        begin,
         begun: keeper.begun,
         finished: &keeper.finished,
         logs: &logs,

@@ -1,6 +1,7 @@
 //! Lives of stores that four sessions and the keeper share, each ended by a crash at some call of the device.
 #![tactic(auto)]
 
+mod begins;
 mod draws;
 mod handshakes;
 mod lives;

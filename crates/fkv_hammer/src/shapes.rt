@@ -44,6 +44,11 @@ pub(crate) fn first_of(number: u64) -> u64 {
     }
 }
 
+/// Whether the begin of a store of this shape moves before each of its lives: half of the living ones do so, of each first commit two.
+pub(crate) fn begins_later(number: u64) -> bool {
+    number >= SPECIFIED && number % 4 < 2
+}
+
 fn power(exponent: u64) -> u64 {
     match exponent {
         1 => 2,

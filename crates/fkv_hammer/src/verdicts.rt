@@ -1,5 +1,5 @@
 //! Whether what is recovered behind a crash is what was told.
-use fkv_base::{Fault, Key, Serial, Value, Version};
+use fkv_base::{Addr, Fault, Key, Serial, Value, Version};
 use fkv_keeper::Finished;
 use fkv_map::{Op, PlainMap};
 use fkv_opening::Opened;
@@ -14,6 +14,8 @@ pub(crate) enum Wrong {
     Refused(Fault),
     #[error("the recovered commit was neither finished last nor begun")]
     Number,
+    #[error("the recovered log begins at another address")]
+    Begin,
     #[error("the points are not those of the finished commit, or of the one from which the life began")]
     Points,
     #[error("a point is below a durable one that was told")]
@@ -33,6 +35,8 @@ impl From<Fault> for Wrong {
 pub(crate) struct Told<'l> {
     /// The commit from which the life began.
     pub(crate) number: Version,
+    /// The address at which its log began.
+    pub(crate) begin: Addr,
     pub(crate) begun: Option<Version>,
     pub(crate) finished: &'l Option<Finished>,
     pub(crate) logs: &'l [Log],
@@ -48,6 +52,9 @@ pub(crate) fn judge(
     pairs: &[(Key, Value)],
 ) -> Result<(), Wrong> {
     judge_commit(told, opened)?;
+    if opened.begin != told.begin {
+        return Err(Wrong::Begin);
+    }
     let is_first = opened.number == told.number;
     for (log, point) in told.logs.iter().zip(opened.points.as_slice()) {
         if point.0 < log.durable.0 {

@@ -60,6 +60,7 @@ fn sample_manifest() -> ManifestSlot {
         points: Points { serials },
         checkpoint: 1,
         lost: LostRanges { ranges },
+        begin: Addr(1),
     }
 }
 
@@ -106,6 +107,42 @@ fn later_formats_have_their_bytes(rt: HostRuntime) {
     has_its_bytes(&rt, &SECOND, Format::Second);
     has_its_bytes(&rt, &THIRD, Format::Third);
     has_no_first_format(&rt);
+}
+
+/// The fourth format has the begin besides, and is written where that isn't 1.
+const FOURTH: [(usize, u64); 6] = [(312, 1), (320, 1), (328, 5), (336, 2), (456, 2), (504, 4)];
+
+#[test]
+fn a_slot_with_a_begin_has_its_bytes(rt: HostRuntime) {
+    let mut slot = sample_manifest();
+    slot.begin = Addr(2);
+    let mut numbers = [(0, 0); 14];
+    numbers[..8].copy_from_slice(&FRONT);
+    numbers[8..].copy_from_slice(&FOURTH);
+    let bytes = bytes_with(&rt, &numbers);
+    assert!(rt; write_newest_slot(&slot) == bytes);
+    assert!(rt; write_manifest_slot(&slot, Format::Fourth) == Some(bytes));
+    assert!(rt; write_manifest_slot(&slot, Format::Third).is_none());
+    assert!(rt; write_manifest_slot(&slot, Format::Second).is_none());
+    let read = read_manifest_slot(&bytes);
+    assert!(rt; read.map(|(found, read)| (found, read == slot)) == Some((Format::Fourth, true)));
+}
+
+// Behind the begin stand zeros alone, and the third format has none.
+#[test]
+fn a_begin_has_its_place_alone(rt: HostRuntime) {
+    let mut slot = sample_manifest();
+    slot.begin = Addr(2);
+    let bytes = write_newest_slot(&slot);
+    let mut longer = bytes;
+    longer[464] = 1;
+    assert!(rt; read_manifest_slot(&longer).is_none());
+    let mut last = bytes;
+    last[503] = 1;
+    assert!(rt; read_manifest_slot(&last).is_none());
+    let mut third = bytes;
+    third[504] = 3;
+    assert!(rt; read_manifest_slot(&third).is_none());
 }
 
 #[test]

@@ -112,10 +112,10 @@ start_sound : (p : Places) (replies : List ℕ) (told : LastBegin) (t : KeeperSt
 unfolding start_ledto
 start_sound p replies told t (Done (start.Begun number first)) e sound = record {
   copied = λ c in_hand full is_copied working early.
-      let same : commit_begun number t.start.asked.kind first ≡ c = cc in
+      let same : commit_begun number t.start.asked.kind t.last.begin first ≡ c = cc in
       absurd (not_log t.start.asked.kind (ap (λ (x : Commit). x.kind) same ∙ full) (ap (λ (x : Commit). x.is_copied) same ∙ is_copied));
   points = λ c in_hand taken. cc;
-  begun = λ c in_hand. let same : commit_begun number t.start.asked.kind first ≡ c = cc in ap (λ (x : Option CommitKind). begun_of x number first) sound.here ∙ ap (λ (x : Commit). Some (record { kind = x.kind; number = x.number; first = x.first })) same;
+  begun = λ c in_hand. let same : commit_begun number t.start.asked.kind t.last.begin first ≡ c = cc in ap (λ (x : Option CommitKind). begun_of x number first) sound.here ∙ ap (λ (x : Commit). Some (record { kind = x.kind; number = x.number; first = x.first })) same;
   rests = λ c in_hand so. cc;
   here = tt;
 }

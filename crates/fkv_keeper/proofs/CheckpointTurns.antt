@@ -109,7 +109,7 @@ maintain_next_in shape p s part.Flushes reply e fits =
     flush_led_in (record s { bytes = bytes_next s.flushing s.bytes reply; flushing = flush_next shape.page s.flushing reply }) (flush_ask p (flush_next shape.page s.flushing reply)) e
 maintain_next_in shape p s part.Shifts reply e fits = shift_led_in (record s { shift = shift_next shape s.shift reply }) (shift_next_ask shape s.shift reply) e (shift_in shape s.shift.step s.shift.mover reply fits)
 maintain_next_in shape p s part.Turns reply e fits = turn_led_in shape (record s { turn = turn_next shape s.turn reply }) (turn_next_ask shape s.turn reply) e (turn_in shape s.turn.step s.turn.mover reply fits)
-maintain_next_in shape p s part.Serves reply e fits = serve_led_in (record s { serving = serve_next shape.sessions s.serving reply }) (serve_ask (serve_next shape.sessions s.serving reply)) e
+maintain_next_in shape p s part.Serves reply e fits = serve_led_in (record s { serving = serve_next shape.sessions s.begin.0 s.serving reply }) (serve_ask (serve_next shape.sessions s.begin.0 s.serving reply)) e
 maintain_next_in shape p s step reply e fits = maintain_at step s e fits
 
 maintain_given_in : (s : MaintainState) (step : Maintaining) (action : Action) → s.step ≡ step → IsMaintainAt step s → IsMaintainIn (maintaining_given s step action)

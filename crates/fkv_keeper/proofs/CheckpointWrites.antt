@@ -49,7 +49,7 @@ written_as shape p replies s w c Full full holds = record {
   triples = ap (λ (k : CommitKind). triples_written k s.copy) full ∙ ap bytes_copied copy.in_hand;
   area = ap (λ (x : Checkpoint). area_place shape (area_number x.area)) used;
   used = used;
-  slot = ap (λ (k : CommitKind). slot_written shape.sessions c.number c.end (checkpoint_used c c.kind s.last s.copy) s.seek.points (lost_left k s.lost)) full;
+  slot = ap (λ (k : CommitKind). slot_written shape.sessions c.number c.begin c.end (checkpoint_used c c.kind s.last s.copy) s.seek.points (lost_left k s.lost)) full;
 }
   where
     copy : HasCopied p replies s.copy
@@ -60,7 +60,7 @@ written_as shape p replies s w c Full full holds = record {
 written_as shape p replies s w c Log log holds = record {
   triples = ap (λ (k : CommitKind). triples_written k s.copy) log;
   used = ap (λ (k : CommitKind). checkpoint_used c k s.last s.copy) log;
-  slot = ap (λ (k : CommitKind). slot_written shape.sessions c.number c.end (checkpoint_used c c.kind s.last s.copy) s.seek.points (lost_left k s.lost)) log;
+  slot = ap (λ (k : CommitKind). slot_written shape.sessions c.number c.begin c.end (checkpoint_used c c.kind s.last s.copy) s.seek.points (lost_left k s.lost)) log;
 }
 
 begun_writes : (shape : Shape) (p : Places) (replies : List ℕ) (told : LastBegin) (s : KeeperState) (w : WaitState) (found : Option Commit) → s.commit ≡ found → IsAtWork s → IsSound p replies told s Waits

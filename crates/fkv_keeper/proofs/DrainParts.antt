@@ -92,7 +92,7 @@ reply_at shape p s Shifts told reply e knows full =
 reply_at shape p s Turns told reply e knows full =
     subst (λ (x : List Exchange). IsLeftOut (turn_ledto shape (record s { turn = turn_next shape s.turn reply }) (turn_next_ask shape s.turn reply)) x) (sym (passed_told (turn_ask shape s.turn) answer.Through reply told))
     (turn_led shape (record s { turn = turn_next shape s.turn reply }) (turn_next_ask shape s.turn reply) (exchanged (turn_ask shape s.turn) reply told) e (turn_step shape s.turn told reply knows) (λ left. still_sought (turn_ask shape s.turn) reply told (full left)))
-reply_at shape p s Serves told reply e knows full = serve_led (record s { serving = serve_next shape.sessions s.serving reply }) (serve_ask (serve_next shape.sessions s.serving reply)) _ e (λ left. still_sought _ reply told (full left))
+reply_at shape p s Serves told reply e knows full = serve_led (record s { serving = serve_next shape.sessions s.begin.0 s.serving reply }) (serve_ask (serve_next shape.sessions s.begin.0 s.serving reply)) _ e (λ left. still_sought _ reply told (full left))
 
 pub maintain_replied : (shape : Shape) (p : Places) (s : MaintainState) (told : List Exchange) (reply : ℕ) → IsLeftOut s told → IsLeftOut (maintain_next shape p s reply) (exchanged (maintain_ask shape p s) reply told)
 maintain_replied shape p s told reply its = reply_at shape p s s.step told reply refl its.knows its.full

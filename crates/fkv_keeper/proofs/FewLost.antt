@@ -150,7 +150,7 @@ unfolding start_ledto
 started t (Done (start.Begun number first)) asks its known = record {
   starts = λ now. absurd (not_starts _ _ refl now);
   commit = λ c in_hand.
-      subst (λ (x : Commit). MayBegin (asked_for t x.kind) x.number) (some_same (commit_begun number t.start.asked.kind first) c in_hand)
+      subst (λ (x : Commit). MayBegin (asked_for t x.kind) x.number) (some_same (commit_begun number t.start.asked.kind t.last.begin first) c in_hand)
       (subst (λ (x : StartAsked). MayBegin x number) its.1 (begun_may t.start t.start.step number first asks its.0));
 }
 started t (Done (start.Refused why)) asks its known = record { starts = λ now. absurd (not_starts _ _ refl now); commit = known }
@@ -254,24 +254,25 @@ run_room shape p opening events opened = λ c in_hand.
 
 -- what its slot says
 whole_said : (shape : Shape) (s a : KeeperState) (c : Commit) (lost : List LostRange) → s.commit ≡ Some c → c.number.0 < last_version → lost ≡ lost_left c.kind s.lost → length lost ≤ max_lost
-    → a.writes.gate.slot ≡ slot_written shape.sessions c.number c.end a.used s.seek.points lost → IsSlotWhole shape s a
+    → a.writes.gate.slot ≡ slot_written shape.sessions c.number c.begin c.end a.used s.seek.points lost → IsSlotWhole shape s a
 whole_said shape s a c lost in_hand follows is few slot = record {
   commit = c;
   in_hand = in_hand;
-  said = slot_said shape.sessions c.number c.end a.used s.seek.points lost;
+  said = slot_said shape.sessions c.number c.begin c.end a.used s.seek.points lost;
   spelled = slot;
   number = refl;
+  begin = refl;
   points = points;
   few_points = few_points;
   lost = all ∙ is;
   few_lost = few_lost;
-  named = subst (λ (x : List ℕ). IsSlotOf c.number.0 x) (sym slot) (newest_spelled (slot_said shape.sessions c.number c.end a.used s.seek.points lost) (omega (arith, follows)) few_points few_lost);
+  named = subst (λ (x : List ℕ). IsSlotOf c.number.0 x) (sym slot) (newest_spelled (slot_said shape.sessions c.number c.begin c.end a.used s.seek.points lost) (omega (arith, follows)) few_points few_lost);
 }
   where
-    points : length (slot_said shape.sessions c.number c.end a.used s.seek.points lost).points ≡ shape.sessions
+    points : length (slot_said shape.sessions c.number c.begin c.end a.used s.seek.points lost).points ≡ shape.sessions
     points = length-map-range_with_len (λ (session : ℕ). point_written s.seek.points session) 0 shape.sessions
 
-    few_points : length (slot_said shape.sessions c.number c.end a.used s.seek.points lost).points ≤ 32
+    few_points : length (slot_said shape.sessions c.number c.begin c.end a.used s.seek.points lost).points ≤ 32
     few_points = omega (arith, length-map-range_with_len (λ (session : ℕ). point_written s.seek.points session) 0 shape.sessions, shape.limits.few_sessions)
 
     all : take 8 lost ≡ lost

@@ -1,3 +1,4 @@
+mod BeginKept
 mod BeginRun
 mod CheckpointAsks
 mod CheckpointMoves

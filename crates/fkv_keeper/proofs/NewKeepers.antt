@@ -1,5 +1,5 @@
 -- A new keeper is where a run begins.
-use Rattle.std.proofs.Common.{ap, List}
+use Rattle.std.proofs.Common.{◌∙◌, ap, sym, List}
 use Rattle.fkv_base.specs.declared.shapes.Shape.{Shape}
 use Rattle.fkv_record.specs.declared.lost_ranges.LostRange.{LostRange}
 use Rattle.fkv_keeper.specs.Keeping.{Finality, KeeperModel}
@@ -7,4 +7,4 @@ use Rattle.fkv_keeper.specs.KeeperRun.{IsOpened, is_in_hand}
 use Rattle.fkv_keeper.specs.NewKeepers.{IsNewKeeper}
 
 pub new_is_opened : (shape : Shape) (last : Finality) (lost : List LostRange) (k : KeeperModel) → IsNewKeeper shape last lost k → IsOpened k.state
-new_is_opened shape last lost k its = record { none_in_hand = ap is_in_hand its.no_call; no_commit = its.no_commit; none_rest = its.none_rest; works = its.works }
+new_is_opened shape last lost k its = record { none_in_hand = ap is_in_hand its.no_call; no_commit = its.no_commit; none_rest = its.none_rest; works = its.works; turns_rest = its.turns_rest; serves_from = its.serves_from ∙ sym (ap (λ (l : Finality). l.begin) its.newest) }

@@ -110,13 +110,13 @@ pub record IsFullWritten (shape : Shape) (p : Places) (replies : List ℕ) (s a 
   pub triples : a.writes.triples ≡ all_bytes (copied_after p replies)
   pub area : a.writes.area ≡ area_place shape (area_number (other_area s.last.checkpoint.area))
   pub used : a.used ≡ record { number = c.number; first = c.first; triples = length (copied_after p replies); area = other_area s.last.checkpoint.area }
-  pub slot : a.writes.gate.slot ≡ slot_written shape.sessions c.number c.end a.used s.seek.points []
+  pub slot : a.writes.gate.slot ≡ slot_written shape.sessions c.number c.begin c.end a.used s.seek.points []
 
 -- A log commit writes no triples: it uses the newest finished commit's checkpoint, and its slot names the first eight lost ranges in hand.
 pub record IsLogWritten (shape : Shape) (s a : KeeperState) (c : Commit) : Type 0 where
   pub triples : a.writes.triples ≡ []
   pub used : a.used ≡ s.last.checkpoint
-  pub slot : a.writes.gate.slot ≡ slot_written shape.sessions c.number c.end a.used s.seek.points s.lost
+  pub slot : a.writes.gate.slot ≡ slot_written shape.sessions c.number c.begin c.end a.used s.seek.points s.lost
 
 abbrev pub IsWrittenAs : CommitKind → Shape → Places → List ℕ → KeeperState → KeeperState → Commit → Type 0
 IsWrittenAs Full shape p replies s a c = IsFullWritten shape p replies s a c
@@ -214,13 +214,13 @@ pub record IsBegun (s a : KeeperState) : Type 0 where
   pub no_copy : a.copy ≡ None
   pub told : a.step ≡ Ended (Begun commit.number)
 
--- The commit in hand is finished: it is the newest finished one now, with its points, its checkpoint and the gate that it opened. A full one
+-- The commit in hand is finished: it is the newest finished one now, with its begin, its points, its checkpoint and the gate that it opened. A full one
 -- leaves no lost range, and a log commit leaves all.
 pub record IsFinished (s a : KeeperState) (c : Commit) : Type 0 where
   pub finishes : s.step ≡ Finishes
   pub none_in_hand : a.commit ≡ None
   pub told : a.step ≡ Ended (Turned true s.is_drain_full)
-  pub last : a.last ≡ record { number = c.number; points = s.seek.points; checkpoint = s.used; gates = gate_opened s.last.gates c.number }
+  pub last : a.last ≡ record { number = c.number; begin = c.begin; points = s.seek.points; checkpoint = s.used; gates = gate_opened s.last.gates c.number }
   pub lost : a.lost ≡ lost_left c.kind s.lost
 
 -- The commit in hand stays, as it was begun, and copied where it was so.

@@ -8,6 +8,7 @@ use Rattle.fkv_plane.specs.declared.asks.Ask.TheVariants.{Done}
 use Rattle.fkv_plane.specs.declared.places.Places.{Places}
 use Rattle.fkv_base.specs.declared.commits.CommitKind.{CommitKind}
 use Rattle.fkv_manifest.specs.Committing.{CommitWriter}
+use Rattle.fkv_maintain.specs.declared.maintaining.Maintaining.TheVariants.{Through}
 use Rattle.fkv_keeper.specs.declared.answers.KeeperTold.{KeeperTold}
 use Rattle.fkv_keeper.specs.declared.answers.KeeperTold.TheVariants.{Device, Turned, Begun}
 use Rattle.fkv_keeper.specs.declared.keepers.Keeping.{Keeping}
@@ -47,12 +48,15 @@ unfoldable pub keeper_run : Shape → Places → KeeperState → List KeeperEven
 keeper_run shape p opening [] = opening
 keeper_run shape p opening (event ∷ before) = keeper_happens shape p (keeper_run shape p opening before) event
 
--- The keeper of a store that was opened: no call and no commit is in hand, no writes rest, and the device has not failed.
+-- The keeper of a store that was opened: no call and no commit is in hand, no writes rest, the device has not failed, and no part of a turn is under way.
+-- Mailboxes are served of a log that begins where that of the newest finished commit does.
 pub record IsOpened (s : KeeperState) : Type 0 where
   pub none_in_hand : is_in_hand s.step ≡ false
   pub no_commit : s.commit ≡ None
   pub none_rest : s.rests ≡ false
   pub works : s.is_broken ≡ false
+  pub turns_rest : s.maintain.step ≡ Through
+  pub serves_from : s.maintain.begin ≡ s.last.begin
 
 -- it asks for the device, and the call fails
 abbrev pub is_failure : KeeperEvent → Ask KeeperTold → Bool

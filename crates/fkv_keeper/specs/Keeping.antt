@@ -59,6 +59,8 @@ use Rattle.fkv_maintain.specs.Maintaining.{MaintainState, maintain_begun, mainta
 -- a finished commit
 pub record Finality : Type 0 where
   pub number : Version
+  -- the address at which its log begins
+  pub begin : Addr
   pub points : List Serial
   pub checkpoint : Checkpoint
   pub gates : Bool × Bool
@@ -183,10 +185,10 @@ parts_begun rests s = if rests then maintain_serving s else maintain_begun s
 abbrev pub turn_asked : KeeperState → KeeperState
 turn_asked s = if s.is_broken then ended s (TurnRefused fault.Broken) else record s { maintain = parts_begun s.rests s.maintain; is_drain_full = false; step = Maintains }
 
--- by what the machines inside ask next
+-- By what the machines inside ask next. The log of a commit begins where that of the newest finished one does.
 unfoldable pub start_ledto : KeeperState → Ask StartAnswer → KeeperState
 start_ledto s (Done (start.Begun number first)) =
-    ended (record s { commit = Some (commit_begun number s.start.asked.kind first); copy = None; has_entered = false; has_points = false; rests = false }) (Begun number)
+    ended (record s { commit = Some (commit_begun number s.start.asked.kind s.last.begin first); copy = None; has_entered = false; has_points = false; rests = false }) (Begun number)
 start_ledto s (Done (start.Refused why)) = ended s (CommitRefused why)
 start_ledto s (Done start.Idle) = ended s (CommitRefused fault.CommitRunning)
 start_ledto s ask = s
@@ -295,7 +297,7 @@ abbrev pub gate_writes_of : Shape → KeeperState → Commit → Checkpoint → 
 gate_writes_of shape s c used = record {
   place = slot_place c.number;
   start = 1;
-  slot = slot_written shape.sessions c.number c.end used s.seek.points (lost_left c.kind s.lost);
+  slot = slot_written shape.sessions c.number c.begin c.end used s.seek.points (lost_left c.kind s.lost);
   step = gate_start (is_gate_open s.last.gates c.number);
 }
 
@@ -326,7 +328,7 @@ wait_ledto shape s ask = s
 
 -- the commit is finished
 abbrev pub finality_of : KeeperState → Commit → Finality
-finality_of s c = record { number = c.number; points = s.seek.points; checkpoint = s.used; gates = gate_opened s.last.gates c.number }
+finality_of s c = record { number = c.number; begin = c.begin; points = s.seek.points; checkpoint = s.used; gates = gate_opened s.last.gates c.number }
 
 -- writes of nothing, which keep no bytes of triples
 unfoldable pub no_writes : CommitWriter

@@ -42,9 +42,9 @@ points_written sessions points = map (λ session. point_written points session) 
 abbrev pub lost_written : List LostRange → List LostRange
 lost_written lost = take 8 lost
 
--- what the slot of a commit says: its number, its end and its points, the checkpoint that it uses, and the lost ranges
-abbrev pub slot_said : ℕ → Version → Addr → Checkpoint → List Serial → List LostRange → SlotSaid
-slot_said sessions number end checkpoint points lost = record {
+-- what the slot of a commit says: its number, where its log begins and ends, its points, the checkpoint that it uses, and the lost ranges
+abbrev pub slot_said : ℕ → Version → Addr → Addr → Checkpoint → List Serial → List LostRange → SlotSaid
+slot_said sessions number begin end checkpoint points lost = record {
   number = number.0;
   first = checkpoint.first;
   end = end;
@@ -53,8 +53,9 @@ slot_said sessions number end checkpoint points lost = record {
   points = points_written sessions points;
   checkpoint = checkpoint.number.0;
   lost = lost_written lost;
+  begin = begin;
 }
 
--- its bytes, in the newest format
-abbrev pub slot_written : ℕ → Version → Addr → Checkpoint → List Serial → List LostRange → List ℕ
-slot_written sessions number end checkpoint points lost = newest_bytes (slot_said sessions number end checkpoint points lost)
+-- its bytes, as a slot is written
+abbrev pub slot_written : ℕ → Version → Addr → Addr → Checkpoint → List Serial → List LostRange → List ℕ
+slot_written sessions number begin end checkpoint points lost = newest_bytes (slot_said sessions number begin end checkpoint points lost)

@@ -16,11 +16,12 @@ pub record ArePlacesOfStore (shape : Shape) (p : Places) : Type 0 where
   pub ring : p.ring ≡ shape.frames * shape.page
 
 -- The keeper of a store of this shape, which was opened at this newest finished commit with these lost ranges in hand. No call and no commit is in
--- hand, nothing is copied, nothing has failed, and nothing was done.
+-- hand, nothing is copied, nothing has failed, and nothing was done. Mailboxes are served of the log that begins where that commit's does.
 pub record IsNewKeeper (shape : Shape) (last : Finality) (lost : List LostRange) (k : KeeperModel) : Type 0 where
   pub its_shape : k.shape ≡ shape
   pub its_places : ArePlacesOfStore shape k.places
   pub newest : k.state.last ≡ last
+  pub serves_from : k.state.maintain.begin ≡ last.begin
   pub used : k.state.used ≡ last.checkpoint
   pub class : k.state.start.asked.class ≡ shape.class
   pub in_hand : k.state.lost ≡ lost

@@ -1,6 +1,7 @@
--- What the slot of a commit names as its writes begin: all of its lost ranges, and a point for each session.
+-- What the slot of a commit names as its writes begin: all of its lost ranges, a point for each session, and where its log begins.
 use Rattle.std.specs.Prelude.{◌≡◌, ◌≤◌, ◌<◌, length, Some}
 use Rattle.fkv_base.specs.Limits.{max_sessions, last_of}
+use Rattle.fkv_base.specs.declared.numbers.Addr.{Addr}
 use Rattle.fkv_base.specs.declared.shapes.Shape.{Shape}
 use Rattle.fkv_marks.specs.Window.{InWindow}
 use Rattle.fkv_record.specs.Manifest.{SlotSaid, newest_bytes}
@@ -8,6 +9,7 @@ use Rattle.fkv_commit.specs.declared.commits.Commit.{Commit}
 use Rattle.fkv_base.specs.declared.commits.CommitKind.TheVariants.{Log}
 use Rattle.fkv_commit.specs.Starting.{max_lost}
 use Rattle.fkv_manifest.specs.Kept.{IsSlotOf}
+use Rattle.fkv_maintain.specs.Parts.{ReadsAbove}
 use Rattle.fkv_keeper.specs.Keeping.{KeeperState, lost_left}
 
 -- A version follows that of the commit in hand. Where that is a log commit, its slot has room for all lost ranges in hand, and it lies in the window of the
@@ -27,8 +29,16 @@ pub record IsSlotWhole (shape : Shape) (s a : KeeperState) : Type 0 where
   pub said : SlotSaid
   pub spelled : a.writes.gate.slot ≡ newest_bytes said
   pub number : said.number ≡ commit.number.0
+  pub begin : said.begin ≡ commit.begin
   pub points : length said.points ≡ shape.sessions
   pub few_points : length said.points ≤ max_sessions
   pub lost : said.lost ≡ lost_left commit.kind s.lost
   pub few_lost : length said.lost ≤ max_lost
   pub named : IsSlotOf commit.number.0 a.writes.gate.slot
+
+-- The log begins here: for the newest finished commit, for the one in hand, and where mailboxes are served. A read for one is at or above that.
+pub record BeginsAt (begin : Addr) (s : KeeperState) : Type 0 where
+  pub newest : s.last.begin ≡ begin
+  pub serves : s.maintain.begin ≡ begin
+  pub reads : ReadsAbove s.maintain
+  pub commit : (c : Commit) → s.commit ≡ Some c → c.begin ≡ begin

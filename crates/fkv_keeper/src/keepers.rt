@@ -103,7 +103,7 @@ impl Model for Keeper {
 
     ghost Value = { KeeperModel };
 
-    ghost view = { λ m. record { shape = m.shape; places = m.places; state = record { maintain = m.maintain.state; start = m.start; enter = m.enter; copy = m.copy; seek = m.seek; wait = m.wait; writes = m.writes; finish = m.finish; commit = m.commit; has_entered = m.has_entered; has_points = m.has_points; is_granted = m.is_granted; is_broken = m.is_broken; is_drain_full = m.is_drain_full; has_finished = m.has_finished; rests = m.rests; used = m.used; last = record { number = m.last.number; points = m.last.points.items; checkpoint = m.last.checkpoint; gates = m.last.gates }; lost = m.lost.items; step = m.step } } };
+    ghost view = { λ m. record { shape = m.shape; places = m.places; state = record { maintain = m.maintain.state; start = m.start; enter = m.enter; copy = m.copy; seek = m.seek; wait = m.wait; writes = m.writes; finish = m.finish; commit = m.commit; has_entered = m.has_entered; has_points = m.has_points; is_granted = m.is_granted; is_broken = m.is_broken; is_drain_full = m.is_drain_full; has_finished = m.has_finished; rests = m.rests; used = m.used; last = record { number = m.last.number; begin = m.last.begin; points = m.last.points.items; checkpoint = m.last.checkpoint; gates = m.last.gates }; lost = m.lost.items; step = m.step } } };
 
     ghost invariant = { λ m. (m.maintain.shape ≡ m.shape) × (m.maintain.places ≡ m.places) × (m.seek.sessions ≡ m.shape.sessions) × (m.finish.sessions ≡ m.shape.sessions) × IsRoomFor m.places m.room };
 }
@@ -117,12 +117,12 @@ impl Keeper {
         last: LastCommit,
         lost: ArrayVec<LostRange, MAX_LOST_IN_HAND>,
     ) -> Result<Keeper, Fault>
-        ensures made { IfOk result (λ keeper. IsNewKeeper shape (record { number = last.number; points = last.points.items; checkpoint = last.checkpoint; gates = last.gates }) lost.items keeper) }
+        ensures made { IfOk result (λ keeper. IsNewKeeper shape (record { number = last.number; begin = last.begin; points = last.points.items; checkpoint = last.checkpoint; gates = last.gates }) lost.items keeper) }
         ensures opened { IfOk result (λ keeper. IsOpened keeper.state) }
         ensures err { OnErr result (result ≡ Err Memory) }
     {
         let places = Places::of(&shape);
-        let maintain = Maintain::new(alloc, shape, places)?;
+        let maintain = Maintain::new(alloc, shape, places, last.begin)?;
         let used = last.checkpoint;
         Ok(Keeper {
             alloc,

@@ -51,6 +51,8 @@ pub struct Checkpoint {
 #[derive(Drop)]
 pub struct LastCommit {
     pub number: Version,
+    /// The address at which its log begins: below it nothing is read, and nothing counts after a crash.
+    pub begin: Addr,
     /// The point of each session.
     pub points: ArrayVec<Serial, MAX_POINTS>,
     /// The checkpoint that it uses, which an earlier commit may have made.

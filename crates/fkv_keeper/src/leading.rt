@@ -144,7 +144,12 @@ impl Keeper {
         if let Ask::Done(answer) = ask {
             match answer {
                 StartAnswer::Begun(number, first) => {
-                    self.commit = Some(Commit::begun(number, self.start.kind(), first));
+                    self.commit = Some(Commit::begun(
+                        number,
+                        self.start.kind(),
+                        self.last.begin,
+                        first,
+                    ));
                     self.copy = None;
                     self.has_entered = false;
                     self.has_points = false;
@@ -371,6 +376,7 @@ impl Keeper {
         let slot = slot_written(
             self.shape.sessions,
             commit.number,
+            commit.begin,
             commit.end,
             &self.used,
             self.seek.points(),
@@ -472,6 +478,7 @@ impl Keeper {
     {
         self.commit = None;
         self.last.number = commit.number;
+        self.last.begin = commit.begin;
         self.last.points.clear();
         let _ = self.last.points.try_extend_from_slice(self.seek.points());
         self.last.checkpoint = self.used;

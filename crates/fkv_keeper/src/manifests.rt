@@ -10,10 +10,11 @@ use fkv_record::{
     LostRange, LostRanges, MAX_LOST, ManifestSlot, Points, SLOT_PLACES, write_newest_slot,
 };
 
-/// The bytes of the slot of a commit, in the newest format.
+/// The bytes of the slot of a commit, as one is written.
 pub(crate) fn slot_written(
     sessions: u64,
     number: Version,
+    begin: Addr,
     end: Addr,
     checkpoint: &Checkpoint,
     points: &[Serial],
@@ -21,11 +22,11 @@ pub(crate) fn slot_written(
 ) -> [u8; 512]
     requires some_session { 0 < sessions }
     requires few_sessions { sessions ≤ max_sessions }
-    ensures { result ≡ slot_written sessions number end checkpoint.now points.now lost.now }
+    ensures { result ≡ slot_written sessions number begin end checkpoint.now points.now lost.now }
 {
     let points = points_written(sessions, points);
     let lost = lost_written(lost);
-    let (number, end) = (number.0, end.0);
+    let (number, begin, end) = (number.0, begin.0, end.0);
     let (maker, first, triples) = (checkpoint.number.0, checkpoint.first.0, checkpoint.triples);
     let slot = ManifestSlot {
         number,
@@ -36,6 +37,7 @@ pub(crate) fn slot_written(
         points,
         checkpoint: maker,
         lost,
+        begin: Addr(begin),
     };
     write_newest_slot(&slot)
 }

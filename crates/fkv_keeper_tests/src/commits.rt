@@ -166,6 +166,7 @@ fn no_lost() -> ArrayVec<LostRange, MAX_LOST_IN_HAND> {
 fn created_commit() -> LastCommit {
     LastCommit {
         number: Version(0),
+        begin: Addr(1),
         points: ArrayVec::new(),
         checkpoint: Checkpoint {
             number: Version(0),
@@ -181,6 +182,7 @@ fn created_commit() -> LastCommit {
 fn first_commit() -> LastCommit {
     LastCommit {
         number: Version(1),
+        begin: Addr(1),
         points: ArrayVec::new(),
         checkpoint: Checkpoint {
             number: Version(1),

@@ -196,7 +196,7 @@ fn flushes(
 fn a_write_for_each_page_and_a_sync(rt: HostRuntime) -> Result<(), Fail> {
     let shape = small_shape()?;
     let mut plane = new_words(rt.alloc(), &shape)?;
-    let mut machine = Maintain::new(rt.alloc(), shape, Places::of(&shape))?;
+    let mut machine = Maintain::new(rt.alloc(), shape, Places::of(&shape), Addr(1))?;
     let mut disk = Fuse::new(MemDisk::new(rt.alloc()));
     flushes(&rt, &mut plane, &mut machine, &mut disk);
     is_synced(&rt, disk)?;
@@ -294,7 +294,7 @@ fn new_stage(alloc: Global, passes: u64) -> Result<Stage, Fault> {
     let shape = small_shape()?;
     Ok(Stage {
         plane: new_words(alloc, &shape)?,
-        machine: Maintain::new(alloc, shape, Places::of(&shape))?,
+        machine: Maintain::new(alloc, shape, Places::of(&shape), Addr(1))?,
         disk: Once::new(MemDisk::new(alloc), passes),
     })
 }

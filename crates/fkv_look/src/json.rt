@@ -129,6 +129,9 @@ fn json_of_commit(alloc: Global, commit: &CommitLook) -> Result<Value, AllocErro
         ("area", slot.area),
     ];
     let mut object = object_of(alloc, &numbers)?;
+    if slot.begin.0 != 1 {
+        put(&mut object, alloc, "begin", Value::from(slot.begin.0))?;
+    }
     put_text(alloc, &mut object, "state", "commit")?;
     put_text(alloc, &mut object, "kind", kind_name(commit.kind))?;
     let points = json_of_points(alloc, slot.points.serials.as_slice())?;

@@ -83,6 +83,9 @@ fn write_commit<W: Write>(output: &mut W, commit: &CommitLook) -> io::Result<()>
         (" area ", slot.area),
     ];
     write_numbers(output, &numbers)?;
+    if slot.begin.0 != 1 {
+        write!(output, " begin {}", slot.begin.0)?;
+    }
     output.write_all(b" points")?;
     for point in slot.points.serials.as_slice() {
         write!(output, " {}", point.0)?;
@@ -113,6 +116,7 @@ pub(crate) fn format_number(format: Format) -> u64 {
         Format::First => 1,
         Format::Second => 2,
         Format::Third => 3,
+        Format::Fourth => 4,
     }
 }
 

@@ -1,7 +1,9 @@
+mod BeginKept
 mod GoesOn
 mod MaintainLeft
 mod PartsDriven
 mod PartsFollow
 mod PartsInOrder
+mod ReadsAbove
 pub mod Shown
 mod TakesNone

@@ -307,10 +307,10 @@ flush_falls p page step reply some asks =
     let fewer = flush_fewer p page step reply some (calls_none (flush_ask p step) asks) in
     omega (arith, left, fewer)
 
-serve_falls : (sessions : ℕ) (step : Serving) (reply : ℕ) → is_done (serve_ask step) ≡ false → serve_asks_left sessions (serve_next sessions step reply) < serve_asks_left sessions step
-serve_falls sessions step reply asks =
+serve_falls : (sessions begin : ℕ) (step : Serving) (reply : ℕ) → is_done (serve_ask step) ≡ false → serve_asks_left sessions (serve_next sessions begin step reply) < serve_asks_left sessions step
+serve_falls sessions begin step reply asks =
     let left = (serve_left sessions step).0 (not_through (serve_ask step) asks) in
-    let fewer = serve_fewer sessions step reply (calls_none (serve_ask step) asks) in
+    let fewer = serve_fewer sessions begin step reply (calls_none (serve_ask step) asks) in
     omega (arith, left, fewer)
 
 maintaining_fewer : (shape : Shape) (p : Places) (s : MaintainState) (step : Maintaining) (reply : ℕ) → s.step ≡ step → is_done (maintaining_ask shape p s step) ≡ false → takes_action (maintaining_ask shape p s step) ≡ false
@@ -356,8 +356,8 @@ maintaining_fewer shape p s Turns reply at asks takes =
     omega (arith, whole, led)
 maintaining_fewer shape p s Serves reply at asks takes =
     let inside : is_done (serve_ask s.serving) ≡ false = sym (device_done (serve_ask s.serving)) ∙ asks in
-    let next = serve_next shape.sessions s.serving reply in
-    let fewer = serve_falls shape.sessions s.serving reply inside in
+    let next = serve_next shape.sessions s.begin.0 s.serving reply in
+    let fewer = serve_falls shape.sessions s.begin.0 s.serving reply inside in
     let led = serve_led shape (record s { serving = next }) (serve_asks_left shape.sessions s.serving) (serve_ask next) at fewer in
     omega (arith, led)
 

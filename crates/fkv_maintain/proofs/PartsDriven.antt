@@ -70,7 +70,7 @@ replied_drives shape p s Flushes reply =
 replied_drives shape p s Shifts reply = shift_kept (record s { shift = shift_next shape s.shift reply }) (shift_next_ask shape s.shift reply)
 replied_drives shape p s Turns reply = turn_kept shape (record s { turn = turn_next shape s.turn reply }) (turn_next_ask shape s.turn reply)
 replied_drives shape p s Serves reply =
-    let next = serve_next shape.sessions s.serving reply in
+    let next = serve_next shape.sessions s.begin.0 s.serving reply in
     (serve_kept (record s { serving = next }) (serve_ask next)).0
 
 given_drives : (shape : Shape) (s : MaintainState) (step : Maintaining) (action : Action) → Drives shape s step (Gets action) (maintaining_given s step action)

@@ -116,7 +116,7 @@ replied shape p s Flushes reply at =
 replied shape p s Shifts reply at = shift_led shape s reply (record s { shift = shift_next shape s.shift reply }) (shift_next_ask shape s.shift reply) at refl
 replied shape p s Turns reply at = turn_led shape s reply (record s { turn = turn_next shape s.turn reply }) (turn_next_ask shape s.turn reply) at refl
 replied shape p s Serves reply at =
-    let next = serve_next shape.sessions s.serving reply in
+    let next = serve_next shape.sessions s.begin.0 s.serving reply in
     serve_led (Replies reply) (record s { serving = next }) (serve_ask next) at refl
 
 given : (shape : Shape) (p : Places) (s : MaintainState) (step : Maintaining) (action : Action) → s.step ≡ step → MayFollow shape p s step (Gets action) (maintaining_given s step action)

@@ -106,7 +106,7 @@ replied_full shape p s Flushes reply =
 replied_full shape p s Shifts reply = shift_full (record s { shift = shift_next shape s.shift reply }) (shift_next_ask shape s.shift reply)
 replied_full shape p s Turns reply = turn_full shape (record s { turn = turn_next shape s.turn reply }) (turn_next_ask shape s.turn reply)
 replied_full shape p s Serves reply =
-    let next = serve_next shape.sessions s.serving reply in
+    let next = serve_next shape.sessions s.begin.0 s.serving reply in
     serve_full (record s { serving = next }) (serve_ask next)
 
 given_full : (shape : Shape) (s : MaintainState) (step : Maintaining) (action : Action) → (maintaining_given s step action).is_drain_full ≡ (lacks_slot shape s step (Gets action) || s.is_drain_full)

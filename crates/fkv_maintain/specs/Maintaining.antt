@@ -44,6 +44,8 @@ pub record MaintainState : Type 0 where
   pub flushing : Flushing
   pub shift : ShiftState
   pub turn : TurnState
+  -- the address at which the log begins
+  pub begin : Addr
   pub serving : Serving
   pub is_drain_full : Bool
   pub step : Maintaining
@@ -133,7 +135,7 @@ maintaining_next shape p s Flushes reply =
     flush_ledto (record s { bytes = bytes_next s.flushing s.bytes reply; flushing = flush_next shape.page s.flushing reply }) (flush_ask p (flush_next shape.page s.flushing reply))
 maintaining_next shape p s Shifts reply = shift_ledto (record s { shift = shift_next shape s.shift reply }) (shift_next_ask shape s.shift reply)
 maintaining_next shape p s Turns reply = turn_ledto shape (record s { turn = turn_next shape s.turn reply }) (turn_next_ask shape s.turn reply)
-maintaining_next shape p s Serves reply = serve_ledto (record s { serving = serve_next shape.sessions s.serving reply }) (serve_ask (serve_next shape.sessions s.serving reply))
+maintaining_next shape p s Serves reply = serve_ledto (record s { serving = serve_next shape.sessions s.begin.0 s.serving reply }) (serve_ask (serve_next shape.sessions s.begin.0 s.serving reply))
 maintaining_next shape p s step reply = s
 
 abbrev pub maintain_next : Shape → Places → MaintainState → ℕ → MaintainState

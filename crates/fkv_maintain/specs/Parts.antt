@@ -1,6 +1,6 @@
 -- The parts of a turn come in their order, each once and none left out: the scan, the claims, the flush, the shift, the page and the
 -- mailboxes.
-use Rattle.std.specs.Prelude.{◌≡◌, ⊤, ◌⊎◌, ◌<◌, ℕ, List, [], ◌∷◌, Bool, true, false, ◌||◌, if◌then◌else◌, None}
+use Rattle.std.specs.Prelude.{◌≡◌, ⊤, ◌⊎◌, ◌<◌, ◌≤◌, ℕ, List, [], ◌∷◌, Bool, true, false, ◌||◌, if◌then◌else◌, None}
 use Rattle.fkv_base.specs.declared.numbers.Addr.{Addr}
 use Rattle.fkv_base.specs.declared.shapes.Shape.{Shape}
 use Rattle.fkv_plane.specs.declared.asks.Ask.{Ask}
@@ -19,6 +19,8 @@ use Rattle.fkv_log.specs.Shifting.{shift_begun, shift_next, shift_next_ask}
 use Rattle.fkv_log.specs.Turning.{turn_begun, turn_next, turn_next_ask}
 use Rattle.fkv_flush.specs.declared.answers.DeviceAnswer.TheVariants as device
 use Rattle.fkv_flush.specs.declared.flushing.Flushing.TheVariants.{LoadsFlushed}
+use Rattle.fkv_flush.specs.declared.serving.Serving.{Serving}
+use Rattle.fkv_flush.specs.declared.serving.Serving.TheVariants as serving
 use Rattle.fkv_flush.specs.Flushing.{flush_ask, flush_next, flush_done, bytes_next, bytes_done}
 use Rattle.fkv_flush.specs.Serving.{serve_ask, serve_next, serve_read, mailbox_from}
 use Rattle.fkv_maintain.specs.declared.maintaining.Maintaining.{Maintaining}
@@ -111,10 +113,29 @@ Drives shape s Flushes (Replies reply) next = (next.flushing ≡ flush_next shap
 Drives shape s Flushes (Calls done bytes) next = (next.flushing ≡ flush_done shape.page s.flushing done) × (next.bytes ≡ bytes_done s.flushing s.bytes)
 Drives shape s Shifts (Replies reply) next = next.shift ≡ shift_next shape s.shift reply
 Drives shape s Turns (Replies reply) next = next.turn ≡ turn_next shape s.turn reply
-Drives shape s Serves (Replies reply) next = next.serving ≡ serve_next shape.sessions s.serving reply
+Drives shape s Serves (Replies reply) next = next.serving ≡ serve_next shape.sessions s.begin.0 s.serving reply
 Drives shape s Serves (Calls true bytes) next = next.serving ≡ serve_read s.serving bytes
 Drives shape s Serves (Calls false bytes) next = next.step ≡ Broken
 Drives shape s step event next = next ≡ s
+
+-- A read for a mailbox is at or above the log's begin.
+abbrev pub ServesAbove : ℕ → Serving → Type 0
+ServesAbove begin (serving.Reads session addr) = begin ≤ addr
+ServesAbove begin step = ⊤
+
+abbrev pub AboveAt : MaintainState → Maintaining → Type 0
+AboveAt s Serves = ServesAbove s.begin.0 s.serving
+AboveAt s step = ⊤
+
+abbrev pub ReadsAbove : MaintainState → Type 0
+ReadsAbove s = AboveAt s s.step
+
+abbrev pub StaysAbove : Type 0
+StaysAbove = (shape : Shape) (p : Places) (s : MaintainState) (event : MaintainEvent) → ReadsAbove s → ReadsAbove (maintain_happens shape p s event)
+
+-- nothing moves the log's begin
+abbrev pub KeepsBegin : Type 0
+KeepsBegin = (shape : Shape) (p : Places) (s : MaintainState) (event : MaintainEvent) → (maintain_happens shape p s event).begin ≡ s.begin
 
 abbrev pub DrivesItsParts : Type 0
 DrivesItsParts = (shape : Shape) (p : Places) (s : MaintainState) (event : MaintainEvent) → Drives shape s s.step event (maintain_happens shape p s event)

@@ -76,17 +76,18 @@ impl Model for Maintain {
 
     ghost Value = { Maintainer };
 
-    ghost view = { λ m. record { shape = m.shape; places = m.places; state = record { scanning = m.scan.step; claiming = m.claim.step; bytes = m.flush.bytes; flushing = m.flush.step; shift = m.shift.state; turn = m.turn.state; serving = m.serve.step; is_drain_full = m.is_drain_full; step = m.step } } };
+    ghost view = { λ m. record { shape = m.shape; places = m.places; state = record { scanning = m.scan.step; claiming = m.claim.step; bytes = m.flush.bytes; flushing = m.flush.step; shift = m.shift.state; turn = m.turn.state; begin = m.serve.begin; serving = m.serve.step; is_drain_full = m.is_drain_full; step = m.step } } };
 
     ghost invariant = { λ m. (m.scan.sessions ≡ m.shape.sessions) × (m.flush.shape ≡ m.shape) × (m.flush.places ≡ m.places) × (m.shift.shape ≡ m.shape) × (m.turn.shape ≡ m.shape) × (m.serve.shape ≡ m.shape) };
 }
 
 impl Maintain {
-    /// The machine of a store of this shape, at rest, with room for the bytes of one page. `Fault::Memory` where memory is refused
-    /// for it; later no more is taken.
-    pub fn new(alloc: Global, shape: Shape, places: Places) -> Result<Maintain, Fault>
+    /// The machine of a store of this shape, whose log begins at this address, at rest, with room for the bytes of one page.
+    /// `Fault::Memory` where memory is refused for it; later no more is taken.
+    pub fn new(alloc: Global, shape: Shape, places: Places, begin: Addr) -> Result<Maintain, Fault>
         ensures shape { IfOk result (λ made. made.shape ≡ shape) }
         ensures places { IfOk result (λ made. made.places ≡ places) }
+        ensures begin { IfOk result (λ made. made.state.begin ≡ begin) }
         ensures rest { IfOk result (λ made. made.state.step ≡ Through) }
         ensures err { OnErr result (result ≡ Err Memory) }
     {
@@ -99,7 +100,7 @@ impl Maintain {
             flush,
             shift: ShiftReadOnly::new(shape),
             turn: TurnPage::new(shape),
-            serve: Serve::new(shape),
+            serve: Serve::new(shape, begin),
             is_drain_full: false,
             step: Maintaining::Through,
         })

@@ -6,7 +6,7 @@ use Rattle.std.proofs.lemmas.List.Concat.{flat_map-cons}
 use Rattle.std.proofs.lemmas.Nat.{from_le_bytes-to_le_bytes_8}
 use Rattle.fkv_base.specs.declared.numbers.Serial.{Serial}
 use Rattle.fkv_record.specs.Layout.{first_layout, slot_bytes, point_numbers}
-use Rattle.fkv_record.specs.Manifest.{SlotSaid, front_said, lost_said, range_numbers, newest_numbers, newest_bytes}
+use Rattle.fkv_record.specs.Manifest.{SlotSaid, begin_said, format_said, front_said, lost_said, range_numbers, newest_numbers, newest_bytes}
 use Rattle.fkv_record.specs.Numbers.{spelled, padded}
 use Rattle.fkv_record.specs.Places.{number_at}
 use Rattle.fkv_record.specs.declared.lost_ranges.LostRange.{LostRange}
@@ -54,7 +54,7 @@ whole_spelled number rest fits size = record {
     split : spelled (165 ∷ number ∷ rest) ≡ to_le_bytes w64 165 ++ (to_le_bytes w64 number ++ spelled rest)
     split = flat_map-cons (to_le_bytes w64) 165 (number ∷ rest) ∙ ap (λ (s : List ℕ). to_le_bytes w64 165 ++ s) (flat_map-cons (to_le_bytes w64) number rest)
 
--- the numbers of the newest format behind the first two
+-- the numbers of a slot as it is written, behind the first two
 newest_rest : SlotSaid → List ℕ
 newest_rest s = drop 2 (newest_numbers s)
 
@@ -70,11 +70,13 @@ length-newest s points lost =
     let points_len = length-map {A = Serial} {B = ℕ} s.points (λ p. p.0) in
     let front : length (padded 39 (front_said s)) ≡ 39 = length-padded 39 (front_said s) (omega (arith, points, points_len)) in
     let behind : length (lost_said s) ≤ 18 = omega (arith, length-ranges s.lost, lost) in
-    let both : length (padded 39 (front_said s) ++ lost_said s) ≤ 63 = omega (arith, length-append (padded 39 (front_said s)) (lost_said s), front, behind) in
-    let body : length (padded 63 (padded 39 (front_said s) ++ lost_said s)) ≡ 63 = length-padded 63 (padded 39 (front_said s) ++ lost_said s) both in
-    omega (arith, length-append (padded 63 (padded 39 (front_said s) ++ lost_said s)) (3 ∷ []), body)
+    let inner : List ℕ = padded 39 (front_said s) ++ lost_said s in
+    let both : length inner ≤ 57 = omega (arith, length-append (padded 39 (front_said s)) (lost_said s), front, behind) in
+    let outer : List ℕ = padded 57 inner ++ begin_said s ∷ [] in
+    let begun : length outer ≤ 63 = omega (arith, length-append (padded 57 inner) (begin_said s ∷ []), length-padded 57 inner both) in
+    omega (arith, length-append (padded 63 outer) (format_said s ∷ []), length-padded 63 outer begun)
 
--- and so are those of the newest format
+-- and so are those of a slot as it is written
 pub newest_spelled : (s : SlotSaid) → s.number < 2 ^ 64 → length s.points ≤ 32 → length s.lost ≤ 8 → IsSlotOf s.number (newest_bytes s)
 unfolding newest_bytes newest_rest
 newest_spelled s fits points lost = whole_spelled s.number (newest_rest s) fits (omega (arith, length-newest s points lost))

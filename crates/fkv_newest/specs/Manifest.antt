@@ -1,10 +1,11 @@
 -- What a manifest slot says, where it is one of a store of a shape.
-use Rattle.std.specs.Prelude.{◌≡◌, ℕ, ◌*◌, ◌%◌, ◌<◌, ◌≤◌, length, All, AllPairs}
+use Rattle.std.specs.Prelude.{◌≡◌, ◌≢◌, ℕ, ◌*◌, ◌%◌, ◌<◌, ◌≤◌, length, All, AllPairs}
 use Rattle.fkv_base.specs.Limits.{last_version}
+use Rattle.fkv_base.specs.declared.classes.StoreClass.TheVariants.{Specified}
 use Rattle.fkv_base.specs.declared.shapes.Shape.{Shape}
 use Rattle.fkv_marks.specs.Window.{InWindow}
 use Rattle.fkv_record.specs.declared.formats.Format.{Format}
-use Rattle.fkv_record.specs.declared.formats.Format.TheVariants.{First}
+use Rattle.fkv_record.specs.declared.formats.Format.TheVariants.{First, Fourth}
 use Rattle.fkv_record.specs.declared.lost_ranges.LostRange.{LostRange}
 use Rattle.fkv_record.specs.declared.manifest_slots.ManifestSlot.{ManifestSlot}
 use Rattle.fkv_record.specs.Places.{most_triples}
@@ -29,6 +30,16 @@ pub record HasCheckpoint (shape : Shape) (index : ℕ) (format : Format) (slot :
   pub no_newer : slot.checkpoint ≤ slot.number
   pub in_window : InWindow shape.class slot.checkpoint slot.number
 
+-- in a specified store the log begins at its first record, and no slot is of the fourth format
+abbrev pub IsWhole : Shape → Format → ManifestSlot → Type 0
+IsWhole shape format slot = shape.class ≡ Specified → (slot.begin.0 ≡ 1) × (format ≢ Fourth)
+
+-- The log begins at its first record or above it, and not above the address at which the scan starts.
+pub record HasBegin (shape : Shape) (format : Format) (slot : ManifestSlot) : Type 0 where
+  pub some : 1 ≤ slot.begin.0
+  pub before_scan : slot.begin.0 ≤ slot.first.0
+  pub whole : IsWhole shape format slot
+
 -- a lost range ends within the scan, and its version is above the checkpoint's number and at most the commit's
 pub record IsLostIn (slot : ManifestSlot) (range : LostRange) : Type 0 where
   pub some : slot.first.0 < range.to.0
@@ -46,10 +57,11 @@ pub record HasLost (slot : ManifestSlot) : Type 0 where
   pub each : All (IsLostIn slot) slot.lost.ranges.items
   pub rising : AllPairs Follows slot.lost.ranges.items
 
--- A store of this shape can have such a slot at this index: number, log, checkpoint and lost ranges are in order, and each session has a point.
+-- A store of this shape can have such a slot at this index: number, log, begin, checkpoint and lost ranges are in order, and each session has a point.
 pub record Suits (shape : Shape) (index : ℕ) (format : Format) (slot : ManifestSlot) : Type 0 where
   pub number : HasNumber index slot
   pub log : HasLog shape slot
+  pub begin : HasBegin shape format slot
   pub checkpoint : HasCheckpoint shape index format slot
   pub sessions : length slot.points.serials.items ≡ shape.sessions
   pub lost : HasLost slot

@@ -1,9 +1,9 @@
 //! Whether a manifest slot is one of a store.
 ghost use Rattle.std.specs.Prelude.{◌≡◌, ◌<◌, ◌↔◌, true};
 ghost use Rattle.fkv_base.specs.Limits.{last_version};
-ghost use Rattle.fkv_newest.specs.Manifest.{HasNumber, HasLog, HasCheckpoint, IsLostIn, Follows, HasLost, Suits};
+ghost use Rattle.fkv_newest.specs.Manifest.{HasNumber, HasLog, IsWhole, HasBegin, HasCheckpoint, IsLostIn, Follows, HasLost, Suits};
 
-use fkv_base::{Shape, Version};
+use fkv_base::{Shape, StoreClass, Version};
 use fkv_marks::is_in_window;
 use fkv_record::{Format, LostRange, ManifestSlot, most_triples};
 
@@ -19,6 +19,24 @@ fn has_log(shape: Shape, slot: &ManifestSlot) -> bool
     ensures { (result ≡ true) ↔ HasLog shape slot.now }
 {
     1 <= slot.first.0 && slot.first.0 <= slot.end.0 && slot.end.0 <= shape.disk_pages * shape.page
+}
+
+/// Whether the slot is one of a specified store, whose log begins at its first record and which has no slot of the fourth format; or
+/// the store is a living one.
+fn is_whole(shape: Shape, format: Format, slot: &ManifestSlot) -> bool
+    ensures { (result ≡ true) ↔ IsWhole shape format slot.now }
+{
+    match shape.class {
+        StoreClass::Specified => slot.begin.0 == 1 && format != Format::Fourth,
+        StoreClass::Living => true,
+    }
+}
+
+/// Whether the log can begin there.
+fn has_begin(shape: Shape, format: Format, slot: &ManifestSlot) -> bool
+    ensures { (result ≡ true) ↔ HasBegin shape format slot.now }
+{
+    1 <= slot.begin.0 && slot.begin.0 <= slot.first.0 && is_whole(shape, format, slot)
 }
 
 /// Whether the checkpoint is one that the slot can name.
@@ -72,6 +90,7 @@ pub(crate) fn suits(shape: Shape, index: u64, format: Format, slot: &ManifestSlo
 {
     has_number(index, slot)
         && has_log(shape, slot)
+        && has_begin(shape, format, slot)
         && has_checkpoint(shape, index, format, slot)
         && slot.points.serials.len() as u64 == shape.sessions
         && has_lost(slot)

@@ -73,8 +73,8 @@ module _ (i j : List ℕ) (same : Agree i j) where
   checkpoint_on n ts has = record { newest = told_alike i j same.front n has.newest; stored = triples_on n i j (same.behind n has.newest) ts has.stored; apart = has.apart }
 
   module _ (apart : SpellsApart record_bytes) (n : Newest) (ts : List Triple) (has : HasCheckpoint i n ts) where
-    some : 1 ≤ n.slot.first.0
-    some = has.newest.manifest.suits.log.some
+    some : n.slot.begin.0 ≤ n.slot.first.0
+    some = has.newest.manifest.suits.begin.before_scan
 
     upwards : n.slot.first.0 ≤ n.slot.end.0
     upwards = has.newest.manifest.suits.log.upwards
@@ -117,10 +117,11 @@ module _ (i j : List ℕ) (same : Agree i j) where
           ),
         )
 
-  same_log : (o : Opened) (n : Newest) → Tells n o → Share n.shape n.slot i j → (a : ℕ) → 1 ≤ a → a < o.tail.0 → bytes_at i (record_place o.shape a) 24 ≡ bytes_at j (record_place o.shape a) 24
+  same_log : (o : Opened) (n : Newest) → Tells n o → Share n.shape n.slot i j → (a : ℕ) → o.begin.0 ≤ a → a < o.tail.0 → bytes_at i (record_place o.shape a) 24 ≡ bytes_at j (record_place o.shape a) 24
   same_log o n tells shared = λ a some below.
       let end : o.tail.0 ≡ n.slot.end.0 = ap (λ (x : Addr). x.0) tells.tail in
-      subst (λ (s : Shape). bytes_at i (record_place s a) 24 ≡ bytes_at j (record_place s a) 24) (sym tells.shape) (shared a some (omega (arith, below, end)))
+      let begin : o.begin.0 ≡ n.slot.begin.0 = ap (λ (x : Addr). x.0) tells.begin in
+      subst (λ (s : Shape). bytes_at i (record_place s a) 24 ≡ bytes_at j (record_place s a) 24) (sym tells.shape) (shared a (omega (arith, some, begin)) (omega (arith, below, end)))
 
   pub store_alike : SpellsApart record_bytes → (opened : Opened) → IsStoreOf i opened → IsStoreOf j opened
   store_alike apart opened store =

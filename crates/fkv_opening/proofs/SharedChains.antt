@@ -11,8 +11,9 @@ use Rattle.fkv_record.specs.declared.manifest_slots.ManifestSlot.{ManifestSlot}
 use Rattle.fkv_record.specs.declared.records.Record.{Record}
 use Rattle.fkv_record.specs.declared.triples.Triple.{Triple}
 use Rattle.fkv_record.specs.Layout.{record_bytes}
+use Rattle.fkv_record.proofs.Shown.{from_some}
 use Rattle.fkv_scan.specs.Log.{Log, log_in, AreBelow, HasTriple, record_home}
-use Rattle.fkv_scan.specs.Records.{Stands, IsNewer}
+use Rattle.fkv_scan.specs.Records.{Stands, next_of, IsNewer}
 use Rattle.fkv_scan.specs.Scan.{HasScan}
 use Rattle.fkv_scan.specs.Scanned.{TellsNewer}
 use Rattle.fkv_chains.specs.Chains.{IsChained, HasChains, IsChainFault}
@@ -29,17 +30,17 @@ use Rattle.fkv_opening.proofs.Shared.{Share, flip, has_on, none_on, stands_on, v
 abbrev pub HasChainFault : Log → Type 0
 HasChainFault log = (why : Fault) × IsChainFault log why
 
-module _ (apart : SpellsApart record_bytes) (s : Shape) (slot : ManifestSlot) (ts : List Triple) (some : 1 ≤ slot.first.0) (upwards : slot.first.0 ≤ slot.end.0)
+module _ (apart : SpellsApart record_bytes) (s : Shape) (slot : ManifestSlot) (ts : List Triple) (some : slot.begin.0 ≤ slot.first.0) (upwards : slot.first.0 ≤ slot.end.0)
     (in_log : AreBelow slot.end.0 ts) where
   abbrev log : List ℕ → Log
   log i = log_in i s slot ts
 
   -- an address of the log is reached
   abbrev IsWithin : List ℕ → ℕ → Type 0
-  IsWithin i a = (1 ≤ a) × (a < slot.end.0) × Reached (log i) a
+  IsWithin i a = (slot.begin.0 ≤ a) × (a < slot.end.0) × Reached (log i) a
 
   module _ (i : List ℕ) (scan : HasScan (log i)) where
-    off_below : (a : ℕ) (x : Record) → Reached (log i) a → Stands (log i) a x → a ≤ x.header.previous.0 → a < slot.first.0 → HasChainFault (log i)
+    off_below : (a : ℕ) (x : Record) → Reached (log i) a → Stands (log i) a x → a ≤ next_of (log i) x → a < slot.first.0 → HasChainFault (log i)
     off_below a x reached there up below = (
       fault.Damaged damage.Record a,
       record {
@@ -47,45 +48,45 @@ module _ (apart : SpellsApart record_bytes) (s : Shape) (slot : ManifestSlot) (t
         below_start = below;
         here = λ y old.
             let same : y ≡ x = apart y x (old.stands ∙ sym there) in
-            let falls : x.header.previous.0 < a = subst (λ (z : Record). z.header.previous.0 < a) same old.falls in
+            let falls : next_of (log i) x < a = subst (λ (z : Record). next_of (log i) z < a) same old.falls in
             omega (arith, up, falls);
       },
     )
 
-    falls_above : (a : ℕ) (x : Record) → a < slot.end.0 → Stands (log i) a x → slot.first.0 ≤ a → x.header.previous.0 < a
+    falls_above : (a : ℕ) (x : Record) → a < slot.end.0 → Stands (log i) a x → slot.first.0 ≤ a → next_of (log i) x < a
     falls_above a x high there from =
         let scanned = scan.records a from high in
         let same : scanned.held ≡ x = apart scanned.held x (scanned.fits.stands ∙ sym there) in
-        subst (λ (y : Record). y.header.previous.0 < a) same scanned.fits.falls
+        subst (λ (y : Record). next_of (log i) y < a) same scanned.fits.falls
 
     -- a record that is reached leads below itself, or the chains have a fault
-    leads_down : (a : ℕ) (x : Record) → IsWithin i a → Stands (log i) a x → (x.header.previous.0 < a) ⊎ HasChainFault (log i)
+    leads_down : (a : ℕ) (x : Record) → IsWithin i a → Stands (log i) a x → (next_of (log i) x < a) ⊎ HasChainFault (log i)
     leads_down a x is there = ⊎_elim inl
         (λ up. ⊎_elim (λ below. inr (off_below a x is.2 there up below)) (λ from. inl (falls_above a x is.1 there from)) (cases_lt a slot.first.0))
-        (cases_lt x.header.previous.0 a)
+        (cases_lt (next_of (log i) x) a)
 
     led_within : (h q : ℕ) → HasTriple (log i) h q → IsWithin i q
     led_within h q has =
         let t = has.triple in
         let is : t.addr.0 ≡ q = has.address in
-        let low : 0 < t.addr.0 = t.some_addr in
         let high : t.addr.0 < slot.end.0 = in_log has.place t has.stands in
-        (omega (arith, is, low), omega (arith, is, high), led_to h q has)
+        (has.in_log, omega (arith, is, high), led_to h q has)
 
     module _ (j : List ℕ) (same : Share s slot i j) where
       back : Share s slot j i
       back = flip s slot i j same
 
-      goes_within : (a b : ℕ) (x : Record) → IsWithin i a → Stands (log j) a x → x.header.previous.0 ≡ b → b ≢ 0 → IsWithin i b ⊎ HasChainFault (log i)
+      goes_within : (a b : ℕ) (x : Record) → IsWithin i a → Stands (log j) a x → next_of (log i) x ≡ b → b ≢ 0 → IsWithin i b ⊎ HasChainFault (log i)
       goes_within a b x is there leads off =
           let here : Stands (log i) a x = stands_on s slot ts j i back a x is.0 is.1 there in
           let high = is.1 in
-          ⊎_elim (λ falls. inl (omega (arith, off), omega (arith, leads, falls, high), linked a b x is.2 here leads off)) inr (leads_down a x is here)
+          let low : slot.begin.0 ≤ next_of (log i) x = from_some slot.begin.0 x.header.previous.0 (λ none. off (sym leads ∙ none)) in
+          ⊎_elim (λ falls. inl (omega (arith, leads, low), omega (arith, leads, falls, high), linked a b x is.2 here leads off)) inr (leads_down a x is here)
 
       -- what the other image reaches is of the log and reached here, or the chains have a fault
       pub reached_or : (a : ℕ) → Reached (log j) a → IsWithin i a ⊎ HasChainFault (log i)
       reached_or a (in_scan _ x from below there valid) =
-          let low : 1 ≤ a = omega (arith, some, from) in
+          let low : slot.begin.0 ≤ a = omega (arith, some, from) in
           inl (low, below, in_scan a x from below (stands_on s slot ts j i back a x low below there) valid)
       reached_or a (led_to h _ has) = inl (led_within h a (triple_on s slot ts j i h a has))
       reached_or b (linked a _ x reached there leads off) = ⊎_elim (λ is. goes_within a b x is there leads off) inr (reached_or a reached)

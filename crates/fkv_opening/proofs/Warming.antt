@@ -4,6 +4,7 @@ use Rattle.std.specs.Prelude.{min}
 use Rattle.std.proofs.Math.Nat.{div-add-mod, min-le_left, mul-le-mul_right}
 use Rattle.fkv_base.specs.declared.shapes.Shape.{Shape}
 use Rattle.fkv_disk.specs.Bytes.{bytes_at}
+use Rattle.fkv_record.specs.Begin.{from_or_none}
 use Rattle.fkv_record.specs.Places.{number_at, record_place}
 use Rattle.fkv_marks.specs.Marks.{mark}
 use Rattle.fkv_opening.specs.declared.opened_store.Opened.{Opened}
@@ -31,12 +32,12 @@ nothing_warm image o cold = record {
 }
 
 -- images that agree on the records have the same words of them
-pub warm_on : (i j : List ℕ) (o : Opened) → ((a : ℕ) → 1 ≤ a → a < o.tail.0 → bytes_at i (record_place o.shape a) 24 ≡ bytes_at j (record_place o.shape a) 24) → IsWarm i o → IsWarm j o
+pub warm_on : (i j : List ℕ) (o : Opened) → ((a : ℕ) → o.begin.0 ≤ a → a < o.tail.0 → bytes_at i (record_place o.shape a) 24 ≡ bytes_at j (record_place o.shape a) 24) → IsWarm i o → IsWarm j o
 warm_on i j o same warm = record {
-  header = λ a above below. warm.header a above below ∙ ap (λ (word : ℕ). word % 2 ^ 48 + mark o.number.0 * 2 ^ 48) (word a 0 above below);
+  header = λ a above below. warm.header a above below ∙ ap (λ (word : ℕ). from_or_none o.begin.0 (word % 2 ^ 48) + mark o.number.0 * 2 ^ 48) (word a 0 above below);
   key = λ a above below. warm.key a above below ∙ word a 1 above below;
   value = λ a above below. warm.value a above below ∙ word a 2 above below;
 }
   where
     word : (a k : ℕ) → o.warm.0 ≤ a → a < o.tail.0 → record_word i o.shape a k ≡ record_word j o.shape a k
-    word a k above below = let some = o.some_warm in ap (λ (bytes : List ℕ). number_at bytes (8 * k)) (same a (omega (arith, some, above)) below)
+    word a k above below = let some = o.warm_from_begin in ap (λ (bytes : List ℕ). number_at bytes (8 * k)) (same a (omega (arith, some, above)) below)

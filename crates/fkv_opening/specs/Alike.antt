@@ -10,11 +10,11 @@ use Rattle.fkv_newest.specs.declared.newest_slots.Newest.{Newest}
 use Rattle.fkv_newest.specs.Newest.{IsNewestOf, ShowSame}
 use Rattle.fkv_opening.specs.Faults.{log_of, HasCheckpoint}
 
--- Behind a newest slot two images have the same triples of its checkpoint, and the same records (headers, keys and values) from address 1 to below its log's
--- end.
+-- Behind a newest slot two images have the same triples of its checkpoint, and the same records (headers, keys and values) from its log's begin to below its
+-- log's end.
 pub record ShareLog (n : Newest) (image other : List ℕ) : Type 0 where
   pub triples : (i : ℕ) → i < n.slot.triples → bytes_at image (area_place n.shape n.slot.area + 16 * i) 16 ≡ bytes_at other (area_place n.shape n.slot.area + 16 * i) 16
-  pub records : (a : ℕ) → 1 ≤ a → a < n.slot.end.0 → bytes_at image (record_place n.shape a) 24 ≡ bytes_at other (record_place n.shape a) 24
+  pub records : (a : ℕ) → n.slot.begin.0 ≤ a → a < n.slot.end.0 → bytes_at image (record_place n.shape a) 24 ≡ bytes_at other (record_place n.shape a) 24
 
 -- Two images agree on what recovery reads: they show the first two stages the same (the block of the shape, what the open slots name, the bytes of the newest
 -- slot), and share the log behind that slot.

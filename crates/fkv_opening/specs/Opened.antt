@@ -13,6 +13,7 @@ use Rattle.fkv_opening.specs.Warm.{IsWarm}
 pub record Tells (n : Newest) (opened : Opened) : Type 0 where
   pub shape : opened.shape ≡ n.shape
   pub number : opened.number.0 ≡ n.slot.number
+  pub begin : opened.begin ≡ n.slot.begin
   pub tail : opened.tail ≡ n.slot.end
   pub points : opened.points.items ≡ n.slot.points.serials.items
   pub gate_0 : opened.gates.0 ≡ is_some n.open_numbers.0

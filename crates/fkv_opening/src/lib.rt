@@ -1,4 +1,4 @@
-//! Opening a store: recovery of any bytes, in each of the three formats, as one call.
+//! Opening a store: recovery of any bytes, in each of the four formats, as one call.
 #![tactic(auto)]
 
 mod checking;

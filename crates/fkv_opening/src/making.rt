@@ -86,6 +86,7 @@ pub(crate) fn make(alloc: Global, newest: Newest, scanned: &Scanned) -> Result<O
     Ok(Opened {
         shape: newest.shape,
         number: Version(newest.slot.number),
+        begin: newest.slot.begin,
         tail: newest.slot.end,
         points,
         gates,

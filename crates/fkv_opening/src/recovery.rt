@@ -39,7 +39,7 @@ fn open<D: Device>(alloc: Global, d: &mut D, newest: Newest) -> Result<Opened, F
     Ok(opened)
 }
 
-/// Opens the store whose image these bytes are, in whichever of the three formats, whatever bytes they are: those past the
+/// Opens the store whose image these bytes are, in whichever of the four formats, whatever bytes they are: those past the
 /// device's end count as 0. It makes one sync first, and no write; where that sync is refused, it makes no other call, and
 /// one read behind it tells whether the image is a store's and what its newest slot says.
 ///

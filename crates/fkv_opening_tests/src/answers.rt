@@ -6,10 +6,14 @@ use fkv_pairs::content;
 use std::alloc::{AllocError, Global};
 use std::fmt::Write;
 
-// The commit, the end of its log and its points; its checkpoint; the lost ranges, each its end and version; and the entries,
+// The commit, the begin of its log where that isn't its first record, the log's end and its points; its checkpoint; the lost ranges, each its end and version; and the entries,
 // each bucket, tag and address.
 fn line_of(alloc: Global, opened: &Opened) -> Result<String, AllocError> {
-    let mut line = format!(in alloc; "commit {} tail {} points", opened.number.0, opened.tail.0)?;
+    let mut line = format!(in alloc; "commit {}", opened.number.0)?;
+    if opened.begin.0 != 1 {
+        write!(line, " begin {}", opened.begin.0)?;
+    }
+    write!(line, " tail {} points", opened.tail.0)?;
     for point in opened.points.iter() {
         write!(line, " {}", point.0)?;
     }

@@ -1,5 +1,5 @@
 //! Tests of recovery: calls of the device that fail, crashes and refused memory; and what is answered of an image that a tool names.
-//! The tables of images in the three formats, whole and damaged, are in tools/openings, which runs this crate's program on each. The
+//! The tables of images in the four formats, whole and damaged, are in tools/openings, which runs this crate's program on each. The
 //! tests stand in a crate of their own, since a crate with tests is proved twice.
 #![tactic(auto)]
 

@@ -4,6 +4,7 @@ pub mod AsksLeft
 mod Appended
 mod Balances
 mod BoolTests
+mod ChainEnds
 mod Copied
 mod EachAsk
 mod Effected

@@ -12,3 +12,4 @@ pub use Rattle.fkv_ops.proofs.LatchRuns.{each_holds, each_leaves}
 pub use Rattle.fkv_ops.proofs.GivenBack.{given_back}
 pub use Rattle.fkv_ops.proofs.LatchShares.{IsTrying, shares_owed, begun_trying, begun_owes, next_trying, next_owes, AddsThere, adds_there, KeepsShare, ended_keeps}
 pub use Rattle.fkv_ops.proofs.SpareRuns.{each_tells_spare, each_uses_spare}
+pub use Rattle.fkv_ops.proofs.ChainEnds.{goes_on_from, goes_on_some, ends_below, ends_not, ends_there}

@@ -1,6 +1,6 @@
 -- Over every list of replies the overflow bucket that a try has to spare is the one that its asks tell.
 use Rattle.std.proofs.Common.{◌≡◌, ℕ, ◌+◌, ◌-◌, ◌≤◌, List, [], ◌∷◌, refl, arith, sym, ap, ◌∙◌, subst, Bool, true, false}
-use Rattle.std.specs.Prelude.{◌==◌, ◌&&◌, not, nat_lt, nat_le, if◌then◌else◌, ⊤, Option, Some, None}
+use Rattle.std.specs.Prelude.{◌==◌, ◌&&◌, ◌||◌, not, nat_lt, nat_le, if◌then◌else◌, ⊤, Option, Some, None}
 use Rattle.fkv_base.specs.declared.numbers.Addr.{Addr}
 use Rattle.fkv_base.specs.declared.numbers.Key.{Key}
 use Rattle.fkv_base.specs.declared.numbers.Version.{Version}
@@ -57,7 +57,7 @@ use Rattle.fkv_ops.specs.declared.walking.Walking.{Walking}
 use Rattle.fkv_ops.specs.declared.walking.Walking.TheVariants as walking
 use Rattle.fkv_ops.specs.HeaderWords.{header_said}
 use Rattle.fkv_ops.specs.Values.{value_of, word_of}
-use Rattle.fkv_ops.specs.Requests.{is_read, is_blind}
+use Rattle.fkv_ops.specs.Requests.{is_read, is_blind, is_chain_end}
 use Rattle.fkv_ops.specs.Walking.{WalkState, walking_ask, walk_ask, walk_ended, reached, slot_found, find_ledto, first_met, record_met, load_ledto, walking_next, walk_next, walk_on}
 use Rattle.fkv_ops.specs.Appending.{append_ask, append_next}
 use Rattle.fkv_ops.specs.Trying.{TryState, new_try, trying_ask, try_ask, trying_next, try_next, with_latch, is_wait, ended_without, is_bounded, ends, ends_by, ends_so, tail_loaded, taken_loaded, takes_effect, full_at, walks, wants_shared, is_next_marked, latch_shared, shared_ledto, is_still_in, phase_loaded, must_shift, wants_exclusive, appends, copies_from, copies, awaits, held_used, must_count, met_nowhere, count_loaded, met_disk, changes, is_own_version, region_met, walked, has_walked, walk_ledto, is_surely_own, safe_loaded, current_ledto, value_changed, told_value, answer_ledto, exclusive_ledto, old_ledto, append_ledto, exclusive_dropped, shared_dropped, words_of}
@@ -167,7 +167,7 @@ awaits_keeps p t addr = ends_keeps p t (answer.AwaitsDisk (record { entry = t.wa
 held_keeps : (p : Places) (t : TryState) (addr : Addr) (its : Option HeldRecord) → Keeps t.spare (held_used p t addr its)
 unfolding held_used
 held_keeps p t addr None = awaits_keeps p t addr
-held_keeps p t addr (Some held) = by_tests (held.entry == t.walk.entry) (held.key.0 == (key_of t.request.op).0) (held.previous.0 == 0)
+held_keeps p t addr (Some held) = by_tests (held.entry == t.walk.entry) (held.key.0 == (key_of t.request.op).0) (is_chain_end t.request.floor held.previous)
   where
     by_tests : (a b d : Bool) → Keeps t.spare (if a then (if b then copies p t (Known held.value) false else if d then copies p t (Known absent_word) false else awaits p t held.previous) else awaits p t addr)
     by_tests true true d = copies_keeps p t (Known held.value) false
@@ -192,12 +192,14 @@ count_keeps p t taken = by_test (is_past_taken (bounds_at t.occasion) taken)
     by_test false = copies_keeps p t (Known absent_word) false
 
 disk_keeps : (p : Places) (t : TryState) (addr : Addr) → Keeps t.spare (met_disk p t addr)
-disk_keeps p t addr = by_tests (is_read t.request.op) (is_blind t.request.op)
+disk_keeps p t addr = by_tests (is_read t.request.op) (is_chain_end t.request.floor addr) (is_blind t.request.op || is_chain_end t.request.floor addr)
   where
-    by_tests : (a b : Bool) → Keeps t.spare (if a then awaits p t addr else if b then copies p t (Known absent_word) false else held_used p t addr t.request.held)
-    by_tests true b = awaits_keeps p t addr
-    by_tests false true = copies_keeps p t (Known absent_word) false
-    by_tests false false = held_keeps p t addr t.request.held
+    by_tests : (a b d : Bool)
+        → Keeps t.spare (if a then (if b then ends p t answer.Absent else awaits p t addr) else if d then copies p t (Known absent_word) false else held_used p t addr t.request.held)
+    by_tests true true d = ends_keeps p t answer.Absent
+    by_tests true false d = awaits_keeps p t addr
+    by_tests false b true = copies_keeps p t (Known absent_word) false
+    by_tests false b false = held_keeps p t addr t.request.held
 
 changes_keeps : (t : TryState) (addr : Addr) → Keeps t.spare (changes t addr)
 changes_keeps t addr = by_blind (is_blind t.request.op)

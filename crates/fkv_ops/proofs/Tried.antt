@@ -1,6 +1,6 @@
 -- Where the walk's end leads a try, and each reply behind it.
 use Rattle.std.proofs.Common.{◌≡◌, ℕ, ◌<◌, ◌≤◌, ◌⊎◌, [], refl, inl, inr, arith, sym, ap, ◌∙◌, subst, Bool, true, false}
-use Rattle.std.specs.Prelude.{◌≢◌, ◌==◌, ◌&&◌, not, nat_lt, nat_le, if◌then◌else◌, Option, Some, None}
+use Rattle.std.specs.Prelude.{◌≢◌, ◌==◌, ◌&&◌, ◌||◌, not, nat_lt, nat_le, if◌then◌else◌, Option, Some, None}
 use Rattle.fkv_base.specs.declared.numbers.Addr.{Addr}
 use Rattle.fkv_base.specs.declared.numbers.Version.{Version}
 use Rattle.fkv_marks.specs.Marks.{mark}
@@ -27,13 +27,14 @@ use Rattle.fkv_ops.specs.declared.trying.OldValue.TheVariants.{InMemory, Known}
 use Rattle.fkv_ops.specs.declared.trying.Trying.TheVariants.{Walks, CountsTaken, SwapsValue, LoadsCurrent, LoadsAnswer}
 use Rattle.fkv_ops.specs.declared.walking.WalkAnswer.{WalkAnswer}
 use Rattle.fkv_ops.specs.declared.walking.WalkAnswer.TheVariants as walk
-use Rattle.fkv_ops.specs.Requests.{is_read, is_blind}
+use Rattle.fkv_ops.specs.Requests.{is_read, is_blind, is_chain_end}
 use Rattle.fkv_ops.specs.Walking.{WalkState, walk_ask, walk_on}
 use Rattle.fkv_ops.specs.Trying.{TryState, is_wait, ends, full_at, is_prepare, is_marked, is_next_marked, is_above, must_shift, copies, awaits, held_used, must_count, met_nowhere, met_disk, changes, region_met, met_record, walked, has_walked, walk_ledto, safe_loaded}
 use Rattle.fkv_ops.specs.TryRun.{Trial, Told, reply_told}
-use Rattle.fkv_ops.specs.Reasons.{Loaded, HasEntry, WalksTo, HasFound, LeavesMemory, HasNone, AtItsEnd, WithoutSlot, HoldsFrom, IsOnDisk, AsRead, WithoutHeld, FromAnother, BelowHead, BehindHeld, IsIndexFull, HasNoRoom, tells_own, OthersWentOn, ByRecord, IsTrue}
-use Rattle.fkv_ops.specs.Effects.{MayChange, shares_latch, SeesNoneAbove, MayStay, BySight, FirstInMemory, FirstBelowHead, FirstNowhere, OfAnother, BelowSafe, OfNone, OfAny, OfHeld, OfNoneBehind}
-use Rattle.fkv_ops.proofs.BoolTests.{lt_true, lt_false, le_true, le_false, eq_true, eq_false, some_where, both}
+use Rattle.fkv_ops.specs.Reasons.{Loaded, HasEntry, WalksTo, HasFound, LeavesMemory, EndsBelow, HasNone, AtItsEnd, BelowFloor, WithoutSlot, HoldsFrom, IsOnDisk, AsRead, WithoutHeld, FromAnother, BelowHead, BehindHeld, IsIndexFull, HasNoRoom, tells_own, OthersWentOn, ByRecord, IsTrue}
+use Rattle.fkv_ops.specs.Effects.{MayChange, shares_latch, SeesNoneAbove, MayStay, BySight, FirstInMemory, FirstBelowHead, FirstNowhere, OfAnother, BelowSafe, OfNone, OfNoneBelow, OfAny, OfHeld, OfNoneBehind}
+use Rattle.fkv_ops.proofs.BoolTests.{lt_true, lt_false, le_true, le_false, eq_true, eq_false, both}
+use Rattle.fkv_ops.proofs.ChainEnds.{goes_on_from, goes_on_some, ends_below, either, neither}
 use Rattle.fkv_ops.proofs.Walked.{HasFirst, FirstTrue, FirstSome, FirstAt, first_true, NowhereTrue, WalkTrue, WalkKnows, walk_answers, walk_on_loads, walk_on_found, walk_on_same, at_slot}
 use Rattle.fkv_ops.proofs.TryRows.{norm, latch_held, owed_at, Under, Stays, Updates, FoundRow, TryRow, told_at, Comes, bounded, Lacks, ends_true}
 use Rattle.fkv_ops.proofs.Copied.{copies_true}
@@ -61,30 +62,30 @@ full_true c told t refused full quiet under none refuses truth = by_occasion c.o
 awaits_true : (c : Trial) (told : Told) (t : TryState) (addr : Addr) → t.effect ≡ None → Under c told t.has_shared → HasEntry c told t.walk.place t.walk.entry → IsOnDisk c told (record { entry = t.walk.entry; addr = addr }) → Comes c told None [] (latch_held t) (awaits c.places (norm c t) addr)
 awaits_true c told t addr quiet under slot disk = quiet_end c told t (answer.AwaitsDisk (record { entry = t.walk.entry; addr = addr })) quiet under refl disk (λ b waits. at_slot c told t.walk.place t.walk.entry slot)
 
-held_true : (c : Trial) (told : Told) (t : TryState) (addr : Addr) (its : Option HeldRecord) → t.effect ≡ None → t.has_exclusive ≡ false → Updates c told t → LeavesMemory c told t.walk.place t.walk.entry addr.0 → is_blind c.request.op ≡ false → c.request.held ≡ its
+held_true : (c : Trial) (told : Told) (t : TryState) (addr : Addr) (its : Option HeldRecord) → t.effect ≡ None → t.has_exclusive ≡ false → Updates c told t → LeavesMemory c told t.walk.place t.walk.entry addr.0 → c.request.floor.0 ≤ addr.0 → is_blind c.request.op ≡ false → c.request.held ≡ its
     → Comes c told None [] (latch_held t) (held_used c.places (norm c t) addr its)
 unfolding held_used
-held_true c told t addr None quiet not_alone updates leaves counts holds = awaits_true c told t addr quiet updates.under leaves.walk.slot (BelowHead leaves counts (WithoutHeld holds))
-held_true c told t addr (Some held) quiet not_alone updates leaves counts holds = by_entry (held.entry == t.walk.entry) refl
+held_true c told t addr None quiet not_alone updates leaves on counts holds = awaits_true c told t addr quiet updates.under leaves.walk.slot (BelowHead leaves on counts (WithoutHeld holds))
+held_true c told t addr (Some held) quiet not_alone updates leaves on counts holds = by_entry (held.entry == t.walk.entry) refl
   where
     from : held.entry ≡ t.walk.entry → HoldsFrom c told t.walk.place held
     from same = record { holds = holds; counts = counts; addr = addr.0; leaves = subst (λ e. LeavesMemory c told t.walk.place e addr.0) (sym same) leaves }
 
-    by_end : (b : Bool) → (held.previous.0 == 0) ≡ b → held.entry ≡ t.walk.entry → held.key.0 ≢ (key_of c.request.op).0
+    by_end : (b : Bool) → is_chain_end c.request.floor held.previous ≡ b → held.entry ≡ t.walk.entry → held.key.0 ≢ (key_of c.request.op).0
         → Comes c told None [] (latch_held t) (if b then copies c.places (norm c t) (Known absent_word) false else awaits c.places (norm c t) held.previous)
-    by_end true e same other = copies_true c told t (Known absent_word) false quiet not_alone updates leaves.walk.slot (OfNoneBehind (from same) same other (eq_true held.previous.0 0 e))
+    by_end true e same other = copies_true c told t (Known absent_word) false quiet not_alone updates leaves.walk.slot (OfNoneBehind (from same) same other e)
     by_end false e same other = awaits_true c told t held.previous quiet updates.under leaves.walk.slot
-        (BehindHeld (record { update = updates.update; place = t.walk.place; held = held; its_entry = sym same; its_addr = refl; holds = from same; another = other; some = some_where held.previous.0 e }))
+        (BehindHeld (record { update = updates.update; place = t.walk.place; held = held; its_entry = sym same; its_addr = refl; holds = from same; another = other; some = goes_on_some c.request.floor held.previous e; on = goes_on_from c.request.floor held.previous e }))
 
     by_key : (b : Bool) → (held.key.0 == (key_of c.request.op).0) ≡ b → held.entry ≡ t.walk.entry
-        → Comes c told None [] (latch_held t) (if b then copies c.places (norm c t) (Known held.value) false else if held.previous.0 == 0 then copies c.places (norm c t) (Known absent_word) false else awaits c.places (norm c t) held.previous)
+        → Comes c told None [] (latch_held t) (if b then copies c.places (norm c t) (Known held.value) false else if is_chain_end c.request.floor held.previous then copies c.places (norm c t) (Known absent_word) false else awaits c.places (norm c t) held.previous)
     by_key true e same = copies_true c told t (Known held.value) false quiet not_alone updates leaves.walk.slot (OfHeld (from same) same (eq_true held.key.0 (key_of c.request.op).0 e))
-    by_key false e same = by_end (held.previous.0 == 0) refl same (eq_false held.key.0 (key_of c.request.op).0 e)
+    by_key false e same = by_end (is_chain_end c.request.floor held.previous) refl same (eq_false held.key.0 (key_of c.request.op).0 e)
 
     by_entry : (b : Bool) → (held.entry == t.walk.entry) ≡ b
-        → Comes c told None [] (latch_held t) (if b then (if held.key.0 == (key_of c.request.op).0 then copies c.places (norm c t) (Known held.value) false else if held.previous.0 == 0 then copies c.places (norm c t) (Known absent_word) false else awaits c.places (norm c t) held.previous) else awaits c.places (norm c t) addr)
+        → Comes c told None [] (latch_held t) (if b then (if held.key.0 == (key_of c.request.op).0 then copies c.places (norm c t) (Known held.value) false else if is_chain_end c.request.floor held.previous then copies c.places (norm c t) (Known absent_word) false else awaits c.places (norm c t) held.previous) else awaits c.places (norm c t) addr)
     by_entry true e = by_key (held.key.0 == (key_of c.request.op).0) refl (eq_true held.entry t.walk.entry e)
-    by_entry false e = awaits_true c told t addr quiet updates.under leaves.walk.slot (BelowHead leaves counts (FromAnother holds (eq_false held.entry t.walk.entry e)))
+    by_entry false e = awaits_true c told t addr quiet updates.under leaves.walk.slot (BelowHead leaves on counts (FromAnother holds (eq_false held.entry t.walk.entry e)))
 
 none_read : (c : Trial) (told : Told) (w : WalkState) → NowhereTrue c told w → HasNone c told
 none_read c told w (inl at) = AtItsEnd at.0
@@ -133,15 +134,32 @@ read_counts (Merges key which n) e = cc
 disk_true : (c : Trial) (told : Told) (t : TryState) (addr : Addr) → t.effect ≡ None → t.has_exclusive ≡ false → Under c told t.has_shared → Stays c told → LeavesMemory c told t.walk.place t.walk.entry addr.0 → Comes c told None [] (latch_held t) (met_disk c.places (norm c t) addr)
 disk_true c told t addr quiet not_alone under stays leaves = by_read (is_read c.request.op) refl
   where
-    by_blind : (b : Bool) → is_blind c.request.op ≡ b → is_read c.request.op ≡ false
+    updates : is_read c.request.op ≡ false → Updates c told t
+    updates update = record { under = under; update = update; stays = stays; lacks = at_slot c told t.walk.place t.walk.entry leaves.walk.slot }
+
+    below : is_chain_end c.request.floor addr ≡ true → EndsBelow c told t.walk.place t.walk.entry addr.0
+    below e = (leaves, ends_below c.request.floor addr leaves.some e)
+
+    by_end : (b : Bool) → is_chain_end c.request.floor addr ≡ b → is_read c.request.op ≡ true → Comes c told None [] (latch_held t) (if b then ends c.places (norm c t) answer.Absent else awaits c.places (norm c t) addr)
+    by_end true e read = quiet_end c told t answer.Absent quiet under refl (record { reads = read; none = inr (BelowFloor (below e)) }) (λ b waits. cc)
+    by_end false e read = awaits_true c told t addr quiet under leaves.walk.slot (BelowHead leaves (goes_on_from c.request.floor addr e) (read_counts c.request.op read) (AsRead read))
+
+    made : is_read c.request.op ≡ false → (is_blind c.request.op ≡ true) ⊎ (is_chain_end c.request.floor addr ≡ true) → Comes c told None [] (latch_held t) (copies c.places (norm c t) (Known absent_word) false)
+    made update (inl e) = copies_true c told t (Known absent_word) false quiet not_alone (updates update) leaves.walk.slot (OfAny leaves e)
+    made update (inr e) = copies_true c told t (Known absent_word) false quiet not_alone (updates update) leaves.walk.slot (OfNoneBelow (below e))
+
+    by_old : (b : Bool) → (is_blind c.request.op || is_chain_end c.request.floor addr) ≡ b → is_read c.request.op ≡ false
         → Comes c told None [] (latch_held t) (if b then copies c.places (norm c t) (Known absent_word) false else held_used c.places (norm c t) addr c.request.held)
-    by_blind true e update = copies_true c told t (Known absent_word) false quiet not_alone (record { under = under; update = update; stays = stays; lacks = at_slot c told t.walk.place t.walk.entry leaves.walk.slot }) leaves.walk.slot (OfAny leaves e)
-    by_blind false e update = held_true c told t addr c.request.held quiet not_alone (record { under = under; update = update; stays = stays; lacks = at_slot c told t.walk.place t.walk.entry leaves.walk.slot }) leaves e refl
+    by_old true e update = made update (either (is_blind c.request.op) (is_chain_end c.request.floor addr) e)
+    by_old false e update =
+        let its = neither (is_blind c.request.op) (is_chain_end c.request.floor addr) e in
+        held_true c told t addr c.request.held quiet not_alone (updates update) leaves (goes_on_from c.request.floor addr its.1) its.0 refl
 
     by_read : (b : Bool) → is_read c.request.op ≡ b
-        → Comes c told None [] (latch_held t) (if b then awaits c.places (norm c t) addr else if is_blind c.request.op then copies c.places (norm c t) (Known absent_word) false else held_used c.places (norm c t) addr c.request.held)
-    by_read true e = awaits_true c told t addr quiet under leaves.walk.slot (BelowHead leaves (read_counts c.request.op e) (AsRead e))
-    by_read false e = by_blind (is_blind c.request.op) refl e
+        → Comes c told None [] (latch_held t) (if b then (if is_chain_end c.request.floor addr then ends c.places (norm c t) answer.Absent else awaits c.places (norm c t) addr)
+        else if is_blind c.request.op || is_chain_end c.request.floor addr then copies c.places (norm c t) (Known absent_word) false else held_used c.places (norm c t) addr c.request.held)
+    by_read true e = by_end (is_chain_end c.request.floor addr) refl e
+    by_read false e = by_old (is_blind c.request.op || is_chain_end c.request.floor addr) refl e
 
 may_change : (c : Trial) (told : Told) (w : WalkState) (addr : Addr) (version : Version) → FoundRow c told w addr version → version.0 ≡ mark c.request.version.0 → c.seen.offsets.read_only.0 ≤ addr.0 → MayChange c told addr.0
 may_change c told w addr version found own mutable = record { place = w.place; entry = w.entry; found = subst (HasFound c told w.place w.entry addr.0) own found.its.its_record; mutable = mutable }

@@ -1,6 +1,6 @@
 -- A try asks just where it has asks left, and each reply leaves fewer.
 use Rattle.std.proofs.Common.{◌≡◌, ℕ, ◌+◌, ◌*◌, ◌<◌, ◌≤◌, refl, sym, arith, Bool, true, false}
-use Rattle.std.specs.Prelude.{◌==◌, ◌&&◌, not, nat_le, if◌then◌else◌, Option, Some, None}
+use Rattle.std.specs.Prelude.{◌==◌, ◌&&◌, ◌||◌, not, nat_le, if◌then◌else◌, Option, Some, None}
 use Rattle.fkv_base.specs.declared.numbers.Addr.{Addr}
 use Rattle.fkv_base.specs.declared.numbers.Version.{Version}
 use Rattle.fkv_map.specs.declared.operations.Reply.{Reply}
@@ -39,12 +39,12 @@ use Rattle.fkv_ops.specs.declared.answers.Waiting.TheVariants.{For, ForRecord}
 use Rattle.fkv_ops.specs.Bounds.{bounds_at, tail_bound, is_past_taken, is_past_tail}
 use Rattle.fkv_ops.specs.Waiting.{told_of}
 use Rattle.fkv_ops.specs.Values.{value_of}
-use Rattle.fkv_ops.specs.Requests.{purpose_at, is_read, is_blind}
+use Rattle.fkv_ops.specs.Requests.{purpose_at, is_read, is_blind, is_chain_end}
 use Rattle.fkv_ops.specs.Walking.{walk_ask, walk_next, walk_on}
 use Rattle.fkv_ops.specs.Appending.{append_ask, append_next}
 use Rattle.fkv_ops.specs.Trying.{TryState, new_try, trying_ask, try_ask, with_latch, is_wait, ended_without, is_bounded, ends, ends_by, ends_so, tail_loaded, taken_loaded, takes_effect, full_at, walks, wants_shared, try_begun, is_next_marked, latch_shared, shared_ledto, is_still_in, phase_loaded, must_shift, wants_exclusive, words_of, slot_of, appends, copies_from, copies, awaits, held_used, must_count, met_nowhere, count_loaded, met_disk, changes, is_own_version, region_met, met_record, walked, has_walked, walk_ledto, is_surely_own, safe_loaded, current_ledto, value_changed, told_value, answer_ledto, exclusive_ledto, old_ledto, append_ledto, exclusive_dropped, shared_dropped, latch_moved, walk_moved, trying_next, try_next}
 use Rattle.fkv_plane.specs.AsksLeft.{AsksWhereLeft, sum_left}
-use Rattle.fkv_ops.specs.AsksLeft.{walk_asks_left, most_walk_asks, append_asks_left, most_drop_asks, most_end_asks, most_append_asks, most_copy_asks, most_asks_behind_walk, most_asks_behind_share, trying_asks_left, try_asks_left}
+use Rattle.fkv_ops.specs.AsksLeft.{walk_asks_left, most_walk_asks, append_asks_left, most_end_asks, most_append_asks, most_copy_asks, most_asks_behind_walk, most_asks_behind_share, trying_asks_left, try_asks_left}
 use Rattle.fkv_plane.proofs.Shown.{none, done_left, none_left, some_inside, passed_left, passed_alone, sum_most, inside_fewer, behind_fewer}
 use Rattle.fkv_ops.proofs.WalkAsks.{walk_left, walk_begun_left, walk_fewer, walk_on_left}
 use Rattle.fkv_ops.proofs.AppendAsks.{append_left, append_begun_left, append_fewer}
@@ -168,7 +168,7 @@ takes_effect_left p t told = ends_left p (record t { effect = Some told }) (answ
 held_used_left : (p : Places) (t : TryState) (addr : Addr) (held : Option HeldRecord) → try_asks_left p (held_used p t addr held) ≤ most_copy_asks p t
 unfolding held_used
 held_used_left p t addr None = let few = ends_left p t (answer.AwaitsDisk (record { entry = t.walk.entry; addr = addr })) in omega (arith, few)
-held_used_left p t addr (Some held) = tested (held.entry == t.walk.entry) (held.key.0 == (key_of t.request.op).0) (held.previous.0 == 0)
+held_used_left p t addr (Some held) = tested (held.entry == t.walk.entry) (held.key.0 == (key_of t.request.op).0) (is_chain_end t.request.floor held.previous)
   where
     tested : (same its last : Bool)
         → try_asks_left p (if same then (if its then copies p t (Known held.value) false else if last then copies p t (Known absent_word) false else awaits p t held.previous) else awaits p t addr) ≤ most_copy_asks p t
@@ -195,12 +195,14 @@ count_loaded_left p t taken = tested (is_past_taken (bounds_at t.occasion) taken
     tested false = copies_left p t (Known absent_word) false
 
 met_disk_left : (p : Places) (t : TryState) (addr : Addr) → try_asks_left p (met_disk p t addr) ≤ most_copy_asks p t
-met_disk_left p t addr = tested (is_read t.request.op) (is_blind t.request.op)
+met_disk_left p t addr = tested (is_read t.request.op) (is_chain_end t.request.floor addr) (is_blind t.request.op || is_chain_end t.request.floor addr)
   where
-    tested : (read blind : Bool) → try_asks_left p (if read then awaits p t addr else if blind then copies p t (Known absent_word) false else held_used p t addr t.request.held) ≤ most_copy_asks p t
-    tested true blind = let few = ends_left p t (answer.AwaitsDisk (record { entry = t.walk.entry; addr = addr })) in omega (arith, few)
-    tested false true = copies_left p t (Known absent_word) false
-    tested false false = held_used_left p t addr t.request.held
+    tested : (read last none : Bool)
+        → try_asks_left p (if read then (if last then ends p t answer.Absent else awaits p t addr) else if none then copies p t (Known absent_word) false else held_used p t addr t.request.held) ≤ most_copy_asks p t
+    tested true true none = let few = ends_left p t answer.Absent in omega (arith, few)
+    tested true false none = let few = ends_left p t (answer.AwaitsDisk (record { entry = t.walk.entry; addr = addr })) in omega (arith, few)
+    tested false last true = copies_left p t (Known absent_word) false
+    tested false last false = held_used_left p t addr t.request.held
 
 changes_left : (p : Places) (t : TryState) (addr : Addr) → try_asks_left p (changes t addr) ≤ 1 + most_copy_asks p t
 unfolding trying_asks_left

@@ -1,6 +1,6 @@
 -- A try that has begun is at its end, or it asks.
 use Rattle.std.proofs.Common.{◌≡◌, ℕ, ◌<◌, refl, ◌∙◌, arith, Bool, true, false}
-use Rattle.std.specs.Prelude.{◌==◌, ◌&&◌, not, nat_le, if◌then◌else◌, Option, Some, None, ⊤}
+use Rattle.std.specs.Prelude.{◌==◌, ◌&&◌, ◌||◌, not, nat_le, if◌then◌else◌, Option, Some, None, ⊤}
 use Rattle.fkv_base.specs.declared.numbers.Addr.{Addr}
 use Rattle.fkv_base.specs.declared.numbers.Version.{Version}
 use Rattle.fkv_map.specs.declared.operations.Reply.{Reply}
@@ -40,7 +40,7 @@ use Rattle.fkv_ops.specs.declared.answers.Waiting.TheVariants.{For, ForRecord}
 use Rattle.fkv_ops.specs.Bounds.{bounds_at, tail_bound, is_past_taken, is_past_tail}
 use Rattle.fkv_ops.specs.Waiting.{told_of}
 use Rattle.fkv_ops.specs.Values.{value_of}
-use Rattle.fkv_ops.specs.Requests.{purpose_at, is_read, is_blind}
+use Rattle.fkv_ops.specs.Requests.{purpose_at, is_read, is_blind, is_chain_end}
 use Rattle.fkv_ops.specs.Walking.{walk_ask, walk_next, walk_on}
 use Rattle.fkv_ops.specs.Appending.{append_ask, append_next}
 use Rattle.fkv_ops.specs.Trying.{TryState, new_try, trying_ask, try_ask, with_latch, is_wait, ended_without, is_bounded, ends, ends_by, ends_so, tail_loaded, taken_loaded, takes_effect, full_at, walks, wants_shared, try_begun, is_next_marked, latch_shared, shared_ledto, is_still_in, phase_loaded, must_shift, wants_exclusive, words_of, slot_of, appends, copies_from, copies, awaits, held_used, must_count, met_nowhere, count_loaded, met_disk, changes, is_own_version, region_met, met_record, walked, has_walked, walk_ledto, is_surely_own, safe_loaded, current_ledto, value_changed, told_value, answer_ledto, exclusive_ledto, old_ledto, append_ledto, exclusive_dropped, shared_dropped, latch_moved, walk_moved, trying_next, try_next}
@@ -218,7 +218,7 @@ copies_rest p t old is_current can = tested (wants_exclusive t is_current)
 held_used_rests : (p : Places) (t : TryState) (addr : Addr) (held : Option HeldRecord) → TryRestsOrAsks (held_used p t addr held)
 unfolding held_used
 held_used_rests p t addr None = ends_rest p t (answer.AwaitsDisk (record { entry = t.walk.entry; addr = addr }))
-held_used_rests p t addr (Some held) = tested (held.entry == t.walk.entry) (held.key.0 == (key_of t.request.op).0) (held.previous.0 == 0)
+held_used_rests p t addr (Some held) = tested (held.entry == t.walk.entry) (held.key.0 == (key_of t.request.op).0) (is_chain_end t.request.floor held.previous)
   where
     tested : (same its last : Bool)
         → TryRestsOrAsks (if same then (if its then copies p t (Known held.value) false else if last then copies p t (Known absent_word) false else awaits p t held.previous) else awaits p t addr)
@@ -244,12 +244,14 @@ count_loaded_rests p t taken = tested (is_past_taken (bounds_at t.occasion) take
     tested false = copies_rest p t (Known absent_word) false tt
 
 met_disk_rests : (p : Places) (t : TryState) (addr : Addr) → TryRestsOrAsks (met_disk p t addr)
-met_disk_rests p t addr = tested (is_read t.request.op) (is_blind t.request.op)
+met_disk_rests p t addr = tested (is_read t.request.op) (is_chain_end t.request.floor addr) (is_blind t.request.op || is_chain_end t.request.floor addr)
   where
-    tested : (read blind : Bool) → TryRestsOrAsks (if read then awaits p t addr else if blind then copies p t (Known absent_word) false else held_used p t addr t.request.held)
-    tested true blind = ends_rest p t (answer.AwaitsDisk (record { entry = t.walk.entry; addr = addr }))
-    tested false true = copies_rest p t (Known absent_word) false tt
-    tested false false = held_used_rests p t addr t.request.held
+    tested : (read last none : Bool)
+        → TryRestsOrAsks (if read then (if last then ends p t answer.Absent else awaits p t addr) else if none then copies p t (Known absent_word) false else held_used p t addr t.request.held)
+    tested true true none = ends_rest p t answer.Absent
+    tested true false none = ends_rest p t (answer.AwaitsDisk (record { entry = t.walk.entry; addr = addr }))
+    tested false last true = copies_rest p t (Known absent_word) false tt
+    tested false last false = held_used_rests p t addr t.request.held
 
 changes_rest : (t : TryState) (addr : Addr) → IsWalkUnderWay (walk_on t.walk) → TryRestsOrAsks (changes t addr)
 changes_rest t addr value = tested (is_blind t.request.op)

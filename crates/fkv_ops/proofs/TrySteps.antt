@@ -42,7 +42,7 @@ use Rattle.fkv_ops.specs.Appending.{append_ask, append_next}
 use Rattle.fkv_ops.specs.Trying.{TryState, trying_ask, is_wait, is_prepare, is_moving_on, is_marked, is_next_marked, is_still_in, ends, ends_so, tail_loaded, taken_loaded, count_loaded, copies, takes_effect, walks, latch_shared, shared_ledto, phase_loaded, current_ledto, value_changed, told_value, answer_ledto, exclusive_ledto, old_ledto, append_ledto, exclusive_dropped, shared_dropped, trying_next, words_of}
 use Rattle.fkv_ops.specs.TryRun.{Trial, home_at, Told, reply_told}
 use Rattle.fkv_ops.specs.Reasons.{latch_place, Loaded, HasEntry, HasFound, Held, Quicker, HasMetLatch, needs_exclusive, tells_own, HasNoneOfVersion, FoundMarked, FoundAnother, FoundNone, FoundBelow, OthersWentOn, ByLatch, ByWord, HasValue, ValueLost, HasNoRoom, HasNoEntry, IsPastTail, IsTrue}
-use Rattle.fkv_ops.specs.Effects.{MayChange, IsMadeOf, OfRecord, OfNone, OfAny, OfHeld, OfNoneBehind, IsLoaded, shares_latch, HasShared, OnWord}
+use Rattle.fkv_ops.specs.Effects.{MayChange, IsMadeOf, OfRecord, OfNone, OfNoneBelow, OfAny, OfHeld, OfNoneBehind, IsLoaded, shares_latch, HasShared, OnWord}
 use Rattle.fkv_ops.proofs.BoolTests.{lt_true, lt_false, le_true, le_false, eq_true, eq_false, both}
 use Rattle.fkv_ops.proofs.Walked.{walk_true, walk_begun_true, walk_begun_asks, loads_place, loads_value, loads_same}
 use Rattle.fkv_ops.proofs.Appended.{AppendKnows, append_true, append_answers}
@@ -164,6 +164,7 @@ not_told c told version found = by_mark (is_marked c.request.version) refl
 made_of_none : (c : Trial) (told : Told) (place entry : ℕ) (old : Option ℕ) (is_current : Bool) → IsMadeOf c told place entry old is_current → is_current ≡ false → HasNoneOfVersion c told
 made_of_none c told place entry old is_current (OfRecord {version = version} found may its_old) e = not_told c told version found e
 made_of_none c told place entry old is_current (OfNone walks) e = FoundNone walks
+made_of_none c told place entry old is_current (OfNoneBelow ends) e = FoundBelow ends.0
 made_of_none c told place entry old is_current (OfAny leaves blind) e = FoundBelow leaves
 made_of_none c told place entry old is_current (OfHeld holds same its_key) e = FoundBelow holds.leaves
 made_of_none c told place entry old is_current (OfNoneBehind holds same other none) e = FoundBelow holds.leaves

@@ -1,5 +1,5 @@
 -- The effect of a try, by what the try asked and was replied: one of three asks makes it, and what was done before shows that it may.
-use Rattle.std.specs.Prelude.{◌≡◌, ◌≢◌, ℕ, ◌+◌, ◌*◌, ◌^◌, ◌<◌, ◌≤◌, ◌==◌, ◌&&◌, ◌||◌, not, Bool, true, false, List, ◌∷◌, Option, Some, None}
+use Rattle.std.specs.Prelude.{◌≡◌, ◌≢◌, ℕ, ◌+◌, ◌*◌, ◌^◌, ◌<◌, ◌≤◌, ◌&&◌, ◌||◌, not, Bool, true, false, List, ◌∷◌, Option, Some, None}
 use Rattle.fkv_base.specs.declared.numbers.Key.{Key}
 use Rattle.fkv_marks.specs.Marks.{mark}
 use Rattle.fkv_map.specs.declared.operations.Op.{Op}
@@ -19,10 +19,10 @@ use Rattle.fkv_ops.specs.declared.answers.TryAnswer.{TryAnswer}
 use Rattle.fkv_ops.specs.declared.requests.HeldRecord.{HeldRecord}
 use Rattle.fkv_ops.specs.Values.{value_of, word_of}
 use Rattle.fkv_ops.specs.HeaderWords.{version_in}
-use Rattle.fkv_ops.specs.Requests.{is_read, is_blind}
+use Rattle.fkv_ops.specs.Requests.{is_read, is_blind, is_chain_end}
 use Rattle.fkv_ops.specs.Trying.{is_prepare, is_wait, is_next_marked, is_still_in, TryState, try_ask}
 use Rattle.fkv_ops.specs.TryRun.{Trial, home_at, try_run, trial_begun, Told, told_by, effects_of, reply_told}
-use Rattle.fkv_ops.specs.Reasons.{latch_place, Loaded, IsStored, Won, HasEntry, WalksTo, HasFound, LeavesMemory, HoldsFrom, needs_exclusive, tells_own}
+use Rattle.fkv_ops.specs.Reasons.{latch_place, Loaded, IsStored, Won, HasEntry, WalksTo, HasFound, LeavesMemory, EndsBelow, HoldsFrom, needs_exclusive, tells_own}
 
 -- a record with the mark of the request's version, at or above the read-only offset that the session has seen: such a one is changed in place
 pub record MayChange (c : Trial) (told : Told) (addr : ℕ) : Type 0 where
@@ -42,14 +42,15 @@ pub data IsOld (c : Trial) (told : Told) (addr : ℕ) : Option ℕ → Type 0 wh
   IsLoaded : (word : ℕ) → Loaded told (record_place c.places addr rec.Value) word → IsOld c told addr (value_of word)
 
 -- What a new record is made of, and whether the walk found a record that is surely of the request's version: a record in memory that may be copied, none
--- where the chain ends, any below the head where the old value doesn't count, and else the one that the request holds.
+-- where the chain ends, at 0 or below the request's floor, any below the head where the old value doesn't count, and else the one that the request holds.
 pub data IsMadeOf (c : Trial) (told : Told) (place entry : ℕ) : Option ℕ → Bool → Type 0 where
   OfRecord : {addr version : ℕ} {old : Option ℕ} → HasFound c told place entry addr version → MayCopy c told addr version → IsOld c told addr old
       → IsMadeOf c told place entry old (tells_own c version)
   OfNone : WalksTo c told place entry 0 → IsMadeOf c told place entry None false
+  OfNoneBelow : {addr : ℕ} → EndsBelow c told place entry addr → IsMadeOf c told place entry None false
   OfAny : {addr : ℕ} → LeavesMemory c told place entry addr → is_blind c.request.op ≡ true → IsMadeOf c told place entry None false
   OfHeld : {held : HeldRecord} → HoldsFrom c told place held → held.entry ≡ entry → held.key.0 ≡ (key_of c.request.op).0 → IsMadeOf c told place entry (value_of held.value) false
-  OfNoneBehind : {held : HeldRecord} → HoldsFrom c told place held → held.entry ≡ entry → held.key.0 ≢ (key_of c.request.op).0 → held.previous.0 ≡ 0 → IsMadeOf c told place entry None false
+  OfNoneBehind : {held : HeldRecord} → HoldsFrom c told place held → held.entry ≡ entry → held.key.0 ≢ (key_of c.request.op).0 → is_chain_end c.request.floor held.previous ≡ true → IsMadeOf c told place entry None false
 
 -- the try has set bit 63 of the bucket's eighth word, which had neither that nor a count
 pub record HasSetBit (c : Trial) (told : Told) : Type 0 where

@@ -107,9 +107,14 @@ pub record LeavesMemory (c : Trial) (told : Told) (place entry addr : ℕ) : Typ
   pub some : 0 < addr
   pub below : addr < c.seen.offsets.head.0
 
--- no record of the key: the chain ends, or there is no slot of the key's home
+-- there the chain ends: that address lies below the request's floor
+abbrev pub EndsBelow : Trial → Told → ℕ → ℕ → ℕ → Type 0
+EndsBelow c told place entry addr = LeavesMemory c told place entry addr × (addr < c.request.floor.0)
+
+-- no record of the key: the chain ends, at 0 or below the request's floor, or there is no slot of the key's home
 pub data HasNone (c : Trial) (told : Told) : Type 0 where
   AtItsEnd : {place entry : ℕ} → WalksTo c told place entry 0 → HasNone c told
+  BelowFloor : {place entry addr : ℕ} → EndsBelow c told place entry addr → HasNone c told
   WithoutSlot : HasEnd c told false → HasNone c told
 
 -- the record is at or above the safe read-only offset that was loaded, and below the one that the session has seen
@@ -147,10 +152,11 @@ pub record IsBehindHeld (c : Trial) (told : Told) (it : DiskRecord) : Type 0 whe
   pub holds : HoldsFrom c told place held
   pub another : held.key.0 ≢ (key_of c.request.op).0
   pub some : 0 < it.addr.0
+  pub on : c.request.floor.0 ≤ it.addr.0
 
--- the old value counts, and what the request holds doesn't tell it
+-- The old value counts, and what the request holds doesn't tell it. No record below the request's floor is awaited.
 pub data IsOnDisk (c : Trial) (told : Told) (it : DiskRecord) : Type 0 where
-  BelowHead : {place : ℕ} → LeavesMemory c told place it.entry it.addr.0 → is_blind c.request.op ≡ false → HoldsNone c it.entry → IsOnDisk c told it
+  BelowHead : {place : ℕ} → LeavesMemory c told place it.entry it.addr.0 → c.request.floor.0 ≤ it.addr.0 → is_blind c.request.op ≡ false → HoldsNone c it.entry → IsOnDisk c told it
   BehindHeld : IsBehindHeld c told it → IsOnDisk c told it
 
 -- bit 63 or a count was met, or the Cas from a free word that was loaded was lost

@@ -1,5 +1,7 @@
 -- What kinds of operations there are.
-use Rattle.std.specs.Prelude.{if◌then◌else◌, Bool, true, false, Option, Some, None}
+use Rattle.std.specs.Prelude.{◌==◌, if◌then◌else◌, Bool, true, false, Option, Some, None}
+use Rattle.fkv_base.specs.declared.numbers.Addr.{Addr}
+use Rattle.fkv_begin.specs.Begin.{from_or_none}
 use Rattle.fkv_map.specs.declared.operations.Op.{Op}
 use Rattle.fkv_map.specs.declared.operations.Op.TheVariants.{Upsert, Delete, Read}
 use Rattle.fkv_index.specs.declared.finding.Purpose.{Purpose}
@@ -25,3 +27,7 @@ update_within (Some bounds) = slot.UpdateWithin bounds.taken
 
 abbrev pub purpose_at : Occasion → Op → Purpose
 purpose_at occasion op = if is_read op then slot.Read else update_within (bounds_at occasion)
+
+-- An address below a request's floor counts as 0 to it, wherever it stands. So a chain that leads there has ended.
+abbrev pub is_chain_end : Addr → Addr → Bool
+is_chain_end floor addr = from_or_none floor.0 addr.0 == 0

@@ -8,7 +8,7 @@ use Rattle.fkv_ops.specs.declared.requests.Seen.{Seen}
 
 -- a read of key 0
 abbrev pub no_request : Request
-no_request = record { op = Read (record { 0 = 0 }); version = record { 0 = 1 }; has_latch = false; held = None; some_version = omega arith; version_fits = omega arith }
+no_request = record { op = Read (record { 0 = 0 }); version = record { 0 = 1 }; has_latch = false; held = None; floor = record { 0 = 0 }; some_version = omega arith; version_fits = omega arith }
 
 -- the first version at rest, with no record in memory
 abbrev pub nothing_seen : Seen

@@ -1,5 +1,5 @@
 -- One try of a request: its latch, the walk to the record of its key, and then the change in place or the new record.
-use Rattle.std.specs.Prelude.{ℕ, ◌==◌, ◌&&◌, not, nat_lt, nat_le, if◌then◌else◌, Bool, true, false, Option, Some, None}
+use Rattle.std.specs.Prelude.{ℕ, ◌==◌, ◌&&◌, ◌||◌, not, nat_lt, nat_le, if◌then◌else◌, Bool, true, false, Option, Some, None}
 use Rattle.std.proofs.Common.{arith}
 use Rattle.fkv_base.specs.declared.numbers.Addr.{Addr}
 use Rattle.fkv_base.specs.declared.numbers.Version.{Version}
@@ -56,7 +56,7 @@ use Rattle.fkv_ops.specs.Values.{value_of, word_of}
 use Rattle.fkv_ops.specs.Resting.{no_request, nothing_seen}
 use Rattle.fkv_ops.specs.Bounds.{bounds_at, has_bounds, tail_bound, is_past_taken, is_past_tail}
 use Rattle.fkv_ops.specs.Waiting.{told_of, waiting_of}
-use Rattle.fkv_ops.specs.Requests.{purpose_at, is_read, is_blind}
+use Rattle.fkv_ops.specs.Requests.{purpose_at, is_read, is_blind, is_chain_end}
 use Rattle.fkv_ops.specs.Walking.{WalkState, walk_rested, walk_begun, walk_ask, walk_next, walk_on}
 use Rattle.fkv_ops.specs.Appending.{AppendState, append_rested, append_begun, append_ask, append_next}
 
@@ -252,11 +252,11 @@ abbrev pub awaits : Places → TryState → Addr → TryState
 awaits p t addr = ends p t (answer.AwaitsDisk (record { entry = t.walk.entry; addr = addr }))
 
 -- What the request holds tells the old value where it was read along a walk from the same entry: the record of its key, or the last of
--- the chain. Else the walk goes on at the record before it.
+-- the chain. Else the walk goes on at the record before it. The chain ends below the request's floor too.
 unfoldable pub held_used : Places → TryState → Addr → Option HeldRecord → TryState
 held_used p t addr None = awaits p t addr
 held_used p t addr (Some held) =
-    if held.entry == t.walk.entry then (if held.key.0 == (key_of t.request.op).0 then copies p t (Known held.value) false else if held.previous.0 == 0 then copies p t (Known absent_word) false else awaits p t held.previous)
+    if held.entry == t.walk.entry then (if held.key.0 == (key_of t.request.op).0 then copies p t (Known held.value) false else if is_chain_end t.request.floor held.previous then copies p t (Known absent_word) false else awaits p t held.previous)
     else awaits p t addr
 
 -- An update with bounds whose key has no entry, and whose empty slot is in an overflow bucket that others have linked. Such a slot may be one that
@@ -272,9 +272,11 @@ met_nowhere p t = if is_read t.request.op then ends p t answer.Absent else if mu
 unfoldable pub count_loaded : Places → TryState → ℕ → TryState
 count_loaded p t taken = if is_past_taken (bounds_at t.occasion) taken then ends p t answer.IndexFull else copies p t (Known absent_word) false
 
--- the chain leaves memory
+-- The chain leaves memory. Where it leads below the request's floor it has ended: there is no record of the key.
 abbrev pub met_disk : Places → TryState → Addr → TryState
-met_disk p t addr = if is_read t.request.op then awaits p t addr else if is_blind t.request.op then copies p t (Known absent_word) false else held_used p t addr t.request.held
+met_disk p t addr =
+    if is_read t.request.op then (if is_chain_end t.request.floor addr then ends p t answer.Absent else awaits p t addr)
+    else if is_blind t.request.op || is_chain_end t.request.floor addr then copies p t (Known absent_word) false else held_used p t addr t.request.held
 
 -- a record with the mark of the update's version is changed in place, where the session may: by one Swap where the old value doesn't count
 abbrev pub changes : TryState → Addr → TryState

@@ -93,7 +93,7 @@ impl Try {
             Some(held) if held.entry == self.walk.entry() => {
                 if held.key == self.request.op.key() {
                     self.copies(OldValue::Known(held.value), false);
-                } else if held.previous == Addr(0) {
+                } else if self.request.is_chain_end(held.previous) {
                     self.copies(OldValue::Known(Value::ABSENT), false);
                 } else {
                     self.awaits(held.previous);

@@ -139,13 +139,18 @@ impl Try {
         }
     }
 
-    /// The chain leaves memory at this address.
+    /// The chain leaves memory at this address. Below the request's floor it has ended there.
     fn met_disk(&mut self, addr: Addr)
         ensures { self.new ≡ record self.old { state = met_disk self.old.places self.old.state addr } }
     {
+        let has_ended = self.request.is_chain_end(addr);
         if is_read(self.request.op) {
-            self.awaits(addr);
-        } else if is_blind(self.request.op) {
+            if has_ended {
+                self.ends(TryAnswer::Absent);
+            } else {
+                self.awaits(addr);
+            }
+        } else if is_blind(self.request.op) || has_ended {
             self.copies(OldValue::Known(Value::ABSENT), false);
         } else {
             self.held_used(addr, self.request.held);

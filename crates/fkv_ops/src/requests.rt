@@ -1,10 +1,11 @@
 //! Requests, and what a try of one goes by.
 ghost use Rattle.std.specs.Prelude.{◌≡◌, ◌<◌, ◌^◌, ℕ};
 ghost use Rattle.fkv_ops.specs.Bounds.{bounds_at};
-ghost use Rattle.fkv_ops.specs.Requests.{purpose_at, is_read, is_blind};
+ghost use Rattle.fkv_ops.specs.Requests.{purpose_at, is_read, is_blind, is_chain_end};
 
 use crate::bounds::Bounds;
 use fkv_base::{Addr, Key, Phase, Version};
+use fkv_begin::from_or_none;
 use fkv_index::Purpose;
 use fkv_log::SeenOffsets;
 use fkv_map::Op;
@@ -30,6 +31,8 @@ pub struct Request {
     /// Whether it shares the latch of its bucket.
     pub has_latch: bool,
     pub held: Option<HeldRecord>,
+    /// The log began there or above when the walk to what it holds or awaits began: an address below counts as 0 to it.
+    pub floor: Addr,
     pub ghost some_version: { 0 < version.0 },
     pub ghost version_fits: { version.0 < 2 ^ 45 },
 }
@@ -46,6 +49,7 @@ impl Request {
             version: Version(1),
             has_latch: false,
             held: None,
+            floor: Addr(0),
         }
     }
 
@@ -54,6 +58,13 @@ impl Request {
         ensures { result ≡ is_read self.now.op }
     {
         is_read(self.op)
+    }
+
+    /// Whether a chain that leads to this address has ended there: it is 0, or below the request's floor.
+    pub fn is_chain_end(&self, addr: Addr) -> bool
+        ensures { result ≡ is_chain_end self.now.floor addr }
+    {
+        from_or_none(self.floor, addr) == Addr(0)
     }
 }
 

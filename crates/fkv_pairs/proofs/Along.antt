@@ -12,7 +12,7 @@ use Rattle.fkv_record.specs.Layout.{record_bytes}
 use Rattle.fkv_record.specs.Places.{record_place}
 use Rattle.fkv_words.specs.Home.{bucket_of, tag_of}
 use Rattle.fkv_scan.specs.Log.{Log, home, record_home}
-use Rattle.fkv_scan.specs.Records.{Stands}
+use Rattle.fkv_scan.specs.Records.{Stands, next_of}
 use Rattle.fkv_scan.specs.Scan.{Has}
 use Rattle.fkv_scan.proofs.Shown.{got, kept_some, new_some}
 use Rattle.fkv_chains.specs.Along.{IsAlong, here, on}
@@ -39,8 +39,8 @@ unfolding lower_or_none
 next_short p a n is below = grind (arith, nat_tests)
 
 -- what was read is what the log has at the address
-pub read_of : (image : List ℕ) (its_shape : Shape) (log : Log) → IsReadFrom image its_shape log → (a : ℕ) (read : Option Record) → Reads record_bytes (bytes_at image (record_place its_shape a) 24) read → Reads record_bytes (bytes_at log.image (record_place log.shape a) 24) read
-read_of image its_shape log from a read reads =
+pub read_of : (image : List ℕ) (its_shape : Shape) (begin : ℕ) (log : Log) → IsReadFrom image its_shape begin log → (a : ℕ) (read : Option Record) → Reads record_bytes (bytes_at image (record_place its_shape a) 24) read → Reads record_bytes (bytes_at log.image (record_place log.shape a) 24) read
+read_of image its_shape begin log from a read reads =
     subst (λ (i : List ℕ). Reads record_bytes (bytes_at i (record_place log.shape a) 24) read) (sym from.bytes)
     (subst (λ (s : Shape). Reads record_bytes (bytes_at image (record_place s a) 24) read) (sym from.sizes) reads)
 
@@ -75,15 +75,15 @@ module _ (spelled : SpellsApart record_bytes) (log : Log) (sound : IsFaultless l
     its_counts = (let has = so_far.here_counts some in subst (λ (y : Record). Counts log its_home a y) (one spelled log sound a has.0 x has.1.valid.stands stands) has.1)
 
     -- the next address along the chain
-    next_is : lower_or_none x.header.previous.0 a ≡ x.header.previous.0
-    next_is = lower x.header.previous.0 a (falls spelled log sound its_home a x its_counts)
+    next_is : lower_or_none (next_of log x) a ≡ next_of log x
+    next_is = lower (next_of log x) a (falls spelled log sound its_home a x its_counts)
 
     -- once the key of this record has something
-    step : (next : ℕ → Option ℕ) (b : ℕ) (y : Record) → Counts log its_home b y → is_some (next x.key.0) ≡ true → IsAlong log a b → (is_some (next y.key.0) ≡ true) ⊎ IsAlong log x.header.previous.0 b
+    step : (next : ℕ → Option ℕ) (b : ℕ) (y : Record) → Counts log its_home b y → is_some (next x.key.0) ≡ true → IsAlong log a b → (is_some (next y.key.0) ≡ true) ⊎ IsAlong log (next_of log x) b
     step next b y counts has (here _ _) = inl (ap (λ (z : Record). is_some (next z.key.0)) (one spelled log sound a y x counts.valid.stands stands) ∙ has)
-    step next b y counts has (on _ _ z _ its rest) = inr (subst (λ (w : Record). IsAlong log w.header.previous.0 b) (one spelled log sound a z x its stands) rest)
+    step next b y counts has (on _ _ z _ its rest) = inr (subst (λ (w : Record). IsAlong log (next_of log w) b) (one spelled log sound a z x its stands) rest)
 
-    pub gather_on : (next : ℕ → Option ℕ) → AreNewest log next → ((k : ℕ) → is_some (at k) ≡ true → is_some (next k) ≡ true) → is_some (next x.key.0) ≡ true → IsGathering log its_home before next (lower_or_none x.header.previous.0 a)
+    pub gather_on : (next : ℕ → Option ℕ) → AreNewest log next → ((k : ℕ) → is_some (at k) ≡ true → is_some (next k) ≡ true) → is_some (next x.key.0) ≡ true → IsGathering log its_home before next (lower_or_none (next_of log x) a)
     gather_on next newest keeps has = subst (λ (n : ℕ). IsGathering log its_home before next n) (sym next_is) (record {
       newest = newest;
       keeps = λ k had. keeps k (so_far.keeps k had);
@@ -104,7 +104,7 @@ module _ (spelled : SpellsApart record_bytes) (log : Log) (sound : IsFaultless l
           (so_far.left b y (subst (λ (h : ℕ). Counts log h b y) of_home counts));
     }
 
-    pub gather_new : (next : ℕ → Option ℕ) (k v : ℕ) → k ≡ x.key.0 → v ≡ x.value → is_some (at k) ≡ false → ((q : ℕ) → next q ≡ cond (is_eq (nat_cmp k q)) (Some v) (at q)) → IsGathering log its_home before next (lower_or_none x.header.previous.0 a)
+    pub gather_new : (next : ℕ → Option ℕ) (k v : ℕ) → k ≡ x.key.0 → v ≡ x.value → is_some (at k) ≡ false → ((q : ℕ) → next q ≡ cond (is_eq (nat_cmp k q)) (Some v) (at q)) → IsGathering log its_home before next (lower_or_none (next_of log x) a)
     gather_new next k v this_key this_value new updates = gather_on next newest keeps has
       where
         newest : AreNewest log next
@@ -125,5 +125,5 @@ module _ (spelled : SpellsApart record_bytes) (log : Log) (sound : IsFaultless l
         has = ap is_some (updates x.key.0) ∙ new_some k x.key.0 v (at x.key.0) this_key
 
     -- the key is there already
-    pub gather_seen : is_some (at x.key.0) ≡ true → IsGathering log its_home before at (lower_or_none x.header.previous.0 a)
+    pub gather_seen : is_some (at x.key.0) ≡ true → IsGathering log its_home before at (lower_or_none (next_of log x) a)
     gather_seen has = gather_on at so_far.newest (λ k had. had) has

@@ -6,7 +6,7 @@ use Rattle.fkv_record.specs.declared.records.Record.{Record}
 use Rattle.fkv_record.specs.Layout.{record_bytes}
 use Rattle.fkv_marks.proofs.Shown.{version_least}
 use Rattle.fkv_scan.specs.Log.{Log}
-use Rattle.fkv_scan.specs.Records.{version_of, Stands, IsKept, IsCounted}
+use Rattle.fkv_scan.specs.Records.{next_of, version_of, Stands, IsKept, IsCounted}
 use Rattle.fkv_scan.specs.Scan.{Has, HasNone, IsGreatest, IsLinked, GoesOn, by_record}
 use Rattle.fkv_chains.specs.Reached.{Reached, in_scan, linked, LeadsTo, from_record}
 use Rattle.fkv_chains.specs.Along.{IsAlong, here, on}
@@ -36,7 +36,7 @@ module _ (spelled : SpellsApart record_bytes) (log : Log) (sound : IsFaultless l
     counts_kept : (a : ℕ) (x : Record) → log.start ≤ a → Counts log its_home a x → IsKept log its_home a x
     counts_kept a x from counts = record { here = counts.valid; not_lost = counts.not_lost from }
 
-    pub falls : (a : ℕ) (x : Record) → Counts log its_home a x → x.header.previous.0 < a
+    pub falls : (a : ℕ) (x : Record) → Counts log its_home a x → next_of log x < a
     falls a x counts = ⊎_elim
         (λ low. chain_falls spelled log sound a x counts.reached low counts.valid.stands)
         (λ from. scan_falls spelled log sound a x from (met spelled log sound a counts.reached from).0 counts.valid.stands)
@@ -50,22 +50,22 @@ module _ (spelled : SpellsApart record_bytes) (log : Log) (sound : IsFaultless l
       its_links : IsLinked log a x
       its_links = links spelled log sound a x from within counts.valid.stands counts.valid.valid
 
-      to_nearest : (c : ℕ) → IsGreatest (IsKept log its_home) log.start a c → (x.header.previous.0 ≡ c) × ((y : Record) → Stands log c y → version_of log y ≤ version_of log x)
+      to_nearest : (c : ℕ) → IsGreatest (IsKept log its_home) log.start a c → (next_of log x ≡ c) × ((y : Record) → Stands log c y → version_of log y ≤ version_of log x)
       to_nearest c greatest = its_links.nearest (counts.not_lost from) c (subst (λ (h : ℕ). IsGreatest (IsKept log h) log.start a c) (sym counts.valid.same) greatest)
 
-      to_below : HasNone (IsKept log its_home) log.start a → x.header.previous.0 < log.start
+      to_below : HasNone (IsKept log its_home) log.start a → next_of log x < log.start
       to_below none = its_links.first (counts.not_lost from) (subst (λ (h : ℕ). HasNone (IsKept log h) log.start a) (sym counts.valid.same) none)
 
       its_nearest : Greatest (IsKept log its_home) log.start a
       its_nearest = nearest spelled log sound its_home a (let low = within in omega (arith, low))
 
-    reached_next : (a : ℕ) (x : Record) → Counts log its_home a x → x.header.previous.0 ≢ 0 → Reached log x.header.previous.0
-    reached_next a x counts some = linked a x.header.previous.0 x counts.reached counts.valid.stands refl some
+    reached_next : (a : ℕ) (x : Record) → Counts log its_home a x → next_of log x ≢ 0 → Reached log (next_of log x)
+    reached_next a x counts some = linked a (next_of log x) x counts.reached counts.valid.stands refl some
 
-    leads_next : (a : ℕ) (x : Record) → Counts log its_home a x → x.header.previous.0 ≢ 0 → LeadsTo log its_home x.header.previous.0
+    leads_next : (a : ℕ) (x : Record) → Counts log its_home a x → next_of log x ≢ 0 → LeadsTo log its_home (next_of log x)
     leads_next a x counts some = from_record a x counts.reached counts.valid.stands counts.valid.same refl some
 
-    next_in_scan : (a : ℕ) (x : Record) → log.start ≤ a → Counts log its_home a x → x.header.previous.0 ≢ 0 → Greatest (IsKept log its_home) log.start a → Has (Counts log its_home) x.header.previous.0
+    next_in_scan : (a : ℕ) (x : Record) → log.start ≤ a → Counts log its_home a x → next_of log x ≢ 0 → Greatest (IsKept log its_home) log.start a → Has (Counts log its_home) (next_of log x)
     next_in_scan a x from counts some (inl found) =
         let leads = to_nearest a x from counts found.0 found.1 in
         let kept = found.1.here in
@@ -83,14 +83,14 @@ module _ (spelled : SpellsApart record_bytes) (log : Log) (sound : IsFaultless l
           },
         )
     next_in_scan a x from counts some (inr none) =
-        below_counts its_home x.header.previous.0 (reached_next a x counts some) (to_below a x from counts none) (leads_next a x counts some)
+        below_counts its_home (next_of log x) (reached_next a x counts some) (to_below a x from counts none) (leads_next a x counts some)
 
     -- a record that counts leads to one that counts
-    pub next_counts : (a : ℕ) (x : Record) → Counts log its_home a x → x.header.previous.0 ≢ 0 → Has (Counts log its_home) x.header.previous.0
+    pub next_counts : (a : ℕ) (x : Record) → Counts log its_home a x → next_of log x ≢ 0 → Has (Counts log its_home) (next_of log x)
     next_counts a x counts some = ⊎_elim
         (λ low.
         let lower = chain_falls spelled log sound a x counts.reached low counts.valid.stands in
-        below_counts its_home x.header.previous.0 (reached_next a x counts some) (omega (arith, lower, low)) (leads_next a x counts some))
+        below_counts its_home (next_of log x) (reached_next a x counts some) (omega (arith, lower, low)) (leads_next a x counts some))
         (λ from. next_in_scan a x from counts some (its_nearest a x from counts))
         (cases_lt a log.start)
 
@@ -100,7 +100,7 @@ module _ (spelled : SpellsApart record_bytes) (log : Log) (sound : IsFaultless l
     along_counts a b has (on _ _ x some stands rest) =
         let equal : has.0 ≡ x = one spelled log sound a has.0 x has.1.valid.stands stands in
         let counts : Counts log its_home a x = subst (λ (y : Record). Counts log its_home a y) equal has.1 in
-        let further = along_counts x.header.previous.0 b (next_counts a x counts (along_some log x.header.previous.0 b rest)) rest in
+        let further = along_counts (next_of log x) b (next_counts a x counts (along_some log (next_of log x) b rest)) rest in
         let low = further.1 in
         let lower = falls a x counts in
         (further.0, omega (arith, low, lower))
@@ -131,20 +131,20 @@ module _ (spelled : SpellsApart record_bytes) (log : Log) (sound : IsFaultless l
       below_start : (a : ℕ) → HasNone (IsKept log its_home) log.start a → b < a → b < log.start
       below_start a none less = ⊎_elim (λ low. low) (λ from. absurd (none b y from less (counts_kept b y from counted))) (cases_lt b log.start)
 
-      last_step : (a : ℕ) (x : Record) → log.start ≤ a → Counts log its_home a x → HasNone (IsKept log its_home) log.start a → b < a → IsAlong log x.header.previous.0 b
+      last_step : (a : ℕ) (x : Record) → log.start ≤ a → Counts log its_home a x → HasNone (IsKept log its_home) log.start a → b < a → IsAlong log (next_of log x) b
       last_step a x from counts none less =
           let way = way_of b y (below_start a none less) counted in
-          let goes : GoesOn log its_home log.tail x.header.previous.0 = by_record a x from (within a x from counts) counts.valid refl (to_below a x from counts none) in
-          subst (λ (n : ℕ). IsAlong log n b) (one_way spelled log sound its_home way.way x.header.previous.0 way.goes goes) way.along
+          let goes : GoesOn log its_home log.tail (next_of log x) = by_record a x from (within a x from counts) counts.valid refl (to_below a x from counts none) in
+          subst (λ (n : ℕ). IsAlong log n b) (one_way spelled log sound its_home way.way (next_of log x) way.goes goes) way.along
 
-      by_step : (a : ℕ) (x : Record) → log.start ≤ a → Counts log its_home a x → b < a → ((c : ℕ) → c < a → Has (Counts log its_home) c → log.start ≤ c → b ≤ c → IsAlong log c b) → Greatest (IsKept log its_home) log.start a → IsAlong log x.header.previous.0 b
+      by_step : (a : ℕ) (x : Record) → log.start ≤ a → Counts log its_home a x → b < a → ((c : ℕ) → c < a → Has (Counts log its_home) c → log.start ≤ c → b ≤ c → IsAlong log c b) → Greatest (IsKept log its_home) log.start a → IsAlong log (next_of log x) b
       by_step a x from counts less go (inr none) = last_step a x from counts none less
       by_step a x from counts less go (inl found) =
           let leads = (to_nearest a x from counts found.0 found.1).0 in
           let on_from = found.1.from_on in
           let low = below_nearest a found.0 found.1 less in
           let start = sound.some_start in
-          go x.header.previous.0 (falls a x counts) (next_counts a x counts (λ none. omega (arith, none, leads, on_from, start))) (omega (arith, leads, on_from)) (omega (arith, leads, low))
+          go (next_of log x) (falls a x counts) (next_counts a x counts (λ none. omega (arith, none, leads, on_from, start))) (omega (arith, leads, on_from)) (omega (arith, leads, low))
 
       -- by steps, at most n of them
       downwards : (n a : ℕ) → a < n → Has (Counts log its_home) a → log.start ≤ a → b ≤ a → IsAlong log a b

@@ -1,5 +1,5 @@
 -- The log of a store has no fault.
-use Rattle.std.proofs.Common.{ℕ, ◌≤◌, List, refl, sym, subst}
+use Rattle.std.proofs.Common.{ℕ, ◌≤◌, List, ap, refl, sym, subst}
 use Rattle.fkv_base.specs.declared.numbers.Addr.{Addr}
 use Rattle.fkv_opening.specs.declared.opened_store.Opened.{Opened}
 use Rattle.fkv_opening.specs.Opened.{IsStoreOf}
@@ -19,5 +19,5 @@ module _ (image : List ℕ) (opened : Opened) (store : IsStoreOf image opened) w
     chains = store.sound.chains;
   }
 
-  pub is_read_from : IsReadFrom image opened.shape (log_of_store image opened store)
-  is_read_from = record { bytes = refl; sizes = sym store.tells.shape; faultless = is_faultless }
+  pub is_read_from : IsReadFrom image opened.shape opened.begin.0 (log_of_store image opened store)
+  is_read_from = record { bytes = refl; sizes = sym store.tells.shape; begins = ap (λ (a : Addr). a.0) (sym store.tells.begin); faultless = is_faultless }

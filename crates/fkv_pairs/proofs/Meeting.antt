@@ -5,7 +5,7 @@ use Rattle.fkv_words.specs.Fields.{SpellsApart}
 use Rattle.fkv_record.specs.declared.records.Record.{Record}
 use Rattle.fkv_record.specs.Layout.{record_bytes}
 use Rattle.fkv_scan.specs.Log.{Log, record_home}
-use Rattle.fkv_scan.specs.Records.{Stands, version_of, losses_of, IsValid, IsKept, IsCounted}
+use Rattle.fkv_scan.specs.Records.{Stands, next_of, version_of, losses_of, IsValid, IsKept, IsCounted}
 use Rattle.fkv_scan.specs.Scan.{Has, HasNone, IsGreatest, IsScanned, IsLinked}
 use Rattle.fkv_scan.proofs.Shown.{at_or_below}
 use Rattle.fkv_chains.specs.Reached.{Reached, in_scan, led_to, linked}
@@ -99,21 +99,21 @@ module _ (spelled : SpellsApart record_bytes) (log : Log) (sound : IsFaultless l
     pub links : x.header.invalid ≡ false → IsLinked log a x
     links valid = subst (λ (y : Record). IsLinked log a y) same (this.linked (ap (λ (y : Record). y.header.invalid) same ∙ valid))
 
-    pub scan_falls : x.header.previous.0 < a
-    scan_falls = subst (λ (y : Record). y.header.previous.0 < a) same this.fits.falls
+    pub scan_falls : next_of log x < a
+    scan_falls = subst (λ (y : Record). next_of log y < a) same this.fits.falls
 
     -- a valid one that leads into the scan leads to a valid one there
-    leads_to_valid : x.header.invalid ≡ false → log.start ≤ x.header.previous.0 → Has (IsValid log (record_home log.shape.bucket_bits x)) x.header.previous.0
+    leads_to_valid : x.header.invalid ≡ false → log.start ≤ next_of log x → Has (IsValid log (record_home log.shape.bucket_bits x)) (next_of log x)
     leads_to_valid valid high = ⊎_elim
         (λ kept. by_nearest kept (nearest (record_home log.shape.bucket_bits x) a (omega (arith, within))))
         (λ lost. (links valid).lost lost high)
         (cases_eq (losses_of log a x) 0)
       where
-        by_nearest : losses_of log a x ≡ 0 → Greatest (IsKept log (record_home log.shape.bucket_bits x)) log.start a → Has (IsValid log (record_home log.shape.bucket_bits x)) x.header.previous.0
+        by_nearest : losses_of log a x ≡ 0 → Greatest (IsKept log (record_home log.shape.bucket_bits x)) log.start a → Has (IsValid log (record_home log.shape.bucket_bits x)) (next_of log x)
         by_nearest kept (inl found) = subst (λ (n : ℕ). Has (IsValid log (record_home log.shape.bucket_bits x)) n) (sym ((links valid).nearest kept found.0 found.1).0) (found.1.here.0, found.1.here.1.here)
         by_nearest kept (inr none) = (let low = (links valid).first kept none in absurd (omega (arith, low, high)))
 
-  met_next : (a b : ℕ) (x : Record) → log.start ≤ a → log.start ≤ b → Stands log a x → x.header.previous.0 ≡ b → IsMet log a → IsMet log b
+  met_next : (a b : ℕ) (x : Record) → log.start ≤ a → log.start ≤ b → Stands log a x → next_of log x ≡ b → IsMet log a → IsMet log b
   met_next a b x from high stands is met =
       let equal : met.1 ≡ x = one a met.1 x met.2 stands in
       let valid : x.header.invalid ≡ false = ap (λ (y : Record). y.header.invalid) (sym equal) ∙ met.3 in
@@ -123,10 +123,10 @@ module _ (spelled : SpellsApart record_bytes) (log : Log) (sound : IsFaultless l
       (omega (arith, lower, is, within), there.0, subst (λ (n : ℕ). Stands log n there.0) is there.1.stands, there.1.valid)
 
   -- below the start a record leads below itself
-  pub chain_falls : (a : ℕ) (x : Record) → Reached log a → a < log.start → Stands log a x → x.header.previous.0 < a
+  pub chain_falls : (a : ℕ) (x : Record) → Reached log a → a < log.start → Stands log a x → next_of log x < a
   chain_falls a x reached low stands =
       let this = sound.chains a reached low in
-      subst (λ (y : Record). y.header.previous.0 < a) (one a this.held x this.old.stands stands) this.old.falls
+      subst (λ (y : Record). next_of log y < a) (one a this.held x this.old.stands stands) this.old.falls
 
   -- what is reached from the start on is a valid record of the scan
   pub met : (a : ℕ) → Reached log a → log.start ≤ a → IsMet log a

@@ -7,7 +7,7 @@ use Rattle.fkv_record.specs.declared.records.Record.{Record}
 use Rattle.fkv_record.specs.declared.triples.Triple.{Triple}
 use Rattle.fkv_record.specs.Layout.{record_bytes}
 use Rattle.fkv_scan.specs.Log.{Log, HasTriple, record_home}
-use Rattle.fkv_scan.specs.Records.{Stands, IsValid}
+use Rattle.fkv_scan.specs.Records.{Stands, next_of, IsValid}
 use Rattle.fkv_scan.specs.Scan.{GoesOn, by_triple, by_none, by_record}
 use Rattle.fkv_scan.proofs.Shown.{some_is}
 use Rattle.fkv_chains.specs.Reached.{Reached, in_scan, led_to, linked, LeadsTo, from_triple, from_record}
@@ -18,7 +18,7 @@ use Rattle.fkv_pairs.proofs.Meeting.{one, links, met, some_reached}
 -- one chain goes on into another
 pub along_on : (log : Log) (a b c : ℕ) → IsAlong log a b → IsAlong log b c → IsAlong log a c
 along_on log a b c (here _ some) second = second
-along_on log a b c (on _ _ x some stands rest) second = on a c x some stands (along_on log x.header.previous.0 b c rest second)
+along_on log a b c (on _ _ x some stands rest) second = on a c x some stands (along_on log (next_of log x) b c rest second)
 
 -- a home leads below the start to where this record lies on its chain
 pub record IsOnWay (log : Log) (its_home b : ℕ) : Type 0 where
@@ -35,20 +35,20 @@ module _ (spelled : SpellsApart record_bytes) (log : Log) (sound : IsFaultless l
       sym t.address ∙ ap (λ (x : Triple). x.addr.0) same ∙ u.address
 
   -- a record of the scan leads to where the chain goes on by what lies below it
-  module _ (its_home c : ℕ) (x : Record) (from : log.start ≤ c) (within : c < log.tail) (valid : IsValid log its_home c x) (low : x.header.previous.0 < log.start) where
-    leads_on : (q : ℕ) → GoesOn log its_home c q → x.header.previous.0 ≡ q
+  module _ (its_home c : ℕ) (x : Record) (from : log.start ≤ c) (within : c < log.tail) (valid : IsValid log its_home c x) (low : next_of log x < log.start) where
+    leads_on : (q : ℕ) → GoesOn log its_home c q → next_of log x ≡ q
     leads_on q goes = (links spelled log sound c x from within valid.stands valid.valid).below low q (subst (λ (h : ℕ). GoesOn log h c q) (sym valid.same) goes)
 
-  two_records : (its_home c d : ℕ) (x y : Record) → log.start ≤ c → c < log.tail → IsValid log its_home c x → x.header.previous.0 < log.start
-      → log.start ≤ d → d < log.tail → IsValid log its_home d y → y.header.previous.0 < log.start → x.header.previous.0 ≡ y.header.previous.0
+  two_records : (its_home c d : ℕ) (x y : Record) → log.start ≤ c → c < log.tail → IsValid log its_home c x → next_of log x < log.start
+      → log.start ≤ d → d < log.tail → IsValid log its_home d y → next_of log y < log.start → next_of log x ≡ next_of log y
   two_records its_home c d x y from within valid low from_d within_d valid_d low_d = ⊎_elim
-      (λ less. sym (leads_on its_home d y from_d within_d valid_d low_d x.header.previous.0 (by_record c x from less valid refl low)))
+      (λ less. sym (leads_on its_home d y from_d within_d valid_d low_d (next_of log x) (by_record c x from less valid refl low)))
       (λ more. ⊎_elim
-      (λ less. leads_on its_home c x from within valid low y.header.previous.0 (by_record d y from_d less valid_d refl low_d))
+      (λ less. leads_on its_home c x from within valid low (next_of log y) (by_record d y from_d less valid_d refl low_d))
       (λ no_more.
       let same : c ≡ d = omega (arith, more, no_more) in
       let there : Stands log d x = subst (λ (n : ℕ). Stands log n x) same valid.stands in
-      ap (λ (z : Record). z.header.previous.0) (one spelled log sound d x y there valid_d.stands))
+      ap (λ (z : Record). next_of log z) (one spelled log sound d x y there valid_d.stands))
       (cases_lt d c))
       (cases_lt c d)
 
@@ -72,13 +72,13 @@ module _ (spelled : SpellsApart record_bytes) (log : Log) (sound : IsFaultless l
       sym (this.same leading leads) ∙ ap (λ (x : Record). record_home log.shape.bucket_bits x) (one spelled log sound b this.held y this.old.stands stands)
 
   -- what a record of the scan leads to
-  way_from : (a b : ℕ) (x : Record) → log.start ≤ a → b < log.start → Reached log a → Stands log a x → x.header.previous.0 ≡ b → b ≢ 0 → IsOnWay log (record_home log.shape.bucket_bits x) b
+  way_from : (a b : ℕ) (x : Record) → log.start ≤ a → b < log.start → Reached log a → Stands log a x → next_of log x ≡ b → b ≢ 0 → IsOnWay log (record_home log.shape.bucket_bits x) b
   way_from a b x from low reached stands is some =
       let this = met spelled log sound a reached from in
       let valid : x.header.invalid ≡ false = ap (λ (y : Record). y.header.invalid) (one spelled log sound a x this.1 stands this.2) ∙ this.3 in
       record { way = b; goes = by_record a x from this.0 (record { stands = stands; valid = valid; same = refl }) is low; along = here b some }
 
-  way_on : (a b : ℕ) (x : Record) → a ≢ 0 → Stands log a x → x.header.previous.0 ≡ b → b ≢ 0 → IsOnWay log (record_home log.shape.bucket_bits x) a → IsOnWay log (record_home log.shape.bucket_bits x) b
+  way_on : (a b : ℕ) (x : Record) → a ≢ 0 → Stands log a x → next_of log x ≡ b → b ≢ 0 → IsOnWay log (record_home log.shape.bucket_bits x) a → IsOnWay log (record_home log.shape.bucket_bits x) b
   way_on a b x some_a stands is some before =
       let step : IsAlong log a b = on a b x some_a stands (subst (λ (n : ℕ). IsAlong log n b) (sym is) (here b some)) in
       record { way = before.way; goes = before.goes; along = along_on log before.way a b before.along step }

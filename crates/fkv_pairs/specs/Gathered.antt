@@ -24,10 +24,11 @@ pub record IsFaultless (log : Log) : Type 0 where
   pub scan : HasScan log
   pub chains : HasChains log
 
--- such a log, of this image and shape
-pub record IsReadFrom (image : List ℕ) (its_shape : Shape) (log : Log) : Type 0 where
+-- such a log, of this image, shape and begin
+pub record IsReadFrom (image : List ℕ) (its_shape : Shape) (begin : ℕ) (log : Log) : Type 0 where
   pub bytes : log.image ≡ image
   pub sizes : log.shape ≡ its_shape
+  pub begins : log.begin ≡ begin
   pub faultless : IsFaultless log
 
 -- an address below a limit, or else 0

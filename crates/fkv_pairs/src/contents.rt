@@ -31,7 +31,7 @@ fn values_of<D: Device>(
     let mut values = BTreeMap::new(alloc);
     for i in 0..opened.entries.len() {
         let entry = opened.entries[i].entry;
-        gather(d, opened.shape, entry.addr, &mut values)?;
+        gather(d, opened.shape, opened.begin, entry.addr, &mut values)?;
     }
     Ok(values)
 }

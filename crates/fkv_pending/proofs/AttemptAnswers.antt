@@ -27,12 +27,14 @@ use Rattle.fkv_pending.specs.declared.mailing.MailRecord.{MailRecord}
 use Rattle.fkv_pending.specs.declared.mailing.MailTask.TheVariants.{Take}
 use Rattle.fkv_pending.specs.declared.mailing.Mailing.TheVariants.{LoadsState}
 use Rattle.fkv_pending.specs.declared.pending_requests.PendingRequest.{PendingRequest}
-use Rattle.fkv_pending.specs.Mailing.{mail_ask, mail_next}
-use Rattle.fkv_pending.specs.Pending.{with_sought, with_held, with_latch, with_asked}
-use Rattle.fkv_pending.specs.Attempting.{AttemptState, attempting_ask, attempt_ask, attempt_ended, waits_for_disk, puts_addr, puts, tries, is_seeking_read, goes_on, held_of, moved_on, read_on, record_taken, not_ready, look_ledto, held_kept, awaits_record, tried, try_ledto, put_ledto, mail_moved, try_moved, attempting_next, attempt_next, new_attempt}
-use Rattle.fkv_pending.specs.Attempts.{AttemptPast, look_told, try_told, address_told, put_told, attempt_told, attempt_run, attempt_past, is_under_way, AttemptGiven, begun_by, run_by, past_by, IsReadBy, IsReadEnd, IsTryEnd, IsBefore, ReadSeeksBy, ReadSeeks, TrySeeks, IsAnswered}
+use Rattle.fkv_pending.specs.Mailing.{mail_ask, mail_next, is_gone, begin_told}
+use Rattle.fkv_pending.specs.Pending.{with_sought, with_held, with_latch, with_asked, without_gone}
+use Rattle.fkv_pending.specs.Attempting.{AttemptState, attempting_ask, attempt_ask, attempt_ended, waits_for_disk, puts_addr, puts, tries, is_seeking_read, goes_on, held_of, moved_on, read_on, record_taken, not_ready, look_ledto, held_kept, awaits_record, tried, try_ledto, put_ledto, mail_moved, try_moved, attempting_next, attempt_next, new_attempt, goes_anew, mail_taken}
+use Rattle.fkv_pending.specs.Attempts.{AttemptPast, look_told, try_told, address_told, put_told, attempt_told, attempt_run, attempt_past, is_under_way, AttemptGiven, begun_by, run_by, past_by, IsReadBy, IsReadEnd, IsTryEnd, IsBefore, ReadSeeksBy, ReadSeeks, TrySeeks, IsAnswered, sought_behind}
 use Rattle.fkv_pending.proofs.AttemptRests.{AttemptRestsOrAsks, is_attempt_end, attempt_done, attempt_begun_rests, attempt_rests}
 use Rattle.fkv_pending.proofs.AttemptTries.{is_read_on, is_tried, is_read_then, put_same, address_same, same_told}
+use Rattle.fkv_ops.specs.Requests.{is_chain_end}
+use Rattle.fkv_pending.proofs.Gone.{gone_spoiled, sought_lost, sought_stays}
 
 -- behind the look of a read at a poll, or behind the try: by what the end is
 data IsBehind (first : PendingRequest) (is_on : Bool) (sought : Option DiskRecord) (taken : Option MailRecord) (met : Option TryAnswer) (its : TryAnswer) : Type 0 where
@@ -47,7 +49,7 @@ record IsLooking (first : PendingRequest) (is_on : Bool) (a : AttemptState) (tak
 
 record IsTrying (first : PendingRequest) (is_on : Bool) (pending : PendingRequest) (taken : Option MailRecord) (met : Option TryAnswer) : Type 0 where
   no_read : is_on ≡ false
-  sought : pending.sought ≡ first.sought
+  sought : pending.sought ≡ sought_behind first taken
   under_way : pending.has_asked ≡ is_under_way None taken first.has_asked
   none_met : met ≡ None
 
@@ -105,12 +107,19 @@ said_behind first is_on its said sought met told on e is = OfRead on
     (subst (λ (it : HeaderSaid). ReadSeeksBy first its it sought) (sym e) is.seeks)
     (subst (λ (it : HeaderSaid). IsReadBy first its it told) (sym e) is.its_end)
 
-read_on_answered : (first : PendingRequest) (is_on : Bool) (a : AttemptState) (its : MailRecord) (said : HeaderSaid) → is_on ≡ true → header_said its.header ≡ said → a.pending.sought ≡ first.sought
-    → a.pending.request.op ≡ first.request.op → Answered first is_on (read_on a its said) (Some its) None
+read_on_answered : (first : PendingRequest) (is_on : Bool) (a : AttemptState) (its : MailRecord) (said : HeaderSaid) → is_gone its ≡ false → is_on ≡ true → header_said its.header ≡ said → a.pending.sought ≡ first.sought
+    → a.pending.request.op ≡ first.request.op → a.pending.request.floor ≡ first.request.floor → Answered first is_on (read_on a its said) (Some its) None
 unfolding with_sought
-read_on_answered first is_on a its Spoiled on e same op = puts_answered first is_on a (Some its) None (said_behind first is_on its Spoiled a.pending.sought None (answer.Wait reason.Disk) on e (record { seeks = same; its_end = tt }))
-read_on_answered first is_on a its (Says previous version) on e same op = tested (its.key.0 == (key_of a.pending.request.op).0) (previous.0 == 0) refl refl
+read_on_answered first is_on a its Spoiled there on e same op floor =
+    puts_answered first is_on a (Some its) None (said_behind first is_on its Spoiled a.pending.sought None (answer.Wait reason.Disk) on e (record { seeks = same ∙ sought_stays first its there; its_end = tt }))
+read_on_answered first is_on a its (Says previous version) there on e same op floor = tested (its.key.0 == (key_of a.pending.request.op).0) (is_chain_end a.pending.request.floor previous) refl refl
   where
+    no : true ≡ false → ⊥
+    no is = cc
+
+    ends : (b : Bool) → is_chain_end a.pending.request.floor previous ≡ b → is_chain_end first.request.floor previous ≡ b
+    ends b is = subst (λ (it : Addr). is_chain_end it previous ≡ b) floor is
+
     said : HeaderSaid
     said = Says previous version
 
@@ -130,14 +139,14 @@ read_on_answered first is_on a its (Says previous version) on e same op = tested
     found : its.key.0 ≡ (key_of first.request.op).0 → IsReadSaid first its said a.pending.sought (told_value (value_of its.value))
     found key = record { seeks = record { goes_on = λ other some. absurd (other key); stays = λ why. same }; its_end = valued (value_of its.value) refl key }
 
-    last : its.key.0 ≢ (key_of first.request.op).0 → previous.0 ≡ 0 → IsReadSaid first its said a.pending.sought answer.Absent
-    last other none = record { seeks = record { goes_on = λ key some. absurd (some none); stays = λ why. same }; its_end = inr (other, none) }
+    last : its.key.0 ≢ (key_of first.request.op).0 → is_chain_end first.request.floor previous ≡ true → IsReadSaid first its said a.pending.sought answer.Absent
+    last other none = record { seeks = record { goes_on = λ key some. absurd (no (sym none ∙ some)); stays = λ why. same }; its_end = inr (other, none) }
 
-    neither : its.key.0 ≢ (key_of first.request.op).0 → previous.0 ≢ 0 → (its.key.0 ≡ (key_of first.request.op).0) ⊎ (previous.0 ≡ 0) → later.pending.sought ≡ first.sought
+    neither : its.key.0 ≢ (key_of first.request.op).0 → is_chain_end first.request.floor previous ≡ false → (its.key.0 ≡ (key_of first.request.op).0) ⊎ (is_chain_end first.request.floor previous ≡ true) → later.pending.sought ≡ first.sought
     neither other some (inl key) = absurd (other key)
-    neither other some (inr none) = absurd (some none)
+    neither other some (inr none) = absurd (no (sym none ∙ some))
 
-    behind : its.key.0 ≢ (key_of first.request.op).0 → previous.0 ≢ 0 → IsReadSaid first its said later.pending.sought (answer.Wait reason.Disk)
+    behind : its.key.0 ≢ (key_of first.request.op).0 → is_chain_end first.request.floor previous ≡ false → IsReadSaid first its said later.pending.sought (answer.Wait reason.Disk)
     behind other some = record {
       seeks = record {
         goes_on = λ key is. subst (λ (it : Option DiskRecord). IsBefore it previous later.pending.sought) same (moved_before a.pending.sought previous);
@@ -146,25 +155,50 @@ read_on_answered first is_on a its (Says previous version) on e same op = tested
       its_end = (other, some);
     }
 
-    tested : (b d : Bool) → (its.key.0 == (key_of a.pending.request.op).0) ≡ b → (previous.0 == 0) ≡ d
+    tested : (b d : Bool) → (its.key.0 == (key_of a.pending.request.op).0) ≡ b → is_chain_end a.pending.request.floor previous ≡ d
         → Answered first is_on (if b then attempt_ended a (told_value (value_of its.value)) else if d then attempt_ended a answer.Absent else puts later) (Some its) None
     tested true d key end = said_behind first is_on its said a.pending.sought None (told_value (value_of its.value)) on e (found (its_key key))
-    tested false true key end = said_behind first is_on its said a.pending.sought None answer.Absent on e (last (anothers key) (same_key previous.0 0 end))
+    tested false true key end = said_behind first is_on its said a.pending.sought None answer.Absent on e (last (anothers key) (ends true end))
     tested false false key end =
-        puts_answered first is_on later (Some its) None (said_behind first is_on its said later.pending.sought None (answer.Wait reason.Disk) on e (behind (anothers key) (other_key previous.0 0 end)))
+        puts_answered first is_on later (Some its) None (said_behind first is_on its said later.pending.sought None (answer.Wait reason.Disk) on e (behind (anothers key) (ends false end)))
 
-taken_answered : (p : Places) (bits : ℕ) (a : AttemptState) (its : MailRecord)
+taken_answered : (p : Places) (bits : ℕ) (a : AttemptState) (its : MailRecord) → is_gone its ≡ false
     → Answered a.pending (is_seeking_read a) (record_taken p bits (record a { is_emptied = true; pending = with_asked a.pending false }) its (header_said its.header)) (Some its) None
 unfolding with_asked with_held
-taken_answered p bits a its = tested (is_seeking_read a) refl
+taken_answered p bits a its there = tested (is_seeking_read a) refl
   where
     b : AttemptState
     b = record a { is_emptied = true; pending = with_asked a.pending false }
 
     tested : (e : Bool) → is_seeking_read a ≡ e
         → Answered a.pending (is_seeking_read a) (if e then read_on b its (header_said its.header) else tries p bits (record b { pending = with_held b.pending (held_of b.pending.sought its (header_said its.header)) })) (Some its) None
-    tested true e = read_on_answered a.pending (is_seeking_read a) b its (header_said its.header) e refl refl refl
-    tested false e = record { no_read = e; sought = refl; under_way = refl; none_met = refl }
+    tested true e = read_on_answered a.pending (is_seeking_read a) b its (header_said its.header) there e refl refl refl refl
+    tested false e = record { no_read = e; sought = sought_stays a.pending its there; under_way = refl; none_met = refl }
+
+-- it seeks nothing: a read waits
+gone_answered : (p : Places) (bits : ℕ) (a : AttemptState) (its : MailRecord) → is_gone its ≡ true
+    → Answered a.pending (is_seeking_read a) (goes_anew p bits (record a { is_emptied = true; pending = with_asked a.pending false }) (begin_told its)) (Some its) None
+unfolding with_asked without_gone
+gone_answered p bits a its gone = tested (is_seeking_read a)
+  where
+    anew : AttemptState
+    anew = record a { is_emptied = true; pending = without_gone (with_asked a.pending false) (begin_told its) }
+
+    tested : (b : Bool) → Answered a.pending b (if b then waits_for_disk anew else tries p bits anew) (Some its) None
+    tested true = said_behind a.pending true its Spoiled None None (answer.Wait reason.Disk) refl (gone_spoiled its gone) (record { seeks = sought_lost a.pending its gone; its_end = tt })
+    tested false = record { no_read = refl; sought = sought_lost a.pending its gone; under_way = refl; none_met = refl }
+
+mail_answered : (p : Places) (bits : ℕ) (a : AttemptState) (its : MailRecord)
+    → Answered a.pending (is_seeking_read a) (mail_taken p bits (record a { is_emptied = true; pending = with_asked a.pending false }) its) (Some its) None
+mail_answered p bits a its = tested (is_gone its) refl
+  where
+    b : AttemptState
+    b = record a { is_emptied = true; pending = with_asked a.pending false }
+
+    tested : (c : Bool) → is_gone its ≡ c
+        → Answered a.pending (is_seeking_read a) (if c then goes_anew p bits b (begin_told its) else record_taken p bits b its (header_said its.header)) (Some its) None
+    tested true gone = gone_answered p bits a its gone
+    tested false there = taken_answered p bits a its there
 
 not_ready_answered : (p : Places) (bits : ℕ) (a : AttemptState) → Answered a.pending (is_seeking_read a) (not_ready p bits a) None None
 not_ready_answered p bits a = tested (is_seeking_read a) refl
@@ -176,7 +210,7 @@ not_ready_answered p bits a = tested (is_seeking_read a) refl
 look_answered : (p : Places) (bits : ℕ) (a : AttemptState) (ask : Ask MailAnswer) (past : AttemptPast) → a.step ≡ Looks → past.taken ≡ None → past.tried ≡ None
     → Answered a.pending (is_seeking_read a) (look_ledto p bits a ask) (look_told ask past).taken (look_told ask past).tried
 unfolding look_ledto
-look_answered p bits a (Done (mail.Taken its)) past at taken met = rw met (taken_answered p bits a its)
+look_answered p bits a (Done (mail.Taken its)) past at taken met = rw met (mail_answered p bits a its)
 look_answered p bits a (Done other) past at taken met = rw (taken, met) (not_ready_answered p bits a)
 look_answered p bits a ask past at taken met = subst (λ (step : Attempting). AnsweredAt a.pending (is_seeking_read a) a past.taken past.tried step) (sym at) (record { request = refl; its_read = refl; none_taken = taken; none_met = met })
 
@@ -192,14 +226,22 @@ awaits_answered first is_on a taken sought trying = tested a.pending.has_asked r
     under : (b : Bool) → a.pending.has_asked ≡ b → is_under_way None taken first.has_asked ≡ b
     under b e = sym trying.under_way ∙ e
 
-    seeks : (b u : Bool) → u ≡ b → (if b then a.pending.sought else Some sought) ≡ (if u then first.sought else Some sought)
-    seeks true u e = rw e trying.sought
-    seeks false u e = rw e refl
+    -- its mail is under way, so none was taken
+    stays : (taken : Option MailRecord) → is_under_way None taken first.has_asked ≡ true → sought_behind first taken ≡ first.sought
+    stays None e = refl
+    stays (Some its) e = cc
+
+    seeks : (b u : Bool) → u ≡ b → (u ≡ true → a.pending.sought ≡ first.sought) → (if b then a.pending.sought else Some sought) ≡ (if u then first.sought else Some sought)
+    seeks true u e same = rw e (same e)
+    seeks false u e same = rw e refl
+
+    kept : is_under_way None taken first.has_asked ≡ true → a.pending.sought ≡ first.sought
+    kept e = trying.sought ∙ stays taken e
 
     tested : (b : Bool) → a.pending.has_asked ≡ b → Answered first is_on (if b then waits_for_disk its else puts (record its { pending = with_sought its.pending (Some sought) })) taken (Some (answer.AwaitsDisk sought))
-    tested true e = OfTry trying.no_read (seeks true (is_under_way None taken first.has_asked) (under true e)) refl
+    tested true e = OfTry trying.no_read (seeks true (is_under_way None taken first.has_asked) (under true e) kept) refl
     tested false e = puts_answered first is_on (record its { pending = with_sought its.pending (Some sought) }) taken (Some (answer.AwaitsDisk sought))
-        (OfTry trying.no_read (seeks false (is_under_way None taken first.has_asked) (under false e)) refl)
+        (OfTry trying.no_read (seeks false (is_under_way None taken first.has_asked) (under false e) kept) refl)
 
 tried_answered : (first : PendingRequest) (is_on : Bool) (a : AttemptState) (taken : Option MailRecord) (its : TryAnswer) → IsTrying first is_on a.pending taken None → Answered first is_on (tried a its) taken (Some its)
 tried_answered first is_on a taken (answer.AwaitsDisk sought) trying = awaits_answered first is_on a taken sought trying
@@ -307,7 +349,7 @@ step_read c a taken met Puts on told = (behind_read c a.pending.sought taken met
 step_try : (c : AttemptGiven) (a : AttemptState) (taken : Option MailRecord) (met : Option TryAnswer) (step : Attempting) → is_read_on c ≡ false → AnsweredAt c.pending (is_read_on c) a taken met step
     → TrySeeks c.pending taken met a.pending.sought
 step_try c a taken met (Ended its) other told = (behind_try c a.pending.sought taken met its other told).0
-step_try c a taken met Looks other told = rw told.none_met (ap (λ (pending : PendingRequest). pending.sought) told.request)
+step_try c a taken met Looks other told = rw (told.none_met, told.none_taken) (ap (λ (pending : PendingRequest). pending.sought) told.request)
 step_try c a taken met Tries other told = rw told.none_met told.sought
 step_try c a taken met Puts other told = (behind_try c a.pending.sought taken met (answer.Wait reason.Disk) other told).0
 

@@ -28,11 +28,12 @@ use Rattle.fkv_pending.specs.declared.mailing.MailRecord.{MailRecord}
 use Rattle.fkv_pending.specs.declared.mailing.MailTask.TheVariants.{Take, Put}
 use Rattle.fkv_pending.specs.declared.mailing.Mailing.TheVariants.{LoadsState, StoresAddress}
 use Rattle.fkv_pending.specs.declared.pending_requests.PendingRequest.{PendingRequest}
-use Rattle.fkv_pending.specs.Mailing.{mail_ask, mail_next, mail_asks_left}
-use Rattle.fkv_pending.specs.Pending.{with_sought, with_held, with_latch, with_asked}
-use Rattle.fkv_pending.specs.Attempting.{AttemptState, attempting_ask, attempt_ask, attempt_ended, waits_for_disk, puts_addr, puts, tries, is_seeking_read, goes_on, attempt_begun, held_of, moved_on, read_on, record_taken, not_ready, look_ledto, held_kept, awaits_record, tried, try_ledto, put_ledto, mail_moved, try_moved, attempting_next, attempt_next, new_attempt}
+use Rattle.fkv_pending.specs.Mailing.{mail_ask, mail_next, mail_asks_left, is_gone, begin_told}
+use Rattle.fkv_pending.specs.Pending.{with_sought, with_held, with_latch, with_asked, without_gone}
+use Rattle.fkv_pending.specs.Attempting.{AttemptState, attempting_ask, attempt_ask, attempt_ended, waits_for_disk, puts_addr, puts, tries, is_seeking_read, goes_on, attempt_begun, held_of, moved_on, read_on, record_taken, not_ready, look_ledto, held_kept, awaits_record, tried, try_ledto, put_ledto, mail_moved, try_moved, attempting_next, attempt_next, new_attempt, mail_taken}
 use Rattle.fkv_pending.specs.AsksLeft.{most_look_asks, most_try_asks, most_put_asks, attempting_asks_left, attempt_asks_left}
 use Rattle.fkv_pending.proofs.MailAsks.{mail_left, mail_fewer}
+use Rattle.fkv_ops.specs.Requests.{is_chain_end}
 
 attempting_left : (p : Places) (session : ℕ) (a : AttemptState) (step : Attempting) → AsksWhereLeft (attempting_asks_left p a step) (attempting_ask p session a step)
 unfolding attempting_ask attempting_asks_left
@@ -77,7 +78,7 @@ tries_left p bits a =
 
 read_on_left : (p : Places) (a : AttemptState) (its : MailRecord) (said : HeaderSaid) → attempt_asks_left p (read_on a its said) ≤ most_put_asks
 read_on_left p a its Spoiled = puts_left p a
-read_on_left p a its (Says previous version) = tested (its.key.0 == (key_of a.pending.request.op).0) (previous.0 == 0)
+read_on_left p a its (Says previous version) = tested (its.key.0 == (key_of a.pending.request.op).0) (is_chain_end a.pending.request.floor previous)
   where
     tested : (b c : Bool)
         → attempt_asks_left p (if b then attempt_ended a (told_value (value_of its.value)) else if c then attempt_ended a answer.Absent else puts (record a { pending = with_sought a.pending (moved_on a.pending.sought previous) })) ≤ most_put_asks
@@ -91,6 +92,17 @@ record_taken_left p bits a its said = tested (is_seeking_read a)
     tested : (b : Bool) → attempt_asks_left p (if b then read_on a its said else tries p bits (record a { pending = with_held a.pending (held_of a.pending.sought its said) })) ≤ most_try_asks p + most_put_asks
     tested true = let few = read_on_left p a its said in omega (arith, few)
     tested false = tries_left p bits (record a { pending = with_held a.pending (held_of a.pending.sought its said) })
+
+mail_taken_left : (p : Places) (bits : ℕ) (a : AttemptState) (its : MailRecord) → attempt_asks_left p (mail_taken p bits a its) ≤ most_try_asks p + most_put_asks
+mail_taken_left p bits a its = tested (is_gone its) (is_seeking_read a)
+  where
+    anew : AttemptState
+    anew = record a { pending = without_gone a.pending (begin_told its) }
+
+    tested : (b read : Bool) → attempt_asks_left p (if b then (if read then waits_for_disk anew else tries p bits anew) else record_taken p bits a its (header_said its.header)) ≤ most_try_asks p + most_put_asks
+    tested true true = let none = ended_left p anew (answer.Wait reason.Disk) in omega (arith, none)
+    tested true false = tries_left p bits anew
+    tested false read = record_taken_left p bits a its (header_said its.header)
 
 not_ready_left : (p : Places) (bits : ℕ) (a : AttemptState) → attempt_asks_left p (not_ready p bits a) ≤ most_try_asks p + most_put_asks
 not_ready_left p bits a = tested (is_seeking_read a)
@@ -145,7 +157,7 @@ look_fewer : (p : Places) (bits : ℕ) (a : AttemptState) (old : ℕ) (ask : Ask
     → attempt_asks_left p (look_ledto p bits a ask) < sum_left old (most_try_asks p + most_put_asks)
 unfolding look_ledto
 look_fewer p bits a old (Done (mail.Taken its)) at some fewer =
-    behind_fewer _ old (most_try_asks p + most_put_asks) some (record_taken_left p bits (record a { is_emptied = true; pending = with_asked a.pending false }) its (header_said its.header))
+    behind_fewer _ old (most_try_asks p + most_put_asks) some (mail_taken_left p bits (record a { is_emptied = true; pending = with_asked a.pending false }) its)
 look_fewer p bits a old (Done other) at some fewer = behind_fewer _ old (most_try_asks p + most_put_asks) some (not_ready_left p bits a)
 look_fewer p bits a old ask at some fewer = inside_look p a old at fewer
 

@@ -20,10 +20,11 @@ use Rattle.fkv_pending.specs.declared.mailing.MailAnswer.TheVariants as mail
 use Rattle.fkv_pending.specs.declared.mailing.MailRecord.{MailRecord}
 use Rattle.fkv_pending.specs.declared.mailing.MailTask.TheVariants.{Take}
 use Rattle.fkv_pending.specs.declared.mailing.Mailing.TheVariants.{LoadsState}
-use Rattle.fkv_pending.specs.Mailing.{mail_ask, mail_next}
-use Rattle.fkv_pending.specs.Pending.{with_sought, with_held, with_latch, with_asked}
-use Rattle.fkv_pending.specs.Attempting.{AttemptState, attempt_ended, waits_for_disk, puts_addr, puts, tries, is_seeking_read, goes_on, held_of, moved_on, read_on, record_taken, not_ready, look_ledto, held_kept, awaits_record, tried, try_ledto, put_ledto, mail_moved, try_moved, attempting_next, new_attempt}
+use Rattle.fkv_pending.specs.Mailing.{mail_ask, mail_next, is_gone, begin_told}
+use Rattle.fkv_pending.specs.Pending.{with_sought, with_held, with_latch, with_asked, without_gone}
+use Rattle.fkv_pending.specs.Attempting.{AttemptState, attempt_ended, waits_for_disk, puts_addr, puts, tries, is_seeking_read, goes_on, held_of, moved_on, read_on, record_taken, not_ready, look_ledto, held_kept, awaits_record, tried, try_ledto, put_ledto, mail_moved, try_moved, attempting_next, new_attempt, mail_taken}
 use Rattle.fkv_pending.specs.Attempts.{AttemptGiven, begun_by, run_by, attempt_run, effect_of_try, told_effect}
+use Rattle.fkv_ops.specs.Requests.{is_chain_end}
 
 puts_addr_effect : (a : AttemptState) (sought : Option DiskRecord) → (puts_addr a sought).effect ≡ a.effect
 puts_addr_effect a None = refl
@@ -51,7 +52,7 @@ begun_effect c = tested c.pending.has_asked
 
 read_effect : (a : AttemptState) (its : MailRecord) (said : HeaderSaid) → (read_on a its said).effect ≡ a.effect
 read_effect a its Spoiled = puts_effect a
-read_effect a its (Says previous version) = tested (its.key.0 == (key_of a.pending.request.op).0) (previous.0 == 0)
+read_effect a its (Says previous version) = tested (its.key.0 == (key_of a.pending.request.op).0) (is_chain_end a.pending.request.floor previous)
   where
     on : AttemptState
     on = record a { pending = with_sought a.pending (moved_on a.pending.sought previous) }
@@ -68,6 +69,17 @@ taken_effect p bits a its said = tested (is_seeking_read a)
     tested true = read_effect a its said
     tested false = refl
 
+mail_taken_effect : (p : Places) (bits : ℕ) (a : AttemptState) (its : MailRecord) → (mail_taken p bits a its).effect ≡ a.effect
+mail_taken_effect p bits a its = tested (is_gone its) (is_seeking_read a)
+  where
+    anew : AttemptState
+    anew = record a { pending = without_gone a.pending (begin_told its) }
+
+    tested : (b read : Bool) → (if b then (if read then waits_for_disk anew else tries p bits anew) else record_taken p bits a its (header_said its.header)).effect ≡ a.effect
+    tested true true = refl
+    tested true false = refl
+    tested false read = taken_effect p bits a its (header_said its.header)
+
 not_ready_effect : (p : Places) (bits : ℕ) (a : AttemptState) → (not_ready p bits a).effect ≡ a.effect
 not_ready_effect p bits a = tested (is_seeking_read a)
   where
@@ -77,7 +89,7 @@ not_ready_effect p bits a = tested (is_seeking_read a)
 
 look_effect : (p : Places) (bits : ℕ) (a : AttemptState) (ask : Ask MailAnswer) → (look_ledto p bits a ask).effect ≡ a.effect
 unfolding look_ledto
-look_effect p bits a (Done (mail.Taken its)) = taken_effect p bits (record a { is_emptied = true; pending = with_asked a.pending false }) its (header_said its.header)
+look_effect p bits a (Done (mail.Taken its)) = mail_taken_effect p bits (record a { is_emptied = true; pending = with_asked a.pending false }) its
 look_effect p bits a (Done other) = not_ready_effect p bits a
 look_effect p bits a ask = refl
 

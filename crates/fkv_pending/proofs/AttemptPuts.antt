@@ -24,12 +24,13 @@ use Rattle.fkv_pending.specs.declared.mailing.MailRecord.{MailRecord}
 use Rattle.fkv_pending.specs.declared.mailing.MailTask.TheVariants.{Clear, Take, Put}
 use Rattle.fkv_pending.specs.declared.mailing.Mailing.{Mailing}
 use Rattle.fkv_pending.specs.declared.mailing.Mailing.TheVariants as mailing
-use Rattle.fkv_pending.specs.Mailing.{mail_empty, mail_ask, mail_next}
-use Rattle.fkv_pending.specs.Pending.{with_sought, with_held, with_latch, with_asked}
-use Rattle.fkv_pending.specs.Attempting.{AttemptState, attempt_ended, waits_for_disk, puts_addr, puts, tries, is_seeking_read, goes_on, held_of, moved_on, read_on, record_taken, not_ready, look_ledto, held_kept, awaits_record, tried, try_ledto, put_ledto, mail_moved, try_moved, attempting_next, attempt_next, new_attempt}
+use Rattle.fkv_pending.specs.Mailing.{mail_empty, mail_ask, mail_next, is_gone, begin_told}
+use Rattle.fkv_pending.specs.Pending.{with_sought, with_held, with_latch, with_asked, without_gone}
+use Rattle.fkv_pending.specs.Attempting.{AttemptState, attempt_ended, waits_for_disk, puts_addr, puts, tries, is_seeking_read, goes_on, held_of, moved_on, read_on, record_taken, not_ready, look_ledto, held_kept, awaits_record, tried, try_ledto, put_ledto, mail_moved, try_moved, attempting_next, attempt_next, new_attempt, mail_taken}
 use Rattle.fkv_pending.specs.Attempts.{AttemptPast, look_told, try_told, address_told, put_told, attempt_told, attempt_run, attempt_past, AttemptGiven, begun_by, run_by, past_by, state_met, state_of_put, met_state, IsFree, WasEmpty, WasTaken}
 use Rattle.fkv_pending.proofs.AttemptRuns.{same_place, state_apart}
 use Rattle.fkv_pending.proofs.AttemptTries.{nothing, same_told}
+use Rattle.fkv_ops.specs.Requests.{is_chain_end}
 
 -- nothing was stored, and where this attempt has emptied the mailbox it has taken a record
 record IsOpen (is_emptied : Bool) (past : AttemptPast) (met : Option ℕ) : Type 0 where
@@ -92,7 +93,7 @@ begun_free c = tested c.pending.has_asked
 -- the look
 read_free : (a : AttemptState) (its : MailRecord) (said : HeaderSaid) (past : AttemptPast) (met : Option ℕ) → IsOpen a.is_emptied past met → Free (read_on a its said) past met
 read_free a its Spoiled past met base = puts_free a past met base
-read_free a its (Says previous version) past met base = tested (its.key.0 == (key_of a.pending.request.op).0) (previous.0 == 0)
+read_free a its (Says previous version) past met base = tested (its.key.0 == (key_of a.pending.request.op).0) (is_chain_end a.pending.request.floor previous)
   where
     on : AttemptState
     on = record a { pending = with_sought a.pending (moved_on a.pending.sought previous) }
@@ -109,6 +110,17 @@ taken_free p bits a its past met base = tested (is_seeking_read a)
     tested true = read_free a its (header_said its.header) past met base
     tested false = base
 
+mail_taken_free : (p : Places) (bits : ℕ) (a : AttemptState) (its : MailRecord) (past : AttemptPast) (met : Option ℕ) → IsOpen a.is_emptied past met → Free (mail_taken p bits a its) past met
+mail_taken_free p bits a its past met base = tested (is_gone its) (is_seeking_read a)
+  where
+    anew : AttemptState
+    anew = record a { pending = without_gone a.pending (begin_told its) }
+
+    tested : (b read : Bool) → Free (if b then (if read then waits_for_disk anew else tries p bits anew) else record_taken p bits a its (header_said its.header)) past met
+    tested true true = open_over a.is_emptied past met base
+    tested true false = base
+    tested false read = taken_free p bits a its past met base
+
 not_ready_free : (p : Places) (bits : ℕ) (a : AttemptState) (past : AttemptPast) (met : Option ℕ) → IsOpen a.is_emptied past met → Free (not_ready p bits a) past met
 not_ready_free p bits a past met base = tested (is_seeking_read a)
   where
@@ -120,7 +132,7 @@ look_free : (p : Places) (bits : ℕ) (a : AttemptState) (past : AttemptPast) (m
     → Free (look_ledto p bits a ask) (look_told ask past) met
 unfolding look_ledto
 look_free p bits a past met (Done (mail.Taken its)) at none stored =
-    taken_free p bits (record a { is_emptied = true; pending = with_asked a.pending false }) its (record past { taken = Some its }) met (record { none_stored = stored; free = λ e. WasTaken its refl })
+    mail_taken_free p bits (record a { is_emptied = true; pending = with_asked a.pending false }) its (record past { taken = Some its }) met (record { none_stored = stored; free = λ e. WasTaken its refl })
 look_free p bits a past met (Done other) at none stored = not_ready_free p bits a past met (none_emptied a.is_emptied past met none stored)
 look_free p bits a past met ask at none stored = subst (λ (step : Attempting). FreeAt a past met step) (sym at) (none, stored)
 

@@ -16,7 +16,7 @@ use Rattle.fkv_ops.specs.declared.header_words.HeaderSaid.TheVariants.{Says, Spo
 use Rattle.fkv_ops.specs.declared.requests.Occasion.{Occasion}
 use Rattle.fkv_ops.specs.declared.requests.Seen.{Seen}
 use Rattle.fkv_ops.specs.HeaderWords.{header_said}
-use Rattle.fkv_ops.specs.Requests.{is_read}
+use Rattle.fkv_ops.specs.Requests.{is_read, is_chain_end}
 use Rattle.fkv_ops.specs.Values.{value_of}
 use Rattle.fkv_ops.specs.Trying.{told_value, try_ask, try_next}
 use Rattle.fkv_ops.proofs.Shown.{is_try_end, TryRestsOrAsks, try_done, try_begun_rests, try_begun_asks, try_rests}
@@ -28,10 +28,10 @@ use Rattle.fkv_pending.specs.declared.mailing.MailRecord.{MailRecord}
 use Rattle.fkv_pending.specs.declared.mailing.MailTask.TheVariants.{Take, Put}
 use Rattle.fkv_pending.specs.declared.mailing.Mailing.TheVariants.{LoadsState, StoresAddress}
 use Rattle.fkv_pending.specs.declared.pending_requests.PendingRequest.{PendingRequest}
-use Rattle.fkv_pending.specs.Mailing.{mail_ask, mail_next}
+use Rattle.fkv_pending.specs.Mailing.{mail_ask, mail_next, is_gone, begin_told}
 use Rattle.fkv_pending.specs.MailWorld.{is_at_end}
-use Rattle.fkv_pending.specs.Pending.{with_sought, with_held, with_latch, with_asked}
-use Rattle.fkv_pending.specs.Attempting.{AttemptState, attempting_ask, attempt_ask, attempt_ended, waits_for_disk, puts_addr, puts, tries, is_poll, is_seeking_read, goes_on, attempt_begun, held_of, moved_on, read_on, record_taken, not_ready, look_ledto, held_kept, awaits_record, tried, try_ledto, put_ledto, mail_moved, try_moved, attempting_next, attempt_next, new_attempt}
+use Rattle.fkv_pending.specs.Pending.{with_sought, with_held, with_latch, with_asked, without_gone}
+use Rattle.fkv_pending.specs.Attempting.{AttemptState, attempting_ask, attempt_ask, attempt_ended, waits_for_disk, puts_addr, puts, tries, is_poll, is_seeking_read, goes_on, attempt_begun, held_of, moved_on, read_on, record_taken, not_ready, look_ledto, held_kept, awaits_record, tried, try_ledto, put_ledto, mail_moved, try_moved, attempting_next, attempt_next, new_attempt, mail_taken}
 use Rattle.fkv_pending.proofs.MailAsks.{mail_done}
 
 abbrev pub is_attempt_end : Attempting → Bool
@@ -118,7 +118,7 @@ attempt_begun_asks p bits session pending seen occasion spare is_orphaned =
 
 read_on_rests : (a : AttemptState) (its : MailRecord) (said : HeaderSaid) → AttemptRestsOrAsks (read_on a its said)
 read_on_rests a its Spoiled = puts_rests a
-read_on_rests a its (Says previous version) = tested (its.key.0 == (key_of a.pending.request.op).0) (previous.0 == 0)
+read_on_rests a its (Says previous version) = tested (its.key.0 == (key_of a.pending.request.op).0) (is_chain_end a.pending.request.floor previous)
   where
     tested : (b c : Bool)
         → AttemptRestsOrAsks (if b then attempt_ended a (told_value (value_of its.value)) else if c then attempt_ended a answer.Absent else puts (record a { pending = with_sought a.pending (moved_on a.pending.sought previous) }))
@@ -132,6 +132,17 @@ record_taken_rests p bits a its said = tested (is_seeking_read a)
     tested : (b : Bool) → AttemptRestsOrAsks (if b then read_on a its said else tries p bits (record a { pending = with_held a.pending (held_of a.pending.sought its said) }))
     tested true = read_on_rests a its said
     tested false = tries_rests p bits (record a { pending = with_held a.pending (held_of a.pending.sought its said) })
+
+mail_taken_rests : (p : Places) (bits : ℕ) (a : AttemptState) (its : MailRecord) → AttemptRestsOrAsks (mail_taken p bits a its)
+mail_taken_rests p bits a its = tested (is_gone its) (is_seeking_read a)
+  where
+    anew : AttemptState
+    anew = record a { pending = without_gone a.pending (begin_told its) }
+
+    tested : (b read : Bool) → AttemptRestsOrAsks (if b then (if read then waits_for_disk anew else tries p bits anew) else record_taken p bits a its (header_said its.header))
+    tested true true = tt
+    tested true false = tries_rests p bits anew
+    tested false read = record_taken_rests p bits a its (header_said its.header)
 
 not_ready_rests : (p : Places) (bits : ℕ) (a : AttemptState) → AttemptRestsOrAsks (not_ready p bits a)
 not_ready_rests p bits a = tested (is_seeking_read a)
@@ -160,7 +171,7 @@ inside_mail session a ask e asks = sym (mail_done session a.mailing) ∙ subst (
 
 look_rests : (p : Places) (bits session : ℕ) (a : AttemptState) (ask : Ask MailAnswer) → a.step ≡ Looks → ask ≡ mail_ask session a.mailing → AttemptRestsOrAsks (look_ledto p bits a ask)
 unfolding look_ledto
-look_rests p bits session a (Done (mail.Taken its)) at e = record_taken_rests p bits (record a { is_emptied = true; pending = with_asked a.pending false }) its (header_said its.header)
+look_rests p bits session a (Done (mail.Taken its)) at e = mail_taken_rests p bits (record a { is_emptied = true; pending = with_asked a.pending false }) its
 look_rests p bits session a (Done other) at e = not_ready_rests p bits a
 look_rests p bits session a ask at e = rw at (inside_mail session a ask e refl)
 

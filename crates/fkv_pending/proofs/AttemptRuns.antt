@@ -32,11 +32,13 @@ use Rattle.fkv_pending.specs.declared.mailing.MailTask.TheVariants.{Clear, Take,
 use Rattle.fkv_pending.specs.declared.mailing.Mailing.{Mailing}
 use Rattle.fkv_pending.specs.declared.mailing.Mailing.TheVariants as mailing
 use Rattle.fkv_pending.specs.declared.pending_requests.PendingRequest.{PendingRequest}
-use Rattle.fkv_pending.specs.Mailing.{mail_empty, mail_ask, mail_next}
-use Rattle.fkv_pending.specs.Pending.{with_sought, with_held, with_latch, with_asked}
-use Rattle.fkv_pending.specs.Attempting.{AttemptState, attempting_ask, attempt_ask, attempt_ended, waits_for_disk, puts_addr, puts, tries, is_seeking_read, goes_on, attempt_begun, held_of, moved_on, read_on, record_taken, not_ready, look_ledto, held_kept, awaits_record, tried, try_ledto, put_ledto, mail_moved, try_moved, attempting_next, attempt_next, new_attempt}
-use Rattle.fkv_pending.specs.Attempts.{AttemptPast, look_told, try_told, address_told, put_told, attempt_told, attempt_run, attempt_past, is_finished, has_finished, is_under_way, HasAskedForSought, IsAwaiting, HasCome, IsAttemptTrue}
+use Rattle.fkv_pending.specs.Mailing.{mail_empty, mail_ask, mail_next, is_gone, begin_told}
+use Rattle.fkv_pending.specs.Pending.{with_sought, with_held, with_latch, with_asked, without_gone}
+use Rattle.fkv_pending.specs.Attempting.{AttemptState, attempting_ask, attempt_ask, attempt_ended, waits_for_disk, puts_addr, puts, tries, is_seeking_read, goes_on, attempt_begun, held_of, moved_on, read_on, record_taken, not_ready, look_ledto, held_kept, awaits_record, tried, try_ledto, put_ledto, mail_moved, try_moved, attempting_next, attempt_next, new_attempt, goes_anew, mail_taken}
+use Rattle.fkv_pending.specs.Attempts.{AttemptPast, look_told, try_told, address_told, put_told, attempt_told, attempt_run, attempt_past, is_finished, has_finished, is_under_way, HasAskedForSought, IsAwaiting, HasCome, IsAttemptTrue, floor_behind}
 use Rattle.fkv_pending.proofs.AttemptRests.{AttemptAsksAt, AttemptRestsOrAsks, attempt_done, attempt_begun_rests, attempt_rests}
+use Rattle.fkv_ops.specs.Requests.{is_chain_end}
+use Rattle.fkv_pending.proofs.Gone.{floor_raised, floor_stays}
 
 abbrev nothing : AttemptPast
 nothing = record { taken = None; tried = None; address = None; put = None }
@@ -50,6 +52,7 @@ record IsBefore (first : PendingRequest) (was : Bool) (pending : PendingRequest)
   same_orphan : is_orphaned ≡ was
   none_put : past.put ≡ None
   held : HeldTrue first past.taken pending.request.held
+  floor : pending.request.floor ≡ floor_behind first past.taken
 
 -- at the end
 record IsOver (first : PendingRequest) (was : Bool) (pending : PendingRequest) (is_orphaned : Bool) (past : AttemptPast) (its : TryAnswer) : Type 0 where
@@ -58,6 +61,7 @@ record IsOver (first : PendingRequest) (was : Bool) (pending : PendingRequest) (
   asked : past.put ≡ Some mail.Asked → HasAskedForSought pending.sought past.address
   awaits : its ≡ answer.Wait reason.Disk → IsAwaiting pending past
   held : HeldTrue first past.taken pending.request.held
+  floor : pending.request.floor ≡ floor_behind first past.taken
 
 -- the record at this address is sought
 record IsSoughtAt (sought : Option DiskRecord) (addr : Addr) : Type 0 where
@@ -98,6 +102,7 @@ waits_over first was pending is_orphaned past why base awaits = record {
   asked = λ e. let none = base.none_put in cc;
   awaits = awaits;
   held = base.held;
+  floor = base.floor;
 }
 
 -- nor where it has to shift
@@ -108,6 +113,7 @@ shift_over first was pending is_orphaned past base = record {
   asked = λ e. let none = base.none_put in cc;
   awaits = λ e. cc;
   held = base.held;
+  floor = base.floor;
 }
 
 -- it has finished without mail under way
@@ -119,6 +125,7 @@ read_over first was pending is_orphaned past its finished base none = record {
   asked = λ e. let no = base.none_put in cc;
   awaits = λ e. absurd (never (sym finished ∙ ap is_finished e));
   held = base.held;
+  floor = base.floor;
 }
   where
     never : true ≡ false → ⊥
@@ -133,6 +140,7 @@ left_over first was pending is_orphaned past its finished base = record {
   asked = λ e. let no = base.none_put in cc;
   awaits = λ e. absurd (never (sym finished ∙ ap is_finished e));
   held = base.held;
+  floor = base.floor;
 }
   where
     never : true ≡ false → ⊥
@@ -161,7 +169,7 @@ begun_told p bits pending seen occasion spare is_orphaned = tested pending.has_a
     its = new_attempt bits pending seen occasion spare is_orphaned
 
     base : IsBefore pending is_orphaned pending is_orphaned nothing
-    base = record { under_way = refl; same_orphan = refl; none_put = refl; held = λ held e. inl e }
+    base = record { under_way = refl; same_orphan = refl; none_put = refl; held = λ held e. inl e; floor = refl }
 
     goes : (b : Bool) → pending.has_asked ≡ false → Told pending is_orphaned (if b then puts its else tries p bits its) nothing
     goes true none = puts_told pending is_orphaned its nothing base none
@@ -187,7 +195,7 @@ read_on_told : (first : PendingRequest) (was : Bool) (a : AttemptState) (its : M
     → Told first was (read_on a its said) past
 unfolding with_sought
 read_on_told first was a its past Spoiled base none = puts_told first was a past base none
-read_on_told first was a its past (Says previous version) base none = tested (its.key.0 == (key_of a.pending.request.op).0) (previous.0 == 0)
+read_on_told first was a its past (Says previous version) base none = tested (its.key.0 == (key_of a.pending.request.op).0) (is_chain_end a.pending.request.floor previous)
   where
     finished : (value : Option ℕ) → is_finished (told_value value) ≡ true
     finished None = refl
@@ -199,30 +207,58 @@ read_on_told first was a its past (Says previous version) base none = tested (it
     tested : (b c : Bool) → Told first was (if b then attempt_ended a (told_value (value_of its.value)) else if c then attempt_ended a answer.Absent else puts (record a { pending = on })) past
     tested true c = read_over first was a.pending a.is_orphaned past (told_value (value_of its.value)) (finished (value_of its.value)) base none
     tested false true = read_over first was a.pending a.is_orphaned past answer.Absent refl base none
-    tested false false = puts_told first was (record a { pending = on }) past (record { under_way = base.under_way; same_orphan = base.same_orphan; none_put = base.none_put; held = base.held }) none
+    tested false false = puts_told first was (record a { pending = on }) past (record { under_way = base.under_way; same_orphan = base.same_orphan; none_put = base.none_put; held = base.held; floor = base.floor }) none
 
-taken_told : (p : Places) (bits : ℕ) (was : Bool) (a : AttemptState) (its : MailRecord) → a.is_orphaned ≡ was
+taken_told : (p : Places) (bits : ℕ) (was : Bool) (a : AttemptState) (its : MailRecord) → a.is_orphaned ≡ was → is_gone its ≡ false
     → Told a.pending was (record_taken p bits (record a { is_emptied = true; pending = with_asked a.pending false }) its (header_said its.header)) (taken_past its)
 unfolding with_asked with_held
-taken_told p bits was a its same = tested (is_seeking_read b)
+taken_told p bits was a its same there = tested (is_seeking_read b)
   where
     b : AttemptState
     b = record a { is_emptied = true; pending = with_asked a.pending false }
 
     tested : (c : Bool) → Told a.pending was (if c then read_on b its (header_said its.header) else tries p bits (record b { pending = with_held b.pending (held_of b.pending.sought its (header_said its.header)) })) (taken_past its)
-    tested true = read_on_told a.pending was b its (taken_past its) (header_said its.header) (record { under_way = refl; same_orphan = same; none_put = refl; held = λ held e. inl e }) refl
+    tested true = read_on_told a.pending was b its (taken_past its) (header_said its.header) (record { under_way = refl; same_orphan = same; none_put = refl; held = λ held e. inl e; floor = floor_stays a.pending its there }) refl
     tested false = record {
       under_way = refl;
       same_orphan = same;
       none_put = refl;
       held = λ held e. inr (held_come a.pending.sought its (header_said its.header) refl held e);
+      floor = floor_stays a.pending its there;
     }
+
+-- it seeks nothing any more, and holds nothing
+gone_told : (p : Places) (bits : ℕ) (was : Bool) (a : AttemptState) (its : MailRecord) → a.is_orphaned ≡ was → is_gone its ≡ true
+    → Told a.pending was (goes_anew p bits (record a { is_emptied = true; pending = with_asked a.pending false }) (begin_told its)) (taken_past its)
+unfolding with_asked without_gone
+gone_told p bits was a its same gone = tested (is_seeking_read a)
+  where
+    anew : AttemptState
+    anew = record a { is_emptied = true; pending = without_gone (with_asked a.pending false) (begin_told its) }
+
+    base : IsBefore a.pending was anew.pending anew.is_orphaned (taken_past its)
+    base = record { under_way = refl; same_orphan = same; none_put = refl; held = λ held e. cc; floor = floor_raised a.pending its gone }
+
+    tested : (b : Bool) → Told a.pending was (if b then waits_for_disk anew else tries p bits anew) (taken_past its)
+    tested true = waits_over a.pending was anew.pending anew.is_orphaned (taken_past its) reason.Disk base (λ why. inr (inr (inr refl)))
+    tested false = base
+
+mail_told : (p : Places) (bits : ℕ) (was : Bool) (a : AttemptState) (its : MailRecord) → a.is_orphaned ≡ was
+    → Told a.pending was (mail_taken p bits (record a { is_emptied = true; pending = with_asked a.pending false }) its) (taken_past its)
+mail_told p bits was a its same = tested (is_gone its) refl
+  where
+    b : AttemptState
+    b = record a { is_emptied = true; pending = with_asked a.pending false }
+
+    tested : (c : Bool) → is_gone its ≡ c → Told a.pending was (if c then goes_anew p bits b (begin_told its) else record_taken p bits b its (header_said its.header)) (taken_past its)
+    tested true gone = gone_told p bits was a its same gone
+    tested false there = taken_told p bits was a its same there
 
 not_ready_told : (p : Places) (bits : ℕ) (was : Bool) (a : AttemptState) → a.is_orphaned ≡ was → a.pending.has_asked ≡ true → Told a.pending was (not_ready p bits a) nothing
 not_ready_told p bits was a same asked = tested (is_seeking_read a)
   where
     base : IsBefore a.pending was a.pending a.is_orphaned nothing
-    base = record { under_way = refl; same_orphan = same; none_put = refl; held = λ held e. inl e }
+    base = record { under_way = refl; same_orphan = same; none_put = refl; held = λ held e. inl e; floor = refl }
 
     tested : (b : Bool) → Told a.pending was (if b then waits_for_disk a else tries p bits a) nothing
     tested true = waits_over a.pending was a.pending a.is_orphaned nothing reason.Disk base (λ why. inl asked)
@@ -230,7 +266,7 @@ not_ready_told p bits was a same asked = tested (is_seeking_read a)
 
 look_led : (p : Places) (bits : ℕ) (was : Bool) (a : AttemptState) (ask : Ask MailAnswer) → a.step ≡ Looks → a.is_orphaned ≡ was → a.pending.has_asked ≡ true → Told a.pending was (look_ledto p bits a ask) (look_told ask nothing)
 unfolding look_ledto
-look_led p bits was a (Done (mail.Taken its)) at same asked = taken_told p bits was a its same
+look_led p bits was a (Done (mail.Taken its)) at same asked = mail_told p bits was a its same
 look_led p bits was a (Done other) at same asked = not_ready_told p bits was a same asked
 look_led p bits was a ask at same asked = rw at (refl, asked, same, refl)
 
@@ -254,9 +290,9 @@ awaits_told first was a past sought base = tested a.pending.has_asked refl
     kept = λ held e. base.held held (kept_held a.pending.request.held sought.entry held e)
 
     tested : (b : Bool) → a.pending.has_asked ≡ b → Told first was (if b then waits_for_disk its else puts (record its { pending = with_sought its.pending (Some sought) })) past
-    tested true e = waits_over first was its.pending a.is_orphaned past reason.Disk (record { under_way = base.under_way; same_orphan = base.same_orphan; none_put = base.none_put; held = kept }) (λ why. inl e)
+    tested true e = waits_over first was its.pending a.is_orphaned past reason.Disk (record { under_way = base.under_way; same_orphan = base.same_orphan; none_put = base.none_put; held = kept; floor = base.floor }) (λ why. inl e)
     tested false e = puts_told first was (record its { pending = with_sought its.pending (Some sought) }) past
-        (record { under_way = base.under_way; same_orphan = base.same_orphan; none_put = base.none_put; held = kept }) e
+        (record { under_way = base.under_way; same_orphan = base.same_orphan; none_put = base.none_put; held = kept; floor = base.floor }) e
 
 tried_told : (first : PendingRequest) (was : Bool) (a : AttemptState) (past : AttemptPast) (its : TryAnswer) → past.tried ≡ Some its → IsBefore first was a.pending a.is_orphaned past → Told first was (tried a its) past
 tried_told first was a past (answer.AwaitsDisk sought) e base = awaits_told first was a past sought base
@@ -272,7 +308,7 @@ try_led : (first : PendingRequest) (was : Bool) (a : AttemptState) (past : Attem
 unfolding try_ledto with_latch
 try_led first was a past (Done its) at base =
     tried_told first was (record a { spare = a.trial.spare; pending = with_latch a.pending a.trial.has_shared }) (record past { tried = Some its }) its refl
-    (record { under_way = base.under_way; same_orphan = base.same_orphan; none_put = base.none_put; held = base.held })
+    (record { under_way = base.under_way; same_orphan = base.same_orphan; none_put = base.none_put; held = base.held; floor = base.floor })
 try_led first was a past ask at base = rw at base
 
 -- the put
@@ -306,13 +342,14 @@ put_led first was session a past (mailing.LoadsState (Put addr)) reply at base n
       asked = λ e. cc;
       awaits = λ why. inr (inl refl);
       held = base.held;
+      floor = base.floor;
     }
 put_led first was session a past mailing.LoadsHeader reply at base none put = absurd put
 put_led first was session a past (mailing.LoadsKey header) reply at base none put = absurd put
 put_led first was session a past (mailing.LoadsValue header key) reply at base none put = absurd put
 put_led first was session a past (mailing.StoresEmpty its) reply at base none put = absurd put
 put_led first was session a past (mailing.StoresAddress addr) reply at base none put = rw (at, same_place (session_place session own.MailAddress)) (
-  record { under_way = base.under_way; same_orphan = base.same_orphan; none_put = base.none_put; held = base.held },
+  record { under_way = base.under_way; same_orphan = base.same_orphan; none_put = base.none_put; held = base.held; floor = base.floor },
   none,
   record { record_sought = put.record_sought; its_sought = put.its_sought; its_address = ap (λ (it : Addr). Some it.0) (sym put.its_addr) },
 )
@@ -322,6 +359,7 @@ put_led first was session a past mailing.StoresAsked reply at base none put = rw
   asked = λ e. record { record_sought = put.record_sought; its_sought = put.its_sought; its_address = put.its_address };
   awaits = λ why. inl refl;
   held = base.held;
+  floor = base.floor;
 })
 
 -- each reply
@@ -384,13 +422,14 @@ asks_true p session first was a past ask asks base = record {
   asked = λ e. let none = base.none_put in cc;
   awaits = λ e. absurd (never (sym (ap is_done e) ∙ asks));
   held = base.held;
+  floor = base.floor;
 }
   where
     never : true ≡ false → ⊥
     never e = cc
 
 before_look : (first : PendingRequest) (was : Bool) (a : AttemptState) (past : AttemptPast) → a.pending ≡ first → a.is_orphaned ≡ was → past ≡ nothing → IsBefore first was a.pending a.is_orphaned past
-before_look first was a past same orphan none = rw (none, same) (record { under_way = refl; same_orphan = orphan; none_put = refl; held = λ held e. inl e })
+before_look first was a past same orphan none = rw (none, same) (record { under_way = refl; same_orphan = orphan; none_put = refl; held = λ held e. inl e; floor = refl })
 
 step_true : (p : Places) (session : ℕ) (first : PendingRequest) (was : Bool) (a : AttemptState) (past : AttemptPast) (step : Attempting) → is_done (attempting_ask p session a step) ≡ false → ToldAt first was a past step → TrueAt p session first was a past step
 unfolding attempting_ask
@@ -407,6 +446,7 @@ end_true p session first was a past its over = record {
   asked = over.asked;
   awaits = λ e. over.awaits cc;
   held = over.held;
+  floor = over.floor;
 }
 
 told_true : (p : Places) (session : ℕ) (first : PendingRequest) (was : Bool) (a : AttemptState) (past : AttemptPast) (step : Attempting) → a.step ≡ step → AttemptAsksAt a step → is_done (attempting_ask p session a step) ≡ is_done (attempt_ask p session a)

@@ -26,11 +26,12 @@ use Rattle.fkv_pending.specs.declared.mailing.MailRecord.{MailRecord}
 use Rattle.fkv_pending.specs.declared.mailing.MailTask.TheVariants.{Take}
 use Rattle.fkv_pending.specs.declared.mailing.Mailing.{Mailing}
 use Rattle.fkv_pending.specs.declared.mailing.Mailing.TheVariants as step
-use Rattle.fkv_pending.specs.Mailing.{mail_ask, mail_next}
-use Rattle.fkv_pending.specs.Pending.{with_sought, with_held, with_latch, with_asked}
-use Rattle.fkv_pending.specs.Attempting.{AttemptState, attempting_ask, attempt_ended, waits_for_disk, puts_addr, puts, tries, is_seeking_read, goes_on, held_of, moved_on, read_on, record_taken, not_ready, look_ledto, held_kept, awaits_record, tried, try_ledto, put_ledto, mail_moved, try_moved, attempting_next, new_attempt}
+use Rattle.fkv_pending.specs.Mailing.{mail_ask, mail_next, is_gone, begin_told}
+use Rattle.fkv_pending.specs.Pending.{with_sought, with_held, with_latch, with_asked, without_gone}
+use Rattle.fkv_pending.specs.Attempting.{AttemptState, attempting_ask, attempt_ended, waits_for_disk, puts_addr, puts, tries, is_seeking_read, goes_on, held_of, moved_on, read_on, record_taken, not_ready, look_ledto, held_kept, awaits_record, tried, try_ledto, put_ledto, mail_moved, try_moved, attempting_next, new_attempt, mail_taken}
 use Rattle.fkv_pending.specs.Attempts.{AttemptPast, look_told, try_told, address_told, put_told, attempt_told, attempt_run, attempt_past, AttemptGiven, begun_by, run_by, past_by, trial_of, attempt_exchanges, IsSpareKept, SpareKept}
 use Rattle.fkv_pending.proofs.AttemptTries.{nothing, put_same, address_same}
+use Rattle.fkv_ops.specs.Requests.{is_chain_end}
 
 -- before the try, where the asks have told what was given
 record IsUntried (c : AttemptGiven) (a : AttemptState) (past : AttemptPast) (told : ℕ) : Type 0 where
@@ -104,7 +105,7 @@ begun_spare c low = tested c.pending.has_asked
 -- the look
 read_on_spare : (c : AttemptGiven) (a : AttemptState) (past : AttemptPast) (told : ℕ) (its : MailRecord) (said : HeaderSaid) → IsSpareKept c past a.spare told → Spare c (read_on a its said) past told
 read_on_spare c a past told its Spoiled kept = puts_spare c a past told kept
-read_on_spare c a past told its (Says previous version) kept = tested (its.key.0 == (key_of a.pending.request.op).0) (previous.0 == 0)
+read_on_spare c a past told its (Says previous version) kept = tested (its.key.0 == (key_of a.pending.request.op).0) (is_chain_end a.pending.request.floor previous)
   where
     on : AttemptState
     on = record a { pending = with_sought a.pending (moved_on a.pending.sought previous) }
@@ -124,6 +125,17 @@ taken_spare c a past told its said untried = tested (is_seeking_read a)
     tested true = read_on_spare c a past told its said (left c a past told untried)
     tested false = tries_spare c held past told (record { seen = untried.seen; occasion = untried.occasion; spare = untried.spare; none_tried = untried.none_tried; few = untried.few; its_told = untried.its_told })
 
+mail_taken_spare : (c : AttemptGiven) (a : AttemptState) (past : AttemptPast) (told : ℕ) (its : MailRecord) → IsUntried c a past told → Spare c (mail_taken c.places c.bits a its) past told
+mail_taken_spare c a past told its untried = tested (is_gone its) (is_seeking_read a)
+  where
+    anew : AttemptState
+    anew = record a { pending = without_gone a.pending (begin_told its) }
+
+    tested : (b read : Bool) → Spare c (if b then (if read then waits_for_disk anew else tries c.places c.bits anew) else record_taken c.places c.bits a its (header_said its.header)) past told
+    tested true true = left c a past told untried
+    tested true false = tries_spare c anew past told (record { seen = untried.seen; occasion = untried.occasion; spare = untried.spare; none_tried = untried.none_tried; few = untried.few; its_told = untried.its_told })
+    tested false read = taken_spare c a past told its (header_said its.header) untried
+
 not_ready_spare : (c : AttemptGiven) (a : AttemptState) (past : AttemptPast) (told : ℕ) → IsUntried c a past told → Spare c (not_ready c.places c.bits a) past told
 not_ready_spare c a past told untried = tested (is_seeking_read a)
   where
@@ -134,7 +146,7 @@ not_ready_spare c a past told untried = tested (is_seeking_read a)
 look_spare : (c : AttemptGiven) (a : AttemptState) (past : AttemptPast) (told : ℕ) (ask : Ask MailAnswer) → a.step ≡ Looks → IsUntried c a past told → Spare c (look_ledto c.places c.bits a ask) (look_told ask past) told
 unfolding look_ledto
 look_spare c a past told (Done (mail.Taken its)) at untried =
-    taken_spare c (record a { is_emptied = true; pending = with_asked a.pending false }) (record past { taken = Some its }) told its (header_said its.header)
+    mail_taken_spare c (record a { is_emptied = true; pending = with_asked a.pending false }) (record past { taken = Some its }) told its
     (record { seen = untried.seen; occasion = untried.occasion; spare = untried.spare; none_tried = untried.none_tried; few = untried.few; its_told = untried.its_told })
 look_spare c a past told (Done other) at untried = not_ready_spare c a past told untried
 look_spare c a past told ask at untried = subst (SpareAt c a past told) (sym at) untried

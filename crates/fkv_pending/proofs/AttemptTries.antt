@@ -18,7 +18,7 @@ use Rattle.fkv_ops.specs.declared.requests.Occasion.{Occasion}
 use Rattle.fkv_ops.specs.declared.requests.Occasion.TheVariants.{Call, Poll}
 use Rattle.fkv_ops.specs.Bounds.{IsCall}
 use Rattle.fkv_ops.specs.HeaderWords.{header_said}
-use Rattle.fkv_ops.specs.Requests.{is_read}
+use Rattle.fkv_ops.specs.Requests.{is_read, is_chain_end}
 use Rattle.fkv_ops.specs.Values.{value_of}
 use Rattle.fkv_ops.specs.Trying.{TryState, told_value, try_ask, try_next}
 use Rattle.fkv_pending.specs.declared.attempting.Attempting.{Attempting}
@@ -29,10 +29,11 @@ use Rattle.fkv_pending.specs.declared.mailing.MailRecord.{MailRecord}
 use Rattle.fkv_pending.specs.declared.mailing.MailTask.TheVariants.{Take}
 use Rattle.fkv_pending.specs.declared.mailing.Mailing.TheVariants.{LoadsState}
 use Rattle.fkv_pending.specs.declared.pending_requests.PendingRequest.{PendingRequest}
-use Rattle.fkv_pending.specs.Mailing.{mail_ask, mail_next}
-use Rattle.fkv_pending.specs.Pending.{with_sought, with_held, with_latch, with_asked}
-use Rattle.fkv_pending.specs.Attempting.{AttemptState, attempt_ended, waits_for_disk, puts_addr, puts, tries, is_poll, is_seeking_read, goes_on, held_of, moved_on, read_on, record_taken, not_ready, look_ledto, held_kept, awaits_record, tried, try_ledto, put_ledto, mail_moved, try_moved, attempting_next, attempt_next, new_attempt}
-use Rattle.fkv_pending.specs.Attempts.{AttemptPast, look_told, try_told, address_told, put_told, attempt_told, attempt_run, attempt_past, AttemptGiven, begun_by, run_by, past_by, try_reply, try_replies, HoldsMail, HoldsSo, IsItsTry, TryStands, NotTried, UnderWay, HasEnded, IsSameRequest, HoldsFromEntry, IsTryKept, IsToBeTried, HoldsBehind, IsHeldKept, HeldKept}
+use Rattle.fkv_pending.specs.Mailing.{mail_ask, mail_next, is_gone, begin_told}
+use Rattle.fkv_pending.specs.Pending.{with_sought, with_held, with_latch, with_asked, without_gone}
+use Rattle.fkv_pending.specs.Attempting.{AttemptState, attempt_ended, waits_for_disk, puts_addr, puts, tries, is_poll, is_seeking_read, goes_on, held_of, moved_on, read_on, record_taken, not_ready, look_ledto, held_kept, awaits_record, tried, try_ledto, put_ledto, mail_moved, try_moved, attempting_next, attempt_next, new_attempt, goes_anew, mail_taken}
+use Rattle.fkv_pending.specs.Attempts.{AttemptPast, look_told, try_told, address_told, put_told, attempt_told, attempt_run, attempt_past, AttemptGiven, begun_by, run_by, past_by, try_reply, try_replies, HoldsMail, HoldsSo, IsItsTry, TryStands, NotTried, UnderWay, HasEnded, IsSameRequest, HoldsFromEntry, IsTryKept, IsToBeTried, HoldsBehind, IsHeldKept, HeldKept, held_behind, floor_behind}
+use Rattle.fkv_pending.proofs.Gone.{gone_spoiled, holds_none, held_lost, held_stays, floor_raised, floor_stays}
 
 -- a read at a poll that seeks a record
 abbrev pub is_read_on : AttemptGiven → Bool
@@ -41,9 +42,9 @@ is_read_on c = is_poll c.occasion && (is_read c.pending.request.op && is_some c.
 abbrev ReadsSo : AttemptGiven → List ℕ → Type 0
 ReadsSo c replies = c.occasion ≡ Poll → is_read c.pending.request.op ≡ true → is_some c.pending.sought ≡ true → replies ≡ []
 
--- what is held: a read at a poll keeps what it held
+-- what is held: a read at a poll keeps what it held, and loses it where its record is gone
 abbrev HeldAt : AttemptGiven → Bool → Option MailRecord → Option TryAnswer → Option HeldRecord → Type 0
-HeldAt c true taken tried held = held ≡ c.pending.request.held
+HeldAt c true taken tried held = held ≡ held_behind c.pending taken
 HeldAt c false taken tried held = HoldsBehind c.pending taken tried held
 
 -- behind the look of a read, or behind the try
@@ -107,6 +108,7 @@ record IsUntried (c : AttemptGiven) (a : AttemptState) (past : AttemptPast) : Ty
   seen : a.seen ≡ c.seen
   occasion : a.occasion ≡ c.occasion
   latch : a.pending.request.has_latch ≡ c.pending.request.has_latch
+  floor : a.pending.request.floor ≡ floor_behind c.pending past.taken
   spare : a.spare ≡ c.spare
   none_tried : past.tried ≡ None
 
@@ -119,6 +121,7 @@ tries_kept c a past its other held = record {
     its_version = its.same.version;
     its_latch = its.latch;
     its_held = held;
+    its_floor = its.floor;
     its_run = rw (its.seen, its.occasion, its.spare) refl;
   };
   none_tried = its.none_tried;
@@ -128,7 +131,7 @@ tries_kept c a past its other held = record {
   came = held;
 }
 
-untried_behind : (c : AttemptGiven) (a : AttemptState) (past : AttemptPast) → IsUntried c a past → is_seeking_read a ≡ true → a.pending.request.held ≡ c.pending.request.held → IsBehind c a.pending a.spare a.trial past []
+untried_behind : (c : AttemptGiven) (a : AttemptState) (past : AttemptPast) → IsUntried c a past → is_seeking_read a ≡ true → a.pending.request.held ≡ held_behind c.pending past.taken → IsBehind c a.pending a.spare a.trial past []
 untried_behind c a past its read had = record {
   same = its.same;
   stands = NotTried refl its.none_tried its.latch its.spare;
@@ -151,7 +154,7 @@ begun_kept c = tested c.pending.has_asked
     its = new_attempt c.bits c.pending c.seen c.occasion c.spare c.is_orphaned
 
     untried : IsUntried c its nothing
-    untried = record { same = record { name = refl; op = refl; version = refl }; sought = refl; seen = refl; occasion = refl; latch = refl; spare = refl; none_tried = refl }
+    untried = record { same = record { name = refl; op = refl; version = refl }; sought = refl; seen = refl; occasion = refl; latch = refl; floor = refl; spare = refl; none_tried = refl }
 
     goes : (b : Bool) → is_seeking_read its ≡ b → Kept c (if b then puts its else tries c.places c.bits its) nothing []
     goes true e = puts_kept c its nothing [] (untried_behind c its nothing untried e refl)
@@ -165,7 +168,7 @@ begun_kept c = tested c.pending.has_asked
 read_on_kept : (c : AttemptGiven) (a : AttemptState) (past : AttemptPast) (its : MailRecord) (said : HeaderSaid) → IsBehind c a.pending a.spare a.trial past [] → Kept c (read_on a its said) past []
 unfolding with_sought
 read_on_kept c a past its Spoiled behind = puts_kept c a past [] behind
-read_on_kept c a past its (Says previous version) behind = tested (its.key.0 == (key_of a.pending.request.op).0) (previous.0 == 0)
+read_on_kept c a past its (Says previous version) behind = tested (its.key.0 == (key_of a.pending.request.op).0) (is_chain_end a.pending.request.floor previous)
   where
     on : AttemptState
     on = record a { pending = with_sought a.pending (moved_on a.pending.sought previous) }
@@ -183,10 +186,10 @@ holds_mail None its said = refl
 holds_mail (Some sought) its Spoiled = refl
 holds_mail (Some sought) its (Says previous version) = refl
 
-taken_kept : (c : AttemptGiven) (a : AttemptState) (past : AttemptPast) (its : MailRecord) → IsLooking c a past []
+taken_kept : (c : AttemptGiven) (a : AttemptState) (past : AttemptPast) (its : MailRecord) → is_gone its ≡ false → IsLooking c a past []
     → Kept c (record_taken c.places c.bits (record a { is_emptied = true; pending = with_asked a.pending false }) its (header_said its.header)) (record past { taken = Some its }) []
 unfolding with_asked with_held
-taken_kept c a past its looking = tested (is_seeking_read b) refl
+taken_kept c a past its there looking = tested (is_seeking_read b) refl
   where
     b : AttemptState
     b = record a { is_emptied = true; pending = with_asked a.pending false }
@@ -205,6 +208,7 @@ taken_kept c a past its looking = tested (is_seeking_read b) refl
       seen = looking.seen;
       occasion = looking.occasion;
       latch = ap (λ (pending : PendingRequest). pending.request.has_latch) looking.request;
+      floor = ap (λ (pending : PendingRequest). pending.request.floor) looking.request ∙ floor_stays c.pending its there;
       spare = looking.spare;
       none_tried = looking.none_tried;
     }
@@ -219,6 +223,7 @@ taken_kept c a past its looking = tested (is_seeking_read b) refl
       seen = untried.seen;
       occasion = untried.occasion;
       latch = untried.latch;
+      floor = untried.floor;
       spare = untried.spare;
       none_tried = untried.none_tried;
     }
@@ -227,8 +232,74 @@ taken_kept c a past its looking = tested (is_seeking_read b) refl
     holds = subst (λ (pending : PendingRequest). HoldsSo pending (Some its) held.pending.request.held) looking.request (holds_mail a.pending.sought its (header_said its.header))
 
     tested : (e : Bool) → is_seeking_read b ≡ e → Kept c (if e then read_on b its (header_said its.header) else tries c.places c.bits held) then_past []
-    tested true e = read_on_kept c b then_past its (header_said its.header) (untried_behind c b then_past untried e (ap (λ (pending : PendingRequest). pending.request.held) looking.request))
+    tested true e = read_on_kept c b then_past its (header_said its.header) (untried_behind c b then_past untried e (ap (λ (pending : PendingRequest). pending.request.held) looking.request ∙ held_stays c.pending its there))
     tested false e = tries_kept c held then_past held_untried e holds
+
+-- a record that is gone: nothing is held any more
+gone_kept : (c : AttemptGiven) (a : AttemptState) (past : AttemptPast) (its : MailRecord) → is_gone its ≡ true → IsLooking c a past []
+    → Kept c (goes_anew c.places c.bits (record a { is_emptied = true; pending = with_asked a.pending false }) (begin_told its)) (record past { taken = Some its }) []
+unfolding with_asked without_gone
+gone_kept c a past its gone looking = tested (is_seeking_read a) refl
+  where
+    then_past : AttemptPast
+    then_past = record past { taken = Some its }
+
+    anew : AttemptState
+    anew = record a { is_emptied = true; pending = without_gone (with_asked a.pending false) (begin_told its) }
+
+    same : IsSameRequest c.pending anew.pending
+    same = record {
+      name = ap (λ (pending : PendingRequest). pending.name) looking.request;
+      op = ap (λ (pending : PendingRequest). pending.request.op) looking.request;
+      version = ap (λ (pending : PendingRequest). pending.request.version) looking.request;
+    }
+
+    latch : anew.pending.request.has_latch ≡ c.pending.request.has_latch
+    latch = ap (λ (pending : PendingRequest). pending.request.has_latch) looking.request
+
+    read_on : (b : Bool) → is_seeking_read a ≡ b → is_read_on c ≡ b
+    read_on b e = sym (ap (λ (pending : PendingRequest). is_poll a.occasion && (is_read pending.request.op && is_some pending.sought)) looking.request
+        ∙ ap (λ (o : Occasion). is_poll o && (is_read c.pending.request.op && is_some c.pending.sought)) looking.occasion) ∙ e
+
+    holds : HoldsSo c.pending (Some its) None
+    holds = subst (λ (said : HeaderSaid). HoldsMail c.pending.sought its said None) (sym (gone_spoiled its gone)) (holds_none c.pending.sought its)
+
+    tested : (b : Bool) → is_seeking_read a ≡ b → Kept c (if b then waits_for_disk anew else tries c.places c.bits anew) then_past []
+    tested true e = record {
+      same = same;
+      stands = NotTried refl looking.none_tried latch looking.spare;
+      reads = λ poll read seeks. refl;
+      held = λ sought e held is. let none = looking.none_tried in cc;
+      came = subst (λ (b : Bool). HeldAt c b (Some its) past.tried None) (sym (read_on true e)) (held_lost c.pending its gone);
+    }
+    tested false e = record {
+      same = same;
+      its_try = record {
+        request = anew.pending.request;
+        its_op = same.op;
+        its_version = same.version;
+        its_latch = latch;
+        its_held = holds;
+        its_floor = floor_raised c.pending its gone;
+        its_run = rw (looking.seen, looking.occasion, looking.spare) refl;
+      };
+      none_tried = looking.none_tried;
+      latch = latch;
+      spare = looking.spare;
+      no_read = read_on false e;
+      came = holds;
+    }
+
+mail_kept : (c : AttemptGiven) (a : AttemptState) (past : AttemptPast) (its : MailRecord) → IsLooking c a past []
+    → Kept c (mail_taken c.places c.bits (record a { is_emptied = true; pending = with_asked a.pending false }) its) (record past { taken = Some its }) []
+mail_kept c a past its looking = tested (is_gone its) refl
+  where
+    b : AttemptState
+    b = record a { is_emptied = true; pending = with_asked a.pending false }
+
+    tested : (d : Bool) → is_gone its ≡ d → Kept c (if d then goes_anew c.places c.bits b (begin_told its) else record_taken c.places c.bits b its (header_said its.header)) (record past { taken = Some its }) []
+    tested true gone = gone_kept c a past its gone looking
+    tested false there = taken_kept c a past its there looking
 
 not_ready_kept : (c : AttemptGiven) (a : AttemptState) (past : AttemptPast) → IsLooking c a past [] → Kept c (not_ready c.places c.bits a) past []
 not_ready_kept c a past looking = tested (is_seeking_read a) refl
@@ -244,6 +315,7 @@ not_ready_kept c a past looking = tested (is_seeking_read a) refl
       seen = looking.seen;
       occasion = looking.occasion;
       latch = ap (λ (pending : PendingRequest). pending.request.has_latch) looking.request;
+      floor = rw looking.none_taken (ap (λ (pending : PendingRequest). pending.request.floor) looking.request);
       spare = looking.spare;
       none_tried = looking.none_tried;
     }
@@ -252,12 +324,12 @@ not_ready_kept c a past looking = tested (is_seeking_read a) refl
     holds = rw looking.none_taken (ap (λ (pending : PendingRequest). pending.request.held) looking.request)
 
     tested : (b : Bool) → is_seeking_read a ≡ b → Kept c (if b then waits_for_disk a else tries c.places c.bits a) past []
-    tested true e = untried_behind c a past untried e (ap (λ (pending : PendingRequest). pending.request.held) looking.request)
+    tested true e = untried_behind c a past untried e (rw looking.none_taken (ap (λ (pending : PendingRequest). pending.request.held) looking.request))
     tested false e = tries_kept c a past untried e holds
 
 look_kept : (c : AttemptGiven) (a : AttemptState) (past : AttemptPast) (ask : Ask MailAnswer) → a.step ≡ Looks → IsLooking c a past [] → Kept c (look_ledto c.places c.bits a ask) (look_told ask past) []
 unfolding look_ledto
-look_kept c a past (Done (mail.Taken its)) at looking = taken_kept c a past its looking
+look_kept c a past (Done (mail.Taken its)) at looking = mail_kept c a past its looking
 look_kept c a past (Done other) at looking = not_ready_kept c a past looking
 look_kept c a past ask at looking = subst (λ (step : Attempting). KeptAt c a past [] step) (sym at) looking
 
@@ -333,6 +405,7 @@ moved_try c a past replies reply its = record {
     its_version = its.its_try.its_version;
     its_latch = its.its_try.its_latch;
     its_held = its.its_try.its_held;
+    its_floor = its.its_try.its_floor;
     its_run = ap (λ (t : TryState). try_next c.places c.room t reply) its.its_try.its_run;
   };
   none_tried = its.none_tried;
@@ -455,7 +528,7 @@ at_held c past held came = record {
 
 held_so : (c : AttemptGiven) (a : AttemptState) (past : AttemptPast) (replies : List ℕ) (step : Attempting) → KeptAt c a past replies step → IsHeldKept c past a.pending.request.held
 held_so c a past replies (Ended its) kept = at_held c past a.pending.request.held kept.came
-held_so c a past replies Looks kept = record { read = λ poll read seeks. same; other = λ its. rw (kept.none_tried, kept.none_taken) same }
+held_so c a past replies Looks kept = record { read = λ poll read seeks. rw kept.none_taken same; other = λ its. rw (kept.none_tried, kept.none_taken) same }
   where
     same : a.pending.request.held ≡ c.pending.request.held
     same = ap (λ (pending : PendingRequest). pending.request.held) kept.request

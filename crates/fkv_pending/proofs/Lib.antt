@@ -7,6 +7,7 @@ pub mod AttemptRuns
 pub mod AttemptSpares
 pub mod AttemptTries
 pub mod Boxes
+mod Gone
 pub mod MailAsks
 pub mod MailRuns
 pub mod MailSound

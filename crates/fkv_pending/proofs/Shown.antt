@@ -11,3 +11,4 @@ pub use Rattle.fkv_pending.proofs.Boxes.{box_moved, moved_box, spared_box, reply
 pub use Rattle.fkv_pending.proofs.MailAsks.{mail_left, mail_done, mail_fewer}
 pub use Rattle.fkv_pending.proofs.MailRuns.{IsSound, happens_sound, opening_sound, run_sound, moment_sound}
 pub use Rattle.fkv_pending.proofs.MailSound.{Stands, KnowsMail, KnowsKeeper, IsKept}
+pub use Rattle.fkv_pending.proofs.Gone.{gone_spoiled, there_said}

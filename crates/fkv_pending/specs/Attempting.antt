@@ -21,7 +21,7 @@ use Rattle.fkv_ops.specs.declared.requests.Occasion.TheVariants.{Call, Poll}
 use Rattle.fkv_ops.specs.declared.requests.Seen.{Seen}
 use Rattle.fkv_ops.specs.HeaderWords.{header_said}
 use Rattle.fkv_ops.specs.Resting.{nothing_seen}
-use Rattle.fkv_ops.specs.Requests.{is_read}
+use Rattle.fkv_ops.specs.Requests.{is_read, is_chain_end}
 use Rattle.fkv_ops.specs.Values.{value_of}
 use Rattle.fkv_ops.specs.Trying.{TryState, try_rested, try_begun, try_ask, try_next, told_value}
 use Rattle.fkv_pending.specs.declared.attempting.Attempting.{Attempting}
@@ -34,8 +34,8 @@ use Rattle.fkv_pending.specs.declared.mailing.Mailing.{Mailing}
 use Rattle.fkv_pending.specs.declared.mailing.Mailing.TheVariants.{LoadsState, StoresAddress}
 use Rattle.fkv_pending.specs.declared.mailing.Mailing.TheVariants as mailing
 use Rattle.fkv_pending.specs.declared.pending_requests.PendingRequest.{PendingRequest}
-use Rattle.fkv_pending.specs.Mailing.{mail_ask, mail_next}
-use Rattle.fkv_pending.specs.Pending.{no_pending, with_sought, with_held, with_latch, with_asked}
+use Rattle.fkv_pending.specs.Mailing.{mail_ask, mail_next, is_gone, begin_told}
+use Rattle.fkv_pending.specs.Pending.{no_pending, with_sought, with_held, with_latch, with_asked, without_gone}
 
 pub record AttemptState : Type 0 where
   -- the request, and what it waits for by now
@@ -128,24 +128,34 @@ abbrev pub moved_on : Option DiskRecord → Addr → Option DiskRecord
 moved_on None addr = None
 moved_on (Some sought) addr = Some (record sought { addr = addr })
 
--- a read is answered by its key's record, or by the end of the chain; else it asks for the record before
+-- A read is answered by its key's record, or by the end of the chain; else it asks for the record before. The chain ends below the request's floor too.
 abbrev pub read_on : AttemptState → MailRecord → HeaderSaid → AttemptState
 read_on a its Spoiled = puts a
 read_on a its (Says previous version) =
     if its.key.0 == (key_of a.pending.request.op).0 then attempt_ended a (told_value (value_of its.value))
-    else if previous.0 == 0 then attempt_ended a answer.Absent
+    else if is_chain_end a.pending.request.floor previous then attempt_ended a answer.Absent
     else puts (record a { pending = with_sought a.pending (moved_on a.pending.sought previous) })
 
 -- an update holds the record and is tried with it
 abbrev pub record_taken : Places → ℕ → AttemptState → MailRecord → HeaderSaid → AttemptState
 record_taken p bits a its said = if is_seeking_read a then read_on a its said else tries p bits (record a { pending = with_held a.pending (held_of a.pending.sought its said) })
 
+-- The record that was asked for is gone, which tells nothing of the key. A read waits, and its next attempt tries it from its entry again. Any other
+-- request is tried from there at once.
+abbrev pub goes_anew : Places → ℕ → AttemptState → Addr → AttemptState
+goes_anew p bits a begin =
+    let its : AttemptState = record a { pending = without_gone a.pending begin } in
+    if is_seeking_read a then waits_for_disk its else tries p bits its
+
+abbrev pub mail_taken : Places → ℕ → AttemptState → MailRecord → AttemptState
+mail_taken p bits a its = if is_gone its then goes_anew p bits a (begin_told its) else record_taken p bits a its (header_said its.header)
+
 -- where no record is ready, a read goes on waiting and an update is tried all the same
 abbrev pub not_ready : Places → ℕ → AttemptState → AttemptState
 not_ready p bits a = if is_seeking_read a then waits_for_disk a else tries p bits a
 
 unfoldable pub look_ledto : Places → ℕ → AttemptState → Ask MailAnswer → AttemptState
-look_ledto p bits a (Done (mail.Taken its)) = record_taken p bits (record a { is_emptied = true; pending = with_asked a.pending false }) its (header_said its.header)
+look_ledto p bits a (Done (mail.Taken its)) = mail_taken p bits (record a { is_emptied = true; pending = with_asked a.pending false }) its
 look_ledto p bits a (Done other) = not_ready p bits a
 look_ledto p bits a ask = a
 

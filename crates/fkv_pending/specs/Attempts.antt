@@ -23,7 +23,7 @@ use Rattle.fkv_ops.specs.Bounds.{IsCall}
 use Rattle.fkv_ops.specs.declared.requests.Request.{Request}
 use Rattle.fkv_ops.specs.declared.requests.Seen.{Seen}
 use Rattle.fkv_ops.specs.HeaderWords.{header_said}
-use Rattle.fkv_ops.specs.Requests.{is_read}
+use Rattle.fkv_ops.specs.Requests.{is_read, is_chain_end}
 use Rattle.fkv_ops.specs.Values.{value_of}
 use Rattle.fkv_ops.specs.Trying.{TryState, try_ask, try_next}
 use Rattle.fkv_ops.specs.TryRun.{Trial, try_run, trial_begun, Exchange}
@@ -34,7 +34,7 @@ use Rattle.fkv_pending.specs.declared.mailing.MailAnswer.{MailAnswer}
 use Rattle.fkv_pending.specs.declared.mailing.MailAnswer.TheVariants as mail
 use Rattle.fkv_pending.specs.declared.mailing.MailRecord.{MailRecord}
 use Rattle.fkv_pending.specs.declared.pending_requests.PendingRequest.{PendingRequest}
-use Rattle.fkv_pending.specs.Mailing.{mail_empty, mail_ask, mail_next}
+use Rattle.fkv_pending.specs.Mailing.{mail_empty, mail_ask, mail_next, is_gone, begin_told}
 use Rattle.fkv_pending.specs.Attempting.{AttemptState, attempt_ask, attempt_begun, attempt_next, held_kept}
 
 -- What the run of an attempt has told so far.
@@ -103,14 +103,19 @@ pub record HasAskedForSought (sought : Option DiskRecord) (address : Option ℕ)
   pub its_sought : sought ≡ Some record_sought
   pub its_address : address ≡ Some record_sought.addr.0
 
--- what a request waits for that waits for the device: its mail is under way, or the mailbox was occupied. (Else its try has ended so by itself, which no
--- try does, or it is a read that seeks nothing, as none is.)
+-- what a request waits for that waits for the device: its mail is under way, or the mailbox was occupied. Or it seeks nothing, since its record is gone.
+-- (Else its try has ended so by itself, which no try does.)
 abbrev pub IsAwaiting : PendingRequest → AttemptPast → Type 0
 IsAwaiting pending past =
     (pending.has_asked ≡ true)
     ⊎ ((past.put ≡ Some mail.Occupied)
     ⊎ ((past.tried ≡ Some (answer.Wait reason.Disk))
     ⊎ (pending.sought ≡ None)))
+
+-- the request's floor: the begin that the mail told whose record is gone, and else what it was
+abbrev pub floor_behind : PendingRequest → Option MailRecord → Addr
+floor_behind first None = first.request.floor
+floor_behind first (Some its) = if is_gone its then begin_told its else first.request.floor
 
 -- what is held came by the mail that was taken, with the entry of the record that was sought then
 pub record HasCome (sought : Option DiskRecord) (taken : Option MailRecord) (its : HeldRecord) : Type 0 where
@@ -132,6 +137,7 @@ pub record IsAttemptTrue (pending : PendingRequest) (is_orphaned : Bool) (a : At
   pub asked : past.put ≡ Some mail.Asked → HasAskedForSought a.pending.sought past.address
   pub awaits : ask ≡ Done (answer.Wait reason.Disk) → IsAwaiting a.pending past
   pub held : (its : HeldRecord) → a.pending.request.held ≡ Some its → (pending.request.held ≡ Some its) ⊎ HasCome pending.sought past.taken its
+  pub floor : a.pending.request.floor ≡ floor_behind pending past.taken
 
 abbrev pub AttemptsTrue : Type 0
 AttemptsTrue =
@@ -210,6 +216,7 @@ pub record IsItsTry (c : AttemptGiven) (taken : Option MailRecord) (trial : TryS
   pub its_version : request.version ≡ c.pending.request.version
   pub its_latch : request.has_latch ≡ c.pending.request.has_latch
   pub its_held : HoldsSo c.pending taken request.held
+  pub its_floor : request.floor ≡ floor_behind c.pending taken
   pub its_run : trial ≡ try_run (trial_of c request) (trial_begun (trial_of c request) c.spare) replies
 
 -- How far the try has come, and whether the request shares its latch then, and what the session's spare bucket is: as they were given, up to
@@ -242,12 +249,12 @@ abbrev pub TriesKept : Type 0
 TriesKept = (c : AttemptGiven) (replies : List ℕ) → IsTryKept c (run_by c replies) (past_by c replies) (try_replies c replies)
 
 -- What a read at a poll is answered by the record that was taken: that record's value, where it has the read's key; that the key is absent,
--- where it has that key without a value, or is another's and the last of its chain; and else, or where it is spoiled, that it has to wait.
+-- where it has that key without a value, or is another's and the last of its chain; and else, or where it is gone or spoiled, that it has to wait.
 abbrev pub IsReadBy : PendingRequest → MailRecord → HeaderSaid → TryAnswer → Type 0
 IsReadBy first its (Says previous version) (answer.Found value) = (its.key.0 ≡ (key_of first.request.op).0) × (value_of its.value ≡ Some value.0)
 IsReadBy first its (Says previous version) answer.Absent =
-    ((its.key.0 ≡ (key_of first.request.op).0) × (value_of its.value ≡ None)) ⊎ ((its.key.0 ≢ (key_of first.request.op).0) × (previous.0 ≡ 0))
-IsReadBy first its (Says previous version) (answer.Wait reason.Disk) = (its.key.0 ≢ (key_of first.request.op).0) × (previous.0 ≢ 0)
+    ((its.key.0 ≡ (key_of first.request.op).0) × (value_of its.value ≡ None)) ⊎ ((its.key.0 ≢ (key_of first.request.op).0) × (is_chain_end first.request.floor previous ≡ true))
+IsReadBy first its (Says previous version) (answer.Wait reason.Disk) = (its.key.0 ≢ (key_of first.request.op).0) × (is_chain_end first.request.floor previous ≡ false)
 IsReadBy first its Spoiled (answer.Wait reason.Disk) = ⊤
 IsReadBy first its said told = ⊥
 
@@ -263,17 +270,22 @@ IsTryEnd (Some (answer.AwaitsDisk sought)) told = told ≡ answer.Wait reason.Di
 IsTryEnd (Some its) told = told ≡ its
 
 -- A read at a poll seeks the record before the one that was taken, along the walk from the same entry, where that one is another key's and
--- not the last of its chain; and else what it sought.
+-- not the last of its chain. Where it is gone the read seeks none, and else what it sought.
 abbrev pub IsBefore : Option DiskRecord → Addr → Option DiskRecord → Type 0
 IsBefore None previous sought = sought ≡ None
 IsBefore (Some its) previous sought = sought ≡ Some (record { entry = its.entry; addr = previous })
 
 pub record SeeksBefore (first : PendingRequest) (its : MailRecord) (previous : Addr) (sought : Option DiskRecord) : Type 0 where
-  pub goes_on : its.key.0 ≢ (key_of first.request.op).0 → previous.0 ≢ 0 → IsBefore first.sought previous sought
-  pub stays : (its.key.0 ≡ (key_of first.request.op).0) ⊎ (previous.0 ≡ 0) → sought ≡ first.sought
+  pub goes_on : its.key.0 ≢ (key_of first.request.op).0 → is_chain_end first.request.floor previous ≡ false → IsBefore first.sought previous sought
+  pub stays : (its.key.0 ≡ (key_of first.request.op).0) ⊎ (is_chain_end first.request.floor previous ≡ true) → sought ≡ first.sought
+
+-- what a request seeks still behind its mail, as long as no try has told more
+abbrev pub sought_behind : PendingRequest → Option MailRecord → Option DiskRecord
+sought_behind first None = first.sought
+sought_behind first (Some its) = if is_gone its then None else first.sought
 
 abbrev pub ReadSeeksBy : PendingRequest → MailRecord → HeaderSaid → Option DiskRecord → Type 0
-ReadSeeksBy first its Spoiled sought = sought ≡ first.sought
+ReadSeeksBy first its Spoiled sought = sought ≡ sought_behind first (Some its)
 ReadSeeksBy first its (Says previous version) sought = SeeksBefore first its previous sought
 
 abbrev pub ReadSeeks : PendingRequest → Option MailRecord → Option DiskRecord → Type 0
@@ -281,10 +293,10 @@ ReadSeeks first None sought = sought ≡ first.sought
 ReadSeeks first (Some its) sought = ReadSeeksBy first its (header_said its.header) sought
 
 -- Any other request seeks the record that its try awaits, but where its mail is under way: then, and where its try awaits none, it seeks what
--- it sought.
+-- it sought, or nothing where that is gone.
 abbrev pub TrySeeks : PendingRequest → Option MailRecord → Option TryAnswer → Option DiskRecord → Type 0
 TrySeeks first taken (Some (answer.AwaitsDisk its)) sought = sought ≡ (if is_under_way None taken first.has_asked then first.sought else Some its)
-TrySeeks first taken tried sought = sought ≡ first.sought
+TrySeeks first taken tried sought = sought ≡ sought_behind first taken
 
 -- an update, a read at its call, or a read that seeks no record
 abbrev pub IsToBeTried : AttemptGiven → Type 0
@@ -333,9 +345,14 @@ abbrev pub HoldsBehind : PendingRequest → Option MailRecord → Option TryAnsw
 HoldsBehind first taken (Some (answer.AwaitsDisk sought)) held = HoldsOfEntry first taken sought.entry held
 HoldsBehind first taken tried held = HoldsSo first taken held
 
--- What a request holds, at each moment. A read at a poll holds what it held.
+-- what a read at a poll holds: what it held, and nothing where its record is gone
+abbrev pub held_behind : PendingRequest → Option MailRecord → Option HeldRecord
+held_behind first None = first.request.held
+held_behind first (Some its) = if is_gone its then None else first.request.held
+
+-- What a request holds, at each moment.
 pub record IsHeldKept (c : AttemptGiven) (past : AttemptPast) (held : Option HeldRecord) : Type 0 where
-  pub read : c.occasion ≡ Poll → is_read c.pending.request.op ≡ true → is_some c.pending.sought ≡ true → held ≡ c.pending.request.held
+  pub read : c.occasion ≡ Poll → is_read c.pending.request.op ≡ true → is_some c.pending.sought ≡ true → held ≡ held_behind c.pending past.taken
   pub other : IsToBeTried c → HoldsBehind c.pending past.taken past.tried held
 
 abbrev pub HeldKept : Type 0

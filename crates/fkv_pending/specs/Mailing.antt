@@ -1,12 +1,14 @@
 -- How a session asks for a record of the device, by its mailbox: it stores an address and that it asks. The keeper stores the record's
 -- words and that they are ready; the session takes them, and stores that the mailbox is empty.
-use Rattle.std.specs.Prelude.{ℕ, ◌==◌, if◌then◌else◌}
+use Rattle.std.specs.Prelude.{ℕ, ◌==◌, if◌then◌else◌, Bool}
+use Rattle.fkv_base.specs.declared.numbers.Addr.{Addr}
 use Rattle.fkv_plane.specs.declared.asks.Ask.{Ask}
 use Rattle.fkv_plane.specs.declared.asks.Ask.TheVariants.{Load, Store, Done}
 use Rattle.fkv_plane.specs.declared.places.SessionWord.TheVariants as own
 use Rattle.fkv_plane.specs.Places.{session_place}
 use Rattle.fkv_pending.specs.declared.mailing.MailAnswer.{MailAnswer}
 use Rattle.fkv_pending.specs.declared.mailing.MailAnswer.TheVariants as answer
+use Rattle.fkv_pending.specs.declared.mailing.MailRecord.{MailRecord}
 use Rattle.fkv_pending.specs.declared.mailing.MailTask.{MailTask}
 use Rattle.fkv_pending.specs.declared.mailing.MailTask.TheVariants.{Clear, Take, Put}
 use Rattle.fkv_pending.specs.declared.mailing.Mailing.{Mailing}
@@ -21,6 +23,13 @@ mail_asked = 1
 
 abbrev pub mail_ready : ℕ
 mail_ready = 2
+
+-- The keeper answers so where the address lies below the log's begin: no record has this header. The key is the begin then.
+abbrev pub is_gone : MailRecord → Bool
+is_gone its = its.header == 0
+
+abbrev pub begin_told : MailRecord → Addr
+begin_told its = record { 0 = its.key.0 }
 
 pub record Mailer : Type 0 where
   -- whose mailbox it is

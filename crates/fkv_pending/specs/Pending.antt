@@ -1,5 +1,6 @@
 -- What changes of a request that waits, and what stands for one where there is none.
 use Rattle.std.specs.Prelude.{Bool, false, Option, None, ◌==◌, ◌&&◌, not}
+use Rattle.fkv_base.specs.declared.numbers.Addr.{Addr}
 use Rattle.fkv_base.specs.declared.numbers.Version.{Version}
 use Rattle.fkv_ops.specs.declared.answers.DiskRecord.{DiskRecord}
 use Rattle.fkv_ops.specs.declared.requests.HeldRecord.{HeldRecord}
@@ -19,6 +20,10 @@ with_sought pending sought = record pending { sought = sought }
 -- it holds another record
 unfoldable pub with_held : PendingRequest → Option HeldRecord → PendingRequest
 with_held pending held = record pending { request = record pending.request { held = held } }
+
+-- What it sought lay below this begin of the log, and is gone. It drops what it held too, goes by that begin from then on, and is tried from its entry again.
+unfoldable pub without_gone : PendingRequest → Addr → PendingRequest
+without_gone pending begin = record pending { request = record pending.request { held = None; floor = begin }; sought = None }
 
 -- it shares the latch of its bucket, or no more
 unfoldable pub with_latch : PendingRequest → Bool → PendingRequest

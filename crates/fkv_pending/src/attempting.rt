@@ -4,7 +4,7 @@ ghost use Rattle.fkv_base.specs.Limits.{max_sessions};
 ghost use Rattle.fkv_map.specs.Keys.{as_number};
 ghost use Rattle.fkv_plane.specs.AsksLeft.{AsksWhereLeft};
 ghost use Rattle.fkv_pending.specs.AsksLeft.{attempt_asks_left};
-ghost use Rattle.fkv_pending.specs.Attempting.{attempt_rested, attempt_begun, attempt_ask, attempt_next, puts, tries, waits_for_disk, is_seeking_read, held_of, held_kept, moved_on, read_on, record_taken, not_ready, look_ledto, awaits_record, tried, try_ledto, put_ledto};
+ghost use Rattle.fkv_pending.specs.Attempting.{attempt_rested, attempt_begun, attempt_ask, attempt_next, puts, tries, waits_for_disk, is_seeking_read, held_of, held_kept, moved_on, read_on, record_taken, goes_anew, mail_taken, not_ready, look_ledto, awaits_record, tried, try_ledto, put_ledto};
 
 use crate::mailing::{Mail, MailAnswer, MailRecord, MailTask};
 use crate::pending_requests::PendingRequest;
@@ -242,10 +242,34 @@ impl Attempt {
             Ask::Done(MailAnswer::Taken(record)) => {
                 self.is_emptied = true;
                 self.pending.set_asked(false);
-                self.record_taken(record, header_said(record.header));
+                self.mail_taken(record);
             }
             Ask::Done(_) => self.not_ready(),
             _ => {}
+        }
+    }
+
+    /// Goes on by what the mailbox had: a record, or that it is gone.
+    fn mail_taken(&mut self, its: MailRecord)
+        ensures { self.new ≡ record self.old { state = mail_taken self.old.places self.old.bits self.old.state its } }
+    {
+        match its.gone() {
+            Some(begin) => self.goes_anew(begin),
+            None => self.record_taken(its, header_said(its.header)),
+        }
+    }
+
+    /// A record that is gone tells nothing of the key: a read waits, and its next attempt tries it from its entry again. Any other request is tried
+    /// from there at once.
+    fn goes_anew(&mut self, begin: Addr)
+        ensures { self.new ≡ record self.old { state = goes_anew self.old.places self.old.bits self.old.state begin } }
+    {
+        let is_seeking_read = self.is_seeking_read();
+        self.pending.lose(begin);
+        if is_seeking_read {
+            self.waits_for_disk();
+        } else {
+            self.tries();
         }
     }
 
@@ -271,7 +295,7 @@ impl Attempt {
             HeaderSaid::Says(previous, _) => {
                 if its.key == self.pending.request.op.key() {
                     self.step = Attempting::Ended(told_value(value_of_word(its.value)));
-                } else if previous == Addr(0) {
+                } else if self.pending.request.is_chain_end(previous) {
                     self.step = Attempting::Ended(TryAnswer::Absent);
                 } else {
                     let sought = moved_on(self.pending.sought, previous);

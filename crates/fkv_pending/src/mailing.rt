@@ -1,8 +1,8 @@
 //! How a session asks for a record of the device.
-ghost use Rattle.std.specs.Prelude.{◌≡◌, ◌<◌, ◌≤◌, ◌-◌};
+ghost use Rattle.std.specs.Prelude.{◌≡◌, ◌<◌, ◌≤◌, ◌-◌, if◌then◌else◌, Some, None};
 ghost use Rattle.fkv_base.specs.Limits.{max_sessions};
 ghost use Rattle.fkv_plane.specs.AsksLeft.{AsksWhereLeft};
-ghost use Rattle.fkv_pending.specs.Mailing.{mail_ask, mail_next, mail_asks_left, task_asks_left, state_found};
+ghost use Rattle.fkv_pending.specs.Mailing.{mail_ask, mail_next, mail_asks_left, task_asks_left, state_found, is_gone, begin_told};
 ghost use Rattle.fkv_pending.specs.declared.mailing.Mailing.TheVariants.{Ended, LoadsState, StoresAddress};
 ghost use Rattle.fkv_pending.specs.declared.mailing.MailAnswer.TheVariants.{NotReady};
 
@@ -18,6 +18,19 @@ pub struct MailRecord {
     pub key: Key,
     /// The word of its value.
     pub value: u64,
+}
+
+impl MailRecord {
+    /// Where the log begins, if the record that was asked for lay below that and is gone. No record has the header that tells it.
+    pub fn gone(&self) -> Option<Addr>
+        ensures { result ≡ (if is_gone self.now then Some (begin_told self.now) else None) }
+    {
+        if self.header == 0 {
+            Some(Addr(self.key.0))
+        } else {
+            None
+        }
+    }
 }
 
 /// What is to be done with the mailbox.

@@ -1,8 +1,8 @@
 //! A request that waits.
 ghost use Rattle.std.specs.Prelude.{◌≡◌};
-ghost use Rattle.fkv_pending.specs.Pending.{no_pending, with_sought, with_held, with_latch, with_asked, is_unlatched, is_update_of};
+ghost use Rattle.fkv_pending.specs.Pending.{no_pending, with_sought, with_held, with_latch, with_asked, without_gone, is_unlatched, is_update_of};
 
-use fkv_base::{Serial, Version};
+use fkv_base::{Addr, Serial, Version};
 use fkv_ops::{DiskRecord, HeldRecord, Request};
 
 /// The number of a read that went pending. Tickets of a session count from 1; after 2^64 - 1 comes 1.
@@ -56,6 +56,16 @@ impl PendingRequest {
         ensures { self.new ≡ with_held self.old held }
     {
         self.request.held = held;
+    }
+
+    /// What it sought lay below this begin of the log, and is gone. It drops what it held too, and goes by that begin from now on.
+    #[tactic(auto, unfolding(crate::specs::Pending::without_gone))]
+    pub(crate) fn lose(&mut self, begin: Addr)
+        ensures { self.new ≡ without_gone self.old begin }
+    {
+        self.sought = None;
+        self.request.held = None;
+        self.request.floor = begin;
     }
 
     /// It shares the latch of its bucket from now on, or doesn't.

@@ -3,16 +3,16 @@ use Rattle.std.proofs.Common.{◌≡◌, ℕ, ◌-◌, ◌^◌, ◌<◌, List, [
 use Rattle.std.specs.Prelude.{if◌then◌else◌, IsSome}
 use Rattle.fkv_words.specs.Fields.{Reads}
 use Rattle.fkv_record.specs.declared.formats.Format.{Format}
-use Rattle.fkv_record.specs.declared.formats.Format.TheVariants.{First, Second, Third}
+use Rattle.fkv_record.specs.declared.formats.Format.TheVariants.{First, Second, Third, Fourth}
 use Rattle.fkv_record.specs.declared.manifest_slots.ManifestSlot.{ManifestSlot}
 use Rattle.fkv_record.specs.declared.slots.Slot.{Slot}
 use Rattle.fkv_record.specs.Layout.{first_layout, point_numbers, slot_bytes}
 use Rattle.fkv_record.specs.FirstFormat.{SaysSame}
 use Rattle.fkv_record.specs.Formats.{format_number, point_places}
-use Rattle.fkv_record.specs.Manifest.{is_held, layout, range_numbers, named_checkpoint, manifest_numbers, manifest_bytes, SpelledOnce, front_numbers, first_numbers}
+use Rattle.fkv_record.specs.Manifest.{is_held, layout, range_numbers, named_checkpoint, named_begin, manifest_numbers, manifest_bytes, SpelledOnce, front_numbers, first_numbers, newest_bytes, newest_format, newest_numbers, said_in}
 use Rattle.fkv_record.specs.Numbers.{spelled, padded}
 use Rattle.fkv_record.specs.Points.{serial_numbers}
-use Rattle.fkv_record.proofs.ManifestSections.{sections, sectioned, length-layout, tail_numbers}
+use Rattle.fkv_record.proofs.ManifestSections.{sections, sectioned, length-layout, tail_numbers, newest_held, newest_whole, third_format}
 use Rattle.fkv_record.proofs.ManifestApart.{there, numbers_held, held_numbers, telling, read_some}
 use Rattle.fkv_record.proofs.PointApart.{serial_words, zero_words}
 use Rattle.fkv_record.proofs.RangePlaces.{range_words}
@@ -25,17 +25,26 @@ named_fits : (f : Format) (x : ManifestSlot) → named_checkpoint f x < 2 ^ 64
 named_fits First x = omega arith
 named_fits Second x = x.checkpoint_fits
 named_fits Third x = x.checkpoint_fits
+named_fits Fourth x = x.checkpoint_fits
+
+begin_fits : (f : Format) (x : ManifestSlot) → named_begin f x < 2 ^ 64
+begin_fits First x = omega arith
+begin_fits Second x = omega arith
+begin_fits Third x = omega arith
+begin_fits Fourth x = x.begin_fits
 
 format_fits : (f : Format) → format_number f < 2 ^ 64
 format_fits First = omega arith
 format_fits Second = omega arith
 format_fits Third = omega arith
+format_fits Fourth = omega arith
 
 tail_words : (f : Format) (x : ManifestSlot) → AreWords (tail_numbers f x)
 tail_words f x =
     let few = x.lost.few_ranges in
-    let ranges = padded_words (54 - point_places f) (range_numbers x.lost.ranges.items) (range_words x.lost.ranges.items) in
-    (named_fits f x, (omega (arith, few), words_append (padded (54 - point_places f) (range_numbers x.lost.ranges.items)) (format_number f ∷ []) ranges (format_fits f, tt)))
+    let ranges = padded_words (48 - point_places f) (range_numbers x.lost.ranges.items) (range_words x.lost.ranges.items) in
+    let end : AreWords (named_begin f x ∷ (replicate 5 0 ++ format_number f ∷ [])) = (begin_fits f x, words_append (replicate 5 0) (format_number f ∷ []) (zero_words 5) (format_fits f, tt)) in
+    (named_fits f x, (omega (arith, few), words_append (padded (48 - point_places f) (range_numbers x.lost.ranges.items)) (named_begin f x ∷ 0 ∷ 0 ∷ 0 ∷ 0 ∷ 0 ∷ format_number f ∷ []) ranges end))
 
 section_words : (f : Format) (x : ManifestSlot) → AreWords (sections f x)
 section_words f x =
@@ -96,6 +105,14 @@ some_there false l (Some n) e some = let never : ⊥ = cc in absurd never
 some_bytes : (p : Format × ManifestSlot) → IsSome (manifest_bytes p) → is_held p.0 p.1 ≡ true
 unfolding manifest_bytes
 some_bytes p some = some_there (is_held p.0 p.1) (spelled (layout p.0 p.1)) (manifest_bytes p) refl some
+
+-- a slot is written in the format that it has, which is the third where its log begins at the first record
+pub newest_spelled : (x : ManifestSlot) → Some (newest_bytes (said_in x)) ≡ manifest_bytes (newest_format x, x)
+unfolding newest_bytes
+newest_spelled x = sym (held_bytes (newest_format x, x) (spelled (newest_numbers (said_in x))) (newest_held x) (ap spelled (sym (newest_whole x))))
+
+pub third_spelled : (x : ManifestSlot) → x.begin.0 ≡ 1 → Some (newest_bytes (said_in x)) ≡ manifest_bytes (Third, x)
+third_spelled x first = newest_spelled x ∙ ap (λ (f : Format). manifest_bytes (f, x)) (third_format x first)
 
 pub manifest_apart : SpelledOnce manifest_bytes
 manifest_apart x y some e =

@@ -1,9 +1,9 @@
 -- Shapes and their bytes.
-use Rattle.std.proofs.Common.{◌≡◌, ◌≢◌, ℕ, ◌≤◌, ◌<◌, ◌^◌, ◌++◌, Bool, true, false, List, ◌∷◌, length, get_or, None, Some, Result, Ok, Err, refl, sym, ap, ◌∙◌, arith, rules}
+use Rattle.std.proofs.Common.{◌≡◌, ◌≢◌, ℕ, ◌≤◌, ◌<◌, ◌^◌, ◌++◌, List, ◌∷◌, length, get_or, None, Some, Result, Ok, Err, refl, sym, ap, ◌∙◌, arith, rules}
 use Rattle.std.proofs.Math.Bridge.{le_prop}
 use Rattle.std.proofs.Math.Bool.{Bool-set}
 use Rattle.std.proofs.lemmas.Bool.Decides.{nat_tests}
-use Rattle.std.specs.Prelude.{IsTrue, IsOk, IfOk, ◌↔◌}
+use Rattle.std.specs.Prelude.{IsTrue, IsOk, IfOk}
 use Rattle.std.specs.Result.{result_ok}
 use Rattle.fkv_base.specs.declared.faults.Fault.{Fault}
 use Rattle.std.specs.Int.{w64, from_le_bytes}

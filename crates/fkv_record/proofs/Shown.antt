@@ -1,7 +1,8 @@
 -- What the crates above may cite of these proofs.
+pub use Rattle.fkv_begin.proofs.Shown.{from_below, from_on, from_lower, from_some, from_first}
 pub use Rattle.fkv_record.proofs.ManifestApart.{Tells, places_at, ranges_at, telling, told, spelled_tells, read_some, read_none}
-pub use Rattle.fkv_record.proofs.ManifestBytes.{bytes_read, layout_words, manifest_apart}
-pub use Rattle.fkv_record.proofs.ManifestSections.{length-layout}
+pub use Rattle.fkv_record.proofs.ManifestBytes.{bytes_read, layout_words, manifest_apart, newest_spelled, third_spelled}
+pub use Rattle.fkv_record.proofs.ManifestSections.{length-layout, third_format}
 pub use Rattle.fkv_record.proofs.PointApart.{Fills, points_read}
 pub use Rattle.fkv_record.proofs.PointPlaces.{Stands, stands, points_read_in}
 pub use Rattle.fkv_record.proofs.RangePlaces.{IsFilled, filled, lost_read_in}

@@ -1,3 +1,4 @@
+pub mod Begin
 pub mod FirstFormat
 pub mod Formats
 pub mod Layout

@@ -1,7 +1,8 @@
 //! The formats of a manifest slot.
 ghost use Rattle.std.specs.Prelude.{◌≡◌};
 
-/// Which layout a manifest slot has. What is written now has the third; older images have slots of the first two.
+/// Which layout a manifest slot has. What is written now has the third, or the fourth where its log doesn't begin at the first
+/// record; older images have slots of the first two.
 #[derive(Clone, Copy, Debug, PartialEq, Eq)]
 pub enum Format {
     /// A commit uses its own checkpoint, and at most eight sessions have points.
@@ -10,6 +11,8 @@ pub enum Format {
     Second,
     /// As the second, but with a place for a point of each of 32 sessions.
     Third,
+    /// As the third, but with a place for the address at which the log begins.
+    Fourth,
 }
 
 impl Format {
@@ -24,6 +27,7 @@ impl Format {
             0 => Some(Format::First),
             2 => Some(Format::Second),
             3 => Some(Format::Third),
+            4 => Some(Format::Fourth),
             _ => None,
         }
     }
@@ -36,6 +40,7 @@ impl Format {
             Format::First => 0,
             Format::Second => 2,
             Format::Third => 3,
+            Format::Fourth => 4,
         }
     }
 
@@ -45,7 +50,7 @@ impl Format {
     {
         match self {
             Format::First | Format::Second => 8,
-            Format::Third => 32,
+            Format::Third | Format::Fourth => 32,
         }
     }
 }

@@ -20,6 +20,7 @@ mod slots;
 mod triple_bytes;
 mod triples;
 
+pub use fkv_begin::from_or_none;
 pub use formats::Format;
 pub use gates::{OPEN, open_number};
 pub use image_places::{SHAPE_PLACE, SLOT_PLACES, area_place, most_triples, record_place};

@@ -1,18 +1,17 @@
 //! The bytes of a manifest slot, in each format.
 ghost use Rattle.std.specs.Prelude.{◌≡◌, ◌+◌, ◌*◌, ◌≤◌, ◌++◌, [], ◌∷◌, length, Some, IsTrue};
 ghost use Rattle.fkv_words.specs.Fields.{Reads};
-ghost use Rattle.fkv_record.specs.declared.formats.Format.TheVariants.{Third};
-ghost use Rattle.fkv_record.specs.Manifest.{is_held, layout, named_checkpoint, front_numbers, range_numbers, manifest_numbers, manifest_bytes, newest_bytes, said_in};
+ghost use Rattle.fkv_record.specs.Manifest.{is_held, layout, named_checkpoint, named_begin, front_numbers, range_numbers, manifest_numbers, manifest_bytes, newest_bytes, newest_format, said_in};
 ghost use Rattle.fkv_record.specs.Numbers.{padded};
 ghost use Rattle.fkv_record.specs.Points.{serial_numbers};
-ghost use Rattle.fkv_record.specs.Sections.{checkpoint_of};
+ghost use Rattle.fkv_record.specs.Sections.{checkpoint_of, begin_of};
 
 use crate::formats::Format;
 use crate::gates;
 use crate::lost_numbers::lost_of;
 use crate::lost_ranges::LostRange;
 use crate::manifest_slots::ManifestSlot;
-use crate::numbers::{numbers, spell};
+use crate::numbers::{are_zero, numbers, spell};
 use crate::point_numbers::points_of;
 use arrayvec::ArrayVec;
 use fkv_base::{Addr, Serial};
@@ -42,7 +41,10 @@ fn manifest_of(numbers: &[u64]) -> Option<(Format, ManifestSlot)>
     }
     let behind = 7 + format.point_places();
     let points = points_of(numbers[6], &numbers[7..behind])?;
-    let lost = lost_of(numbers[behind + 1], &numbers[behind + 2..63])?;
+    let lost = lost_of(numbers[behind + 1], &numbers[behind + 2..57])?;
+    if !are_zero(&numbers[58..63]) {
+        return None;
+    }
     let slot = ManifestSlot {
         number: numbers[1],
         first: Addr(numbers[2]),
@@ -52,8 +54,12 @@ fn manifest_of(numbers: &[u64]) -> Option<(Format, ManifestSlot)>
         points,
         checkpoint: checkpoint_of(format, numbers[1], numbers[behind]),
         lost,
+        begin: Addr(begin_of(format, numbers[57])),
     };
     if !is_held(format, &slot) || named_checkpoint(format, &slot) != numbers[behind] {
+        return None;
+    }
+    if named_begin(format, &slot) != numbers[57] {
         return None;
     }
     Some((format, slot))
@@ -65,16 +71,39 @@ fn checkpoint_of(format: Format, own: u64, named: u64) -> u64
 {
     match format {
         Format::First => own,
-        Format::Second | Format::Third => named,
+        Format::Second | Format::Third | Format::Fourth => named,
     }
 }
 
-/// The bytes of the slot in the newest format, the third, which can hold every slot.
+/// Where the log begins: in the first three formats at the first record, and else at the address that is named.
+fn begin_of(format: Format, named: u64) -> u64
+    ensures { result ≡ begin_of format named }
+{
+    match format {
+        Format::First | Format::Second | Format::Third => 1,
+        Format::Fourth => named,
+    }
+}
+
+/// The format in which the slot is written: the third as long as the log begins at its first record, and then the fourth.
+fn newest_format(slot: &ManifestSlot) -> Format
+    ensures format { result ≡ newest_format slot.now }
+    ensures held { IsTrue (is_held result slot.now) }
+{
+    if slot.begin.0 == 1 {
+        Format::Third
+    } else {
+        Format::Fourth
+    }
+}
+
+/// The bytes of the slot as it is written: in the third format as long as its log begins at the first record, and then in the
+/// fourth, which can hold every slot.
 pub fn write_newest_slot(slot: &ManifestSlot) -> [u8; 512]
-    ensures spelled { Some result ≡ manifest_bytes (Third, slot.now) }
+    ensures spelled { Some result ≡ manifest_bytes (newest_format slot.now, slot.now) }
     ensures said { result ≡ newest_bytes (said_in slot.now) }
 {
-    spell(&numbers_of(Format::Third, slot))
+    spell(&numbers_of(newest_format(slot), slot))
 }
 
 /// The bytes of the slot in the format, if that format can hold it.
@@ -97,6 +126,8 @@ fn numbers_of(format: Format, slot: &ManifestSlot) -> Numbers
     numbers.push(named_checkpoint(format, slot));
     numbers.push(slot.lost.ranges.len() as u64);
     push_ranges(&mut numbers, &slot.lost.ranges);
+    pad(&mut numbers, 57);
+    numbers.push(named_begin(format, slot));
     pad(&mut numbers, 63);
     numbers.push(format.number());
     numbers
@@ -111,9 +142,11 @@ fn is_held(format: Format, slot: &ManifestSlot) -> bool
             slot.points.serials.len() <= 8
                 && slot.checkpoint == slot.number
                 && slot.lost.ranges.is_empty()
+                && slot.begin.0 == 1
         }
-        Format::Second => slot.points.serials.len() <= 8,
-        Format::Third => true,
+        Format::Second => slot.points.serials.len() <= 8 && slot.begin.0 == 1,
+        Format::Third => slot.begin.0 == 1,
+        Format::Fourth => true,
     }
 }
 
@@ -123,7 +156,17 @@ fn named_checkpoint(format: Format, slot: &ManifestSlot) -> u64
 {
     match format {
         Format::First => 0,
-        Format::Second | Format::Third => slot.checkpoint,
+        Format::Second | Format::Third | Format::Fourth => slot.checkpoint,
+    }
+}
+
+/// What stands in the place of the begin: nothing in the first three formats.
+fn named_begin(format: Format, slot: &ManifestSlot) -> u64
+    ensures { result ≡ named_begin format slot.now }
+{
+    match format {
+        Format::First | Format::Second | Format::Third => 0,
+        Format::Fourth => slot.begin.0,
     }
 }
 

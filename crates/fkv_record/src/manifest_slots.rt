@@ -24,10 +24,13 @@ pub struct ManifestSlot {
     pub checkpoint: u64,
     /// Which records of the scan are lost.
     pub lost: LostRanges,
+    /// Where the log begins: the address 1, or the first one that wasn't given back.
+    pub begin: Addr,
     pub ghost number_fits: { number < 2 ^ 64 },
     pub ghost first_fits: { first.0 < 2 ^ 64 },
     pub ghost end_fits: { end.0 < 2 ^ 64 },
     pub ghost triples_fit: { triples < 2 ^ 64 },
     pub ghost area_fits: { area < 2 ^ 64 },
     pub ghost checkpoint_fits: { checkpoint < 2 ^ 64 },
+    pub ghost begin_fits: { begin.0 < 2 ^ 64 },
 }

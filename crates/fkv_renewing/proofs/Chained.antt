@@ -9,9 +9,11 @@ use Rattle.fkv_words.specs.Fields.{SpellsApart}
 use Rattle.fkv_record.specs.declared.lost_ranges.LostRange.{LostRange}
 use Rattle.fkv_record.specs.declared.records.Record.{Record}
 use Rattle.fkv_record.specs.declared.triples.Triple.{Triple}
+use Rattle.fkv_record.specs.Begin.{from_or_none}
 use Rattle.fkv_record.specs.Layout.{record_bytes}
+use Rattle.fkv_record.proofs.Shown.{from_first}
 use Rattle.fkv_scan.specs.Log.{Log, record_home}
-use Rattle.fkv_scan.specs.Records.{Stands, IsKept, version_of, losses, losses_of}
+use Rattle.fkv_scan.specs.Records.{Stands, next_of, IsKept, version_of, losses, losses_of}
 use Rattle.fkv_scan.specs.Scan.{GoesOn, by_triple, by_none, by_record, HasNone, HasScan, IsGreatest, IsLinked}
 use Rattle.fkv_chains.specs.Chains.{HasChains}
 use Rattle.fkv_chains.specs.Entries.{Counts}
@@ -58,6 +60,10 @@ module _ (spelled : SpellsApart record_bytes) (log : Log) (pairs : List (Key × 
 
   pub home_at : (c : ℕ) (is : IsAt log pairs c) → record_home log.shape.bucket_bits is.held ≡ key_home log.shape.bucket_bits is.pair.0
   home_at c is = home_is log.shape.bucket_bits is.held ∙ ap (λ (k : Key). key_home log.shape.bucket_bits k) is.is.key
+
+  -- its log begins at address 1, so a record leads where its header does
+  leads_on : (x : Record) → next_of log x ≡ x.header.previous.0
+  leads_on x = ap (λ (b : ℕ). from_or_none b x.header.previous.0) renewed.begin ∙ from_first x.header.previous.0
 
   pub unlost : (a : ℕ) (x : Record) → losses_of log a x ≡ 0
   unlost a x = subst (λ (ranges : List LostRange). losses ranges a (version_of log x) ≡ 0) (sym renewed.lost) (none_lose a (version_of log x))
@@ -117,14 +123,14 @@ module _ (spelled : SpellsApart record_bytes) (log : Log) (pairs : List (Key × 
   is_linked : (c : ℕ) (is : IsAt log pairs c) → 1 ≤ c → c < log.tail → IsLinked log c is.held
   is_linked c is some low = record {
     nearest = λ not_lost b greatest. (
-      nearest c is some low b greatest,
+      leads_on is.held ∙ nearest c is some low b greatest,
       λ y stands.
           let other = at b (let p : 1 ≤ b = omega (arith, greatest.from_on, renewed.start) in p) (let p : b < log.tail = omega (arith, greatest.below, low) in p) in
           let same : y ≡ other.held = one b y other.held stands other.stands in
           let version : version_of log y ≡ 1 = version_one y (ap (λ (x : Record). x.header.version.0) same ∙ other.is.version) in
           omega (arith, version, version_one is.held is.is.version),
     );
-    first = λ not_lost none. omega (arith, none_before c is some low none, renewed.start);
+    first = λ not_lost none. omega (arith, leads_on is.held, none_before c is some low none, renewed.start);
     lost = λ is_lost up. absurd (is_lost (unlost c is.held));
     below = λ low_enough q on. omega (arith, low_enough, renewed.start, on_zero (record_home log.shape.bucket_bits is.held) c q on);
   }
@@ -137,7 +143,7 @@ module _ (spelled : SpellsApart record_bytes) (log : Log) (pairs : List (Key × 
         let version = version_one is.held is.is.version in
         record {
           held = is.held;
-          fits = record { stands = is.stands; new_enough = omega (arith, version, renewed.oldest); old_enough = omega (arith, version); falls = omega (arith, is.is.leads.among, some) };
+          fits = record { stands = is.stands; new_enough = omega (arith, version, renewed.oldest); old_enough = omega (arith, version); falls = omega (arith, leads_on is.held, is.is.leads.among, some) };
           linked = λ valid. is_linked c is some low;
         };
     triples = λ i triple stands. absurd (no_triple log.triples i triple renewed.triples stands);
@@ -151,7 +157,7 @@ module _ (spelled : SpellsApart record_bytes) (log : Log) (pairs : List (Key × 
       let within = in_log b reached in
       let is = at b within.0 within.1 in
       let record_is : x ≡ is.held = one b x is.held stands is.stands in
-      let address : is.held.header.previous.0 ≡ a = ap (λ (y : Record). y.header.previous.0) (sym record_is) ∙ same in
+      let address : is.held.header.previous.0 ≡ a = sym (leads_on is.held) ∙ ap (λ (y : Record). next_of log y) (sym record_is) ∙ same in
       (omega (arith, some), omega (arith, address, is.is.leads.among, within.1))
 
   pub has_chains : HasChains log

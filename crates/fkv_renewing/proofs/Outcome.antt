@@ -17,6 +17,7 @@ use Rattle.fkv_creating.specs.Moments.{IsClearedFront, IsTornInFront}
 use Rattle.fkv_newest.specs.declared.newest_slots.Newest.{Newest}
 use Rattle.fkv_newest.specs.Newest.{IsStore, slot_place}
 use Rattle.fkv_opening.proofs.Shown.{Apart}
+use Rattle.fkv_record.proofs.Shown.{third_spelled}
 use Rattle.fkv_record.specs.declared.formats.Format.TheVariants.{Third}
 use Rattle.fkv_record.specs.Layout.{record_bytes, shape_bytes}
 use Rattle.fkv_record.specs.Manifest.{manifest_bytes, newest_bytes, said_in}
@@ -48,7 +49,7 @@ no_store image gate_0 gate_1 store = none_some (slot_place store.index) (sym (sh
 -- what is written over a cleared front, as the calls before it give it
 module _ (apart : Apart) (shape : Shape) (points its_points : List Serial) (pairs : List (Key × Value)) (n : Newest) (before old block log its_log slot : List ℕ) (place : ℕ) (the_points : its_points ≡ points)
     (renewed_so : IsRenewed shape its_points pairs n) (the_log : log ≡ its_log) (has_so : HasBytes shape.bucket_bits pairs its_log) (slots : HasSlots shape pairs) (its_front : old ≡ written before 0 (replicate 1536 0)) (its_block : block ≡ shape_bytes shape)
-    (its_place : place ≡ record_place shape 1) (its_slot : slot ≡ newest_bytes (said_in n.slot)) (spelled : Some slot ≡ manifest_bytes (Third, n.slot)) (some : AreSomePairs pairs) where
+    (its_place : place ≡ record_place shape 1) (its_slot : slot ≡ newest_bytes (said_in n.slot)) (some : AreSomePairs pairs) where
   renewed : IsRenewed shape points pairs n
   renewed = subst (λ (ps : List Serial). IsRenewed shape ps pairs n) the_points renewed_so
 
@@ -59,7 +60,7 @@ module _ (apart : Apart) (shape : Shape) (points its_points : List Serial) (pair
   clear = subst IsCleared (sym its_front) (cleared_by before)
 
   spelled_so : Some (newest_bytes (said_in n.slot)) ≡ manifest_bytes (Third, n.slot)
-  spelled_so = ap (λ (s : List ℕ). Some s) (sym its_slot) ∙ spelled
+  spelled_so = third_spelled n.slot renewed.slot.begin
 
   pub renewal : IsRenewal shape points pairs (filled old block place log slot)
   renewal =

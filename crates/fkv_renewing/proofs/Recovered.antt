@@ -38,6 +38,7 @@ module _ (apart : Apart) (image : List ℕ) (shape : Shape) (points : List Seria
   is_log = record {
     version = renewed.slot.number;
     oldest = oldest_most n.shape.class n.slot.checkpoint 1 (omega arith) (omega (arith, renewed.slot.checkpoint));
+    begin = renewed.slot.begin;
     start = renewed.slot.first;
     tail = renewed.slot.end;
     lost = renewed.slot.lost;
@@ -85,6 +86,7 @@ module _ (apart : Apart) (image : List ℕ) (shape : Shape) (points : List Seria
         record {
           its_shape = store.tells.shape ∙ sym (same_shape apart image n store.newest told its) ∙ renewed.its_shape;
           number = store.tells.number ∙ slot.number;
+          begin = ap (λ (a : Addr). a.0) store.tells.begin ∙ slot.begin;
           tail = ap (λ (a : Addr). a.0) store.tells.tail ∙ slot.end;
           its_points = λ session. ap (λ (ps : List Serial). point_at ps session) store.tells.points ∙ slot.points session;
           gate_0 = store.tells.gate_0 ∙ ap is_some (its.open_0 ∙ sym told.open_0 ∙ renewed.open_0);

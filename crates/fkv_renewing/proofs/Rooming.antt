@@ -66,7 +66,7 @@ module _ (spelled : SpellsApart record_bytes) (shape : Shape) (pairs : List (Key
   image = written [] (record_place shape 1) bytes
 
   log : Log
-  log = record { image = image; shape = shape; version = 1; oldest = 1; start = 1; tail = length pairs + 1; lost = []; triples = [] }
+  log = record { image = image; shape = shape; version = 1; oldest = 1; begin = 1; start = 1; tail = length pairs + 1; lost = []; triples = [] }
 
   stand : (i : ℕ) (x : Record) → slice_get records i ≡ Some x → record_bytes x ≡ bytes_at image (record_place shape (i + 1)) 24
   unfolding image bytes
@@ -76,7 +76,7 @@ module _ (spelled : SpellsApart record_bytes) (shape : Shape) (pairs : List (Key
 
   is_log : IsRenewedLog log pairs records
   unfolding log
-  is_log = record { version = refl; oldest = omega arith; start = refl; tail = refl; lost = refl; triples = refl; are_records = are; stand = stand }
+  is_log = record { version = refl; oldest = omega arith; begin = refl; start = refl; tail = refl; lost = refl; triples = refl; are_records = are; stand = stand }
 
   one_taken : (xs ys : List ℕ) → AreHomesOf shape.bucket_bits pairs xs → AreHomesOf shape.bucket_bits pairs ys → (b : ℕ) → taken xs b ≡ taken ys b
   unfolding log

@@ -15,6 +15,7 @@ pub suits_renewed : (shape : Shape) (points : List Serial) (pairs : List (Key ×
 suits_renewed shape points pairs slot renewed places = record {
   number = record { few = omega (arith, renewed.number); parity = ap (λ (m : ℕ). m % 2) renewed.number };
   log = record { some = omega (arith, renewed.first); upwards = omega (arith, renewed.first, renewed.end); on_disk = omega (arith, renewed.end, places) };
+  begin = record { some = omega (arith, renewed.begin); before_scan = omega (arith, renewed.begin, renewed.first); whole = λ specified. (renewed.begin, λ same. cc) };
   checkpoint = record {
     few = omega (arith, renewed.triples);
     area = omega (arith, renewed.area);

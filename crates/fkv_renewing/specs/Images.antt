@@ -25,6 +25,7 @@ pub record IsRenewedSlot (shape : Shape) (its_points : List Serial) (pairs : Lis
   pub points : (session : ℕ) → point_at slot.points.serials.items session ≡ point_at its_points session
   pub checkpoint : slot.checkpoint ≡ 1
   pub lost : slot.lost.ranges.items ≡ []
+  pub begin : slot.begin.0 ≡ 1
 
 -- A store of this shape is renewed: such a slot, in the third format, stands at index 1 as the newest, and it alone is open.
 pub record IsRenewed (shape : Shape) (points : List Serial) (pairs : List (Key × Value)) (n : Newest) : Type 0 where

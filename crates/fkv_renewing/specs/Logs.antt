@@ -11,6 +11,7 @@ use Rattle.fkv_renewing.specs.Records.{AreRecords}
 pub record IsRenewedLog (log : Log) (pairs : List (Key × Value)) (records : List Record) : Type 0 where
   pub version : log.version ≡ 1
   pub oldest : log.oldest ≤ 1
+  pub begin : log.begin ≡ 1
   pub start : log.start ≡ 1
   pub tail : log.tail ≡ length pairs + 1
   pub lost : log.lost ≡ []

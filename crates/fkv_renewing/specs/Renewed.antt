@@ -27,6 +27,7 @@ pub record AreSomePairs (pairs : List (Key × Value)) : Type 0 where
 pub record IsRenewedStore (shape : Shape) (points : List Serial) (pairs : List (Key × Value)) (log : Log) (store : Opened) : Type 0 where
   pub its_shape : store.shape ≡ shape
   pub number : store.number.0 ≡ 1
+  pub begin : store.begin.0 ≡ 1
   pub tail : store.tail.0 ≡ length pairs + 1
   pub its_points : (session : ℕ) → point_at store.points.items session ≡ point_at points session
   pub gate_0 : store.gates.0 ≡ false

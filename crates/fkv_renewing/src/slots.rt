@@ -65,6 +65,7 @@ fn renewed_slot(shape: Shape, points: &[Serial], pairs: &[(Key, Value)]) -> Mani
         lost: LostRanges {
             ranges: ArrayVec::new(),
         },
+        begin: Addr(1),
     }
 }
 

@@ -6,7 +6,7 @@ use Rattle.fkv_base.specs.declared.numbers.Addr.{Addr}
 use Rattle.fkv_record.specs.declared.records.Record.{Record}
 use Rattle.fkv_scan.specs.declared.home_scans.HomeScan.{HomeScan}
 use Rattle.fkv_scan.specs.Log.{Log, record_home}
-use Rattle.fkv_scan.specs.Records.{Stands, version_of, losses_of, IsValid, IsKept, IsCounted}
+use Rattle.fkv_scan.specs.Records.{Stands, next_of, version_of, losses_of, IsValid, IsKept, IsCounted}
 use Rattle.fkv_scan.specs.Scan.{HasNone, GoesOn, by_triple, by_none, by_record, IsLinked, IsFit}
 use Rattle.fkv_scan.specs.Scanned.{IsGreatestOf, IsUnmet}
 use Rattle.fkv_scan.specs.Known.{IsWay, Knows, KnowsOf}
@@ -104,43 +104,43 @@ module _ (log : Log) (addr : Addr) (x : Record) (from : log.start ≤ addr.0) (f
         let same : addr ≡ b = cc in
         ap (λ r. version_of log r) (alone y (subst (λ n. Stands log n.0 y) (sym same) stands))
 
-    new_is : (q : ℕ) → NewWay log its_home a q → x.header.previous.0 ≡ q
-    new_is q new = ap (λ r. r.header.previous.0) (sym (alone new.0 new.1.stands)) ∙ new.2
+    new_is : (q : ℕ) → NewWay log its_home a q → next_of log x ≡ q
+    new_is q new = ap (λ r. next_of log r) (sym (alone new.0 new.1.stands)) ∙ new.2
 
     -- a record that leads into the scan isn't the first of its home
-    not_first : log.start ≤ x.header.previous.0 → HasNone (IsValid log its_home) log.start a → (b : Bool) → b ≡ nat_lt 0 (losses_of log a x) → ⊥
+    not_first : log.start ≤ next_of log x → HasNone (IsValid log its_home) log.start a → (b : Bool) → b ≡ nat_lt 0 (losses_of log a x) → ⊥
     not_first high none true lost =
         let some = some_lost true lost refl in
         let there = linked.lost (λ is. omega (arith, some, is)) high in
-        none x.header.previous.0 there.0 high fits.falls there.1
+        none (next_of log x) there.0 high fits.falls there.1
     not_first high none false lost =
         let low = linked.first (none_lost false lost refl) (λ c y on below kept. none c y on below kept.here) in
         omega (arith, low, high)
 
-    way_within : (o : Option Addr) → IsWay log its_home a o → log.start ≤ x.header.previous.0 → IsWay log its_home (a + 1) o
+    way_within : (o : Option Addr) → IsWay log its_home a o → log.start ≤ next_of log x → IsWay log its_home (a + 1) o
     way_within None way high = absurd (not_first high way.1 (nat_lt 0 (losses_of log a x)) refl)
     way_within (Some w) way high = record {
       there = goes_on_more log its_home a w.0 way.there;
       alone = λ q goes. ⊎_elim (λ was. way.alone q was) (λ new. (let is = new_is q new in let small = new.3 in absurd (omega (arith, is, small, high)))) (goes_on_back log its_home a q goes);
     }
 
-    below_met : (small : Bool) → small ≡ nat_lt x.header.previous.0 log.start → IsWay log its_home (a + 1) (if small then Some x.header.previous else s.below)
+    below_met : (small : Bool) → small ≡ nat_lt (next_of log x) log.start → IsWay log its_home (a + 1) (if small then Some (record { 0 = next_of log x }) else s.below)
     below_met true is =
-        let e : nat_lt x.header.previous.0 log.start ≡ true = sym is in
-        let low : x.header.previous.0 < log.start = grind (arith, nat_tests, e) in
+        let e : nat_lt (next_of log x) log.start ≡ true = sym is in
+        let low : next_of log x < log.start = grind (arith, nat_tests, e) in
         record {
           there = by_record a x from (omega arith) here refl low;
           alone = λ q goes. ⊎_elim (λ was. sym (linked.below low q was)) (λ new. sym (new_is q new)) (goes_on_back log its_home a q goes);
         }
     below_met false is =
-        let e : nat_lt x.header.previous.0 log.start ≡ false = sym is in
+        let e : nat_lt (next_of log x) log.start ≡ false = sym is in
         way_within s.below knows.below (grind (arith, nat_tests, e))
 
-    pub knows_met : (is_lost : Bool) → is_lost ≡ nat_lt 0 (losses_of log a x) → Knows log its_home (a + 1) (met s addr x.header.previous (record { 0 = version_of log x }) is_lost log.start log.version)
+    pub knows_met : (is_lost : Bool) → is_lost ≡ nat_lt 0 (losses_of log a x) → Knows log its_home (a + 1) (met s addr (record { 0 = next_of log x }) (record { 0 = version_of log x }) is_lost log.start log.version)
     unfolding met
     knows_met is_lost lost = record {
       newest = newest_met is_lost (nat_lt log.version (version_of log x)) lost refl;
       last = last_met is_lost lost;
       version = version_met is_lost;
-      below = below_met (nat_lt x.header.previous.0 log.start) refl;
+      below = below_met (nat_lt (next_of log x) log.start) refl;
     }

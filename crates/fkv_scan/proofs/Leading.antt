@@ -15,41 +15,56 @@ use Rattle.fkv_scan.specs.Steps.{led}
 use Rattle.fkv_scan.proofs.Greatest.{at_or_below, below_or_not, none_at_start}
 use Rattle.fkv_scan.proofs.Keys.{got, kept_some, new_some, some_is}
 
--- one of the first so many triples leads to a home
-pub record IsLedBy (triples : List Triple) (start n h : ℕ) (s : HomeScan) : Type 0 where
+-- one of the first so many triples leads to a home, from the log's begin on
+pub record IsLedBy (triples : List Triple) (begin start n h : ℕ) (s : HomeScan) : Type 0 where
   pub place : ℕ
   pub triple : Triple
   pub below : place < n
   pub stands : slice_get triples place ≡ Some triple
   pub same : triple_home triple ≡ h
+  pub in_log : begin ≤ triple.addr.0
   pub tells : s ≡ led triple.addr start
 
 -- what the first so many triples tell
-pub record AreLedHomes (triples : List Triple) (start n : ℕ) (at : ℕ → Option HomeScan) : Type 0 where
-  pub each : (h : ℕ) (s : HomeScan) → at h ≡ Some s → IsLedBy triples start n h s
-  pub all : (j : ℕ) (triple : Triple) → j < n → slice_get triples j ≡ Some triple → is_some (at (triple_home triple)) ≡ true
+pub record AreLedHomes (triples : List Triple) (begin start n : ℕ) (at : ℕ → Option HomeScan) : Type 0 where
+  pub each : (h : ℕ) (s : HomeScan) → at h ≡ Some s → IsLedBy triples begin start n h s
+  pub all : (j : ℕ) (triple : Triple) → j < n → slice_get triples j ≡ Some triple → begin ≤ triple.addr.0 → is_some (at (triple_home triple)) ≡ true
 
-pub none_led : (triples : List Triple) (start : ℕ) (at : ℕ → Option HomeScan) → ((h : ℕ) → at h ≡ None) → AreLedHomes triples start 0 at
-none_led triples start at empty = record {
+pub none_led : (triples : List Triple) (begin start : ℕ) (at : ℕ → Option HomeScan) → ((h : ℕ) → at h ≡ None) → AreLedHomes triples begin start 0 at
+none_led triples begin start at empty = record {
   each = λ h s is. (let off : None ≡ Some s = sym (empty h) ∙ is in absurd (cc));
   all = λ j triple below. absurd (omega (arith, below));
 }
 
-led_more : (triples : List Triple) (start n h : ℕ) (s : HomeScan) → IsLedBy triples start n h s → IsLedBy triples start (n + 1) h s
-led_more triples start n h s by = record { place = by.place; triple = by.triple; below = (let low = by.below in omega (arith, low)); stands = by.stands; same = by.same; tells = by.tells }
+led_more : (triples : List Triple) (begin start n h : ℕ) (s : HomeScan) → IsLedBy triples begin start n h s → IsLedBy triples begin start (n + 1) h s
+led_more triples begin start n h s by =
+    record { place = by.place; triple = by.triple; below = (let low = by.below in omega (arith, low)); stands = by.stands; same = by.same; in_log = by.in_log; tells = by.tells }
 
-pub led_next : (triples : List Triple) (start n : ℕ) (at next : ℕ → Option HomeScan) (triple : Triple) (h : ℕ) (new : HomeScan) → AreLedHomes triples start n at → slice_get triples n ≡ Some triple → h ≡ triple_home triple
-    → new ≡ led triple.addr start → ((q : ℕ) → next q ≡ cond (is_eq (nat_cmp h q)) (Some new) (at q)) → AreLedHomes triples start (n + 1) next
-led_next triples start n at next triple h new so_far stands home_is new_is updates = record {
+-- the next triple, from the log's begin on
+pub led_next : (triples : List Triple) (begin start n : ℕ) (at next : ℕ → Option HomeScan) (triple : Triple) (h : ℕ) (new : HomeScan) → AreLedHomes triples begin start n at → slice_get triples n ≡ Some triple
+    → begin ≤ triple.addr.0 → h ≡ triple_home triple → new ≡ led triple.addr start → ((q : ℕ) → next q ≡ cond (is_eq (nat_cmp h q)) (Some new) (at q)) → AreLedHomes triples begin start (n + 1) next
+led_next triples begin start n at next triple h new so_far stands in_log home_is new_is updates = record {
   each = λ q s is. ⊎_elim
-      (λ this. record { place = n; triple = triple; below = omega arith; stands = stands; same = sym home_is ∙ this.0; tells = sym this.1 ∙ new_is })
-      (λ was. led_more triples start n q s (so_far.each q s was))
+      (λ this. record { place = n; triple = triple; below = omega arith; stands = stands; same = sym home_is ∙ this.0; in_log = in_log; tells = sym this.1 ∙ new_is })
+      (λ was. led_more triples begin start n q s (so_far.each q s was))
       (got h q new (at q) s (sym (updates q) ∙ is));
-  all = λ j other below its. ⊎_elim
-      (λ less. ap is_some (updates (triple_home other)) ∙ kept_some h (triple_home other) new (at (triple_home other)) (so_far.all j other less its))
+  all = λ j other below its its_in_log. ⊎_elim
+      (λ less. ap is_some (updates (triple_home other)) ∙ kept_some h (triple_home other) new (at (triple_home other)) (so_far.all j other less its its_in_log))
       (λ same.
       (let equal : triple ≡ other = some_is triple other (sym stands ∙ ap (λ k. slice_get triples k) (sym same) ∙ its) in
       ap is_some (updates (triple_home other)) ∙ new_some h (triple_home other) new (at (triple_home other)) (home_is ∙ ap triple_home equal)))
+      (at_or_below j n below);
+}
+
+-- one below it is none
+pub led_past : (triples : List Triple) (begin start n : ℕ) (at : ℕ → Option HomeScan) (triple : Triple) → AreLedHomes triples begin start n at → slice_get triples n ≡ Some triple
+    → triple.addr.0 < begin → AreLedHomes triples begin start (n + 1) at
+led_past triples begin start n at triple so_far stands low = record {
+  each = λ q s is. led_more triples begin start n q s (so_far.each q s is);
+  all = λ j other below its in_log. ⊎_elim (λ less. so_far.all j other less its in_log)
+      (λ same.
+      (let equal : triple ≡ other = some_is triple other (sym stands ∙ ap (λ k. slice_get triples k) (sym same) ∙ its) in
+      let addr : triple.addr.0 ≡ other.addr.0 = ap (λ (t : Triple). t.addr.0) equal in absurd (omega (arith, addr, low, in_log))))
       (at_or_below j n below);
 }
 
@@ -63,9 +78,9 @@ module _ (log : Log) (apart : AreApart log.triples) where
   nothing_met its_home q (by_record c x from below valid is small) = absurd (omega (arith, from, below))
 
   -- a home with a triple
-  module _ (its_home place : ℕ) (triple : Triple) (stands : slice_get log.triples place ≡ Some triple) (same : triple_home triple ≡ its_home) where
+  module _ (its_home place : ℕ) (triple : Triple) (stands : slice_get log.triples place ≡ Some triple) (same : triple_home triple ≡ its_home) (in_log : log.begin ≤ triple.addr.0) where
     its : HasTriple log its_home triple.addr.0
-    its = record { place = place; triple = triple; stands = stands; same = same; address = refl }
+    its = record { place = place; triple = triple; stands = stands; same = same; address = refl; in_log = in_log }
 
     alone : (q : ℕ) → HasTriple log its_home q → q ≡ triple.addr.0
     alone q other =
@@ -96,19 +111,19 @@ module _ (log : Log) (apart : AreApart log.triples) where
       below = way_led (nat_lt triple.addr.0 log.start) refl;
     }
 
-  knows_by : (its_home : ℕ) (s : HomeScan) → IsLedBy log.triples log.start (length log.triples) its_home s → Knows log its_home log.start s
-  knows_by its_home s by = subst (λ t. Knows log its_home log.start t) (sym by.tells) (knows_led its_home by.place by.triple by.stands by.same)
+  knows_by : (its_home : ℕ) (s : HomeScan) → IsLedBy log.triples log.begin log.start (length log.triples) its_home s → Knows log its_home log.start s
+  knows_by its_home s by = subst (λ t. Knows log its_home log.start t) (sym by.tells) (knows_led its_home by.place by.triple by.stands by.same by.in_log)
 
-  knows_at : (at : ℕ → Option HomeScan) → AreLedHomes log.triples log.start (length log.triples) at → (its_home : ℕ) (o : Option HomeScan) → at its_home ≡ o → KnowsOf log its_home log.start o
+  knows_at : (at : ℕ → Option HomeScan) → AreLedHomes log.triples log.begin log.start (length log.triples) at → (its_home : ℕ) (o : Option HomeScan) → at its_home ≡ o → KnowsOf log its_home log.start o
   knows_at at told its_home None is = record {
-    triples = λ addr t. (let has = told.all t.place t.triple (within t.place t.triple t.stands) t.stands in
+    triples = λ addr t. (let at_addr = t.address in let its_in_log = t.in_log in let has = told.all t.place t.triple (within t.place t.triple t.stands) t.stands (omega (arith, at_addr, its_in_log)) in
         let off : true ≡ false = sym has ∙ ap (λ h. is_some (at h)) t.same ∙ ap is_some is in cc);
     records = none_at_start (IsValid log its_home) log.start;
   }
   knows_at at told its_home (Some s) is = knows_by its_home s (told.each its_home s is)
 
   -- what all triples tell is what is known before the scan
-  pub knows_first : (at : ℕ → Option HomeScan) → AreLedHomes log.triples log.start (length log.triples) at → KnowsAll log log.start at
+  pub knows_first : (at : ℕ → Option HomeScan) → AreLedHomes log.triples log.begin log.start (length log.triples) at → KnowsAll log log.start at
   knows_first at told its_home = knows_at at told its_home (at its_home) refl
 
 -- one triple more

@@ -6,7 +6,7 @@ use Rattle.fkv_base.specs.declared.numbers.Addr.{Addr}
 use Rattle.fkv_record.specs.declared.records.Record.{Record}
 use Rattle.fkv_scan.specs.declared.home_scans.HomeScan.{HomeScan}
 use Rattle.fkv_scan.specs.Log.{Log, record_home}
-use Rattle.fkv_scan.specs.Records.{Stands, version_of, losses_of, IsValid, IsKept}
+use Rattle.fkv_scan.specs.Records.{Stands, next_of, version_of, losses_of, IsValid, IsKept}
 use Rattle.fkv_scan.specs.Scan.{HasNone, Has, IsGreatest, GoesOn, IsLinked}
 use Rattle.fkv_scan.specs.Scanned.{IsGreatestOf}
 use Rattle.fkv_scan.specs.Known.{IsWay, Knows}
@@ -53,7 +53,10 @@ module _ (log : Log) (a : ℕ) (x : Record) where
   its_home = record_home log.shape.bucket_bits x
 
   abbrev pub previous : ℕ
-  previous = x.header.previous.0
+  previous = next_of log x
+
+  abbrev pub previous_addr : Addr
+  previous_addr = record { 0 = next_of log x }
 
   -- the address below the start
   way_is : (o : Option Addr) → IsWay log its_home a o → is_way o previous ≡ true → (q : ℕ) → GoesOn log its_home a q → previous ≡ q
@@ -73,15 +76,15 @@ module _ (log : Log) (a : ℕ) (x : Record) where
   first_is_not None last is = absurd (cc)
   first_is_not (Some b) last is = (b.0, last)
 
-  next_is : (o : Option Addr) (version : ℕ) → IsGreatestOf (IsKept log its_home) log.start a o → is_next o version x.header.previous (version_of log x) ≡ true
-      → IsGreatest (IsKept log its_home) log.start a previous × (o ≡ Some x.header.previous) × (version ≤ version_of log x)
+  next_is : (o : Option Addr) (version : ℕ) → IsGreatestOf (IsKept log its_home) log.start a o → is_next o version previous_addr (version_of log x) ≡ true
+      → IsGreatest (IsKept log its_home) log.start a previous × (o ≡ Some previous_addr) × (version ≤ version_of log x)
   next_is None version last is = absurd (cc)
   next_is (Some b) version last is =
       let parts = both (b.0 == previous) (nat_le version (version_of log x)) is in
       let same = same_of b.0 previous parts.0 in
-      (subst (λ n. IsGreatest (IsKept log its_home) log.start a n) same last, ap Some (addr_same b x.header.previous same), at_most_of version (version_of log x) parts.1)
+      (subst (λ n. IsGreatest (IsKept log its_home) log.start a n) same last, ap Some (addr_same b previous_addr same), at_most_of version (version_of log x) parts.1)
 
-  next_is_not : (o : Option Addr) (version : ℕ) → IsGreatestOf (IsKept log its_home) log.start a o → is_next o version x.header.previous (version_of log x) ≡ false
+  next_is_not : (o : Option Addr) (version : ℕ) → IsGreatestOf (IsKept log its_home) log.start a o → is_next o version previous_addr (version_of log x) ≡ false
       → HasNone (IsKept log its_home) log.start a ⊎ ((b : Addr) × (o ≡ Some b) × IsGreatest (IsKept log its_home) log.start a b.0 × ((previous ≢ b.0) ⊎ (version_of log x < version)))
   next_is_not None version last is = inl last
   next_is_not (Some b) version last is = inr (
@@ -116,7 +119,7 @@ module _ (log : Log) (a : ℕ) (x : Record) where
       below = λ small. absurd (omega (arith, small, high));
     }
 
-    linked_within : losses_of log a x ≡ 0 → log.start ≤ previous → is_next s.last s.last_version.0 x.header.previous (version_of log x) ≡ true → IsLinked log a x
+    linked_within : losses_of log a x ≡ 0 → log.start ≤ previous → is_next s.last s.last_version.0 previous_addr (version_of log x) ≡ true → IsLinked log a x
     linked_within not_lost high next =
         let is = next_is s.last s.last_version.0 knows.last next in
         record {
@@ -124,7 +127,7 @@ module _ (log : Log) (a : ℕ) (x : Record) where
               let same = greatest_same (IsKept log its_home) log.start a previous b is.0 greatest in (
                 same,
                 λ y stands.
-                    let known = knows.version x.header.previous y is.1 (subst (λ n. Stands log n y) (sym same) stands) in
+                    let known = knows.version previous_addr y is.1 (subst (λ n. Stands log n y) (sym same) stands) in
                     let most = is.2 in
                     omega (arith, known, most),
               );
@@ -149,7 +152,7 @@ module _ (log : Log) (a : ℕ) (x : Record) where
             let from = b.1.from_on in
             omega (arith, same, from, low)
 
-    off_within : losses_of log a x ≡ 0 → log.start ≤ previous → is_next s.last s.last_version.0 x.header.previous (version_of log x) ≡ false → IsLinked log a x → ⊥
+    off_within : losses_of log a x ≡ 0 → log.start ≤ previous → is_next s.last s.last_version.0 previous_addr (version_of log x) ≡ false → IsLinked log a x → ⊥
     off_within not_lost high next linked =
         ⊎_elim (λ none. (let low = linked.first not_lost none in omega (arith, low, high)))
         (λ some.
@@ -162,7 +165,7 @@ module _ (log : Log) (a : ℕ) (x : Record) where
     abbrev pub Leads : Bool → Type 0
     Leads is_lost = is_lost ≡ true → log.start ≤ previous → (leads ≡ true) ↔ Has (IsValid log its_home) previous
 
-    decided_within : (is_lost : Bool) → is_lost ≡ nat_lt 0 (losses_of log a x) → Leads is_lost → log.start ≤ previous → (answer : Bool) → (if is_lost then leads else is_next s.last s.last_version.0 x.header.previous (version_of log x)) ≡ answer
+    decided_within : (is_lost : Bool) → is_lost ≡ nat_lt 0 (losses_of log a x) → Leads is_lost → log.start ≤ previous → (answer : Bool) → (if is_lost then leads else is_next s.last s.last_version.0 previous_addr (version_of log x)) ≡ answer
         → ((answer ≡ true → IsLinked log a x) × (answer ≡ false → IsLinked log a x → ⊥))
     decided_within true lost leading high answer is =
         let some : losses_of log a x ≢ 0 = (let t = less_of 0 (losses_of log a x) (sym lost) in omega (arith, t)) in (
@@ -174,7 +177,7 @@ module _ (log : Log) (a : ℕ) (x : Record) where
         (λ yes. linked_within none high (is ∙ yes), λ no linked. off_within none high (is ∙ no) linked)
 
     decided : (is_lost : Bool) → is_lost ≡ nat_lt 0 (losses_of log a x) → Leads is_lost → (small : Bool) → nat_lt previous log.start ≡ small → (answer : Bool)
-        → (if small then is_way s.below previous && (is_lost || is_first s.last) else if is_lost then leads else is_next s.last s.last_version.0 x.header.previous (version_of log x)) ≡ answer
+        → (if small then is_way s.below previous && (is_lost || is_first s.last) else if is_lost then leads else is_next s.last s.last_version.0 previous_addr (version_of log x)) ≡ answer
         → ((answer ≡ true → IsLinked log a x) × (answer ≡ false → IsLinked log a x → ⊥))
     decided is_lost lost leading true low answer is = (
       λ yes. (let parts = both (is_way s.below previous) (is_lost || is_first s.last) (is ∙ yes) in linked_below is_lost lost (less_of previous log.start low) parts.0 parts.1),
@@ -183,10 +186,10 @@ module _ (log : Log) (a : ℕ) (x : Record) where
     decided is_lost lost leading false high answer is = decided_within is_lost lost leading (not_less_of previous log.start high) answer is
 
     -- the test says whether the record is linked
-    pub links_is : (is_lost : Bool) → is_lost ≡ nat_lt 0 (losses_of log a x) → Leads is_lost → links s x.header.previous (version_of log x) is_lost leads log.start ≡ true → IsLinked log a x
+    pub links_is : (is_lost : Bool) → is_lost ≡ nat_lt 0 (losses_of log a x) → Leads is_lost → links s previous_addr (version_of log x) is_lost leads log.start ≡ true → IsLinked log a x
     unfolding links
-    links_is is_lost lost leading on = (decided is_lost lost leading (nat_lt previous log.start) refl (links s x.header.previous (version_of log x) is_lost leads log.start) refl).0 on
+    links_is is_lost lost leading on = (decided is_lost lost leading (nat_lt previous log.start) refl (links s previous_addr (version_of log x) is_lost leads log.start) refl).0 on
 
-    pub links_is_not : (is_lost : Bool) → is_lost ≡ nat_lt 0 (losses_of log a x) → Leads is_lost → links s x.header.previous (version_of log x) is_lost leads log.start ≡ false → IsLinked log a x → ⊥
+    pub links_is_not : (is_lost : Bool) → is_lost ≡ nat_lt 0 (losses_of log a x) → Leads is_lost → links s previous_addr (version_of log x) is_lost leads log.start ≡ false → IsLinked log a x → ⊥
     unfolding links
-    links_is_not is_lost lost leading off = (decided is_lost lost leading (nat_lt previous log.start) refl (links s x.header.previous (version_of log x) is_lost leads log.start) refl).1 off
+    links_is_not is_lost lost leading off = (decided is_lost lost leading (nat_lt previous log.start) refl (links s previous_addr (version_of log x) is_lost leads log.start) refl).1 off

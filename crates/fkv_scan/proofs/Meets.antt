@@ -6,13 +6,13 @@ use Rattle.fkv_disk.specs.Device.{Rose}
 use Rattle.fkv_record.specs.declared.records.Record.{Record}
 use Rattle.fkv_scan.specs.declared.met_records.MetRecord.{MetRecord}
 use Rattle.fkv_scan.specs.Log.{Log, record_home}
-use Rattle.fkv_scan.specs.Records.{Stands, version_of, IsNewer}
+use Rattle.fkv_scan.specs.Records.{Stands, next_of, version_of, IsNewer}
 use Rattle.fkv_scan.specs.Scan.{Has, IsFit}
 use Rattle.fkv_scan.specs.Parts.{Tells, IsGivenUp}
 use Rattle.fkv_scan.proofs.Standing.{AreRead, stands_read, alone_read}
 
 module _ (log : Log) (a : ℕ) (read : Option Record) (reads : AreRead log a read) (x : Record) (is : read ≡ Some x) (version least : ℕ)
-    (told : version ≡ version_of log x) (oldest_is : least ≡ log.oldest) (new_enough : least ≤ version) (old_enough : version ≤ log.version + 1) (falls : x.header.previous.0 < a) where
+    (told : version ≡ version_of log x) (oldest_is : least ≡ log.oldest) (new_enough : least ≤ version) (old_enough : version ≤ log.version + 1) (falls : next_of log x < a) where
   is_fit : IsFit log a x
   is_fit = record { stands = stands_read log a read reads x is; new_enough = omega (arith, told, oldest_is, new_enough); old_enough = omega (arith, told, old_enough); falls = falls }
 
@@ -21,7 +21,7 @@ module _ (log : Log) (a : ℕ) (read : Option Record) (reads : AreRead log a rea
   given_up invalid = record { held = x; fits = is_fit; alone = λ y stands. alone_read log a read reads x y is stands; invalid = invalid }
 
   -- a valid one
-  pub is_valid : log.start ≤ a → x.header.invalid ≡ false → (m : MetRecord) → m.addr.0 ≡ a → m.home ≡ record_home log.shape.bucket_bits x → m.previous ≡ x.header.previous → m.version.0 ≡ version
+  pub is_valid : log.start ≤ a → x.header.invalid ≡ false → (m : MetRecord) → m.addr.0 ≡ a → m.home ≡ record_home log.shape.bucket_bits x → m.previous.0 ≡ next_of log x → m.version.0 ≡ version
       → (m.addr.0 ≡ a) × Tells log m
   is_valid from valid m at home previous its_version = (
     at,

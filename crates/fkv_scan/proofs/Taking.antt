@@ -8,7 +8,7 @@ use Rattle.fkv_record.specs.declared.records.Record.{Record}
 use Rattle.fkv_scan.specs.declared.home_scans.HomeScan.{HomeScan}
 use Rattle.fkv_scan.specs.declared.met_records.MetRecord.{MetRecord}
 use Rattle.fkv_scan.specs.Log.{Log, record_home}
-use Rattle.fkv_scan.specs.Records.{version_of, losses, losses_of, IsValid}
+use Rattle.fkv_scan.specs.Records.{next_of, version_of, losses, losses_of, IsValid}
 use Rattle.fkv_scan.specs.Scan.{Has, IsLinked}
 use Rattle.fkv_scan.specs.Known.{Knows, KnowsOf}
 use Rattle.fkv_scan.specs.Parts.{Tells, IsTakenIn}
@@ -34,15 +34,21 @@ module _ (log : Log) (m : MetRecord) (tells : Tells log m) (at : ℕ → Option 
   version_is : m.version ≡ record { 0 = version_of log x }
   version_is = ap (λ n. record { 0 = n }) tells.version
 
+  abbrev previous_addr : Addr
+  previous_addr = record { 0 = next_of log x }
+
+  previous_is : m.previous ≡ previous_addr
+  previous_is = ap (λ n. record { 0 = n }) tells.previous
+
   knowing : Knows log own m.addr.0 known
   knowing = subst (λ h. Knows log h m.addr.0 known) tells.home (knows_or log m.home m.addr.0 (at m.home) knows)
 
-  leading_too : is_lost ≡ true → log.start ≤ x.header.previous.0 → (leads ≡ true) ↔ Has (IsValid log own) x.header.previous.0
-  leading_too = subst (λ (p : Addr). is_lost ≡ true → log.start ≤ p.0 → (leads ≡ true) ↔ Has (IsValid log own) p.0) tells.previous
+  leading_too : is_lost ≡ true → log.start ≤ next_of log x → (leads ≡ true) ↔ Has (IsValid log own) (next_of log x)
+  leading_too = subst (λ n. is_lost ≡ true → log.start ≤ n → (leads ≡ true) ↔ Has (IsValid log own) n) tells.previous
       (subst (λ n. is_lost ≡ true → log.start ≤ m.previous.0 → (leads ≡ true) ↔ Has (IsValid log n) m.previous.0) tells.home leading)
 
-  links_too : links known x.header.previous (version_of log x) is_lost leads log.start ≡ links known m.previous m.version.0 is_lost leads log.start
-  links_too = ap (λ (p : Addr). links known p (version_of log x) is_lost leads log.start) (sym tells.previous) ∙ ap (λ n. links known m.previous n is_lost leads log.start) (sym tells.version)
+  links_too : links known previous_addr (version_of log x) is_lost leads log.start ≡ links known m.previous m.version.0 is_lost leads log.start
+  links_too = ap (λ (p : Addr). links known p (version_of log x) is_lost leads log.start) (sym previous_is) ∙ ap (λ n. links known m.previous n is_lost leads log.start) (sym tells.version)
 
   taken_on : links known m.previous m.version.0 is_lost leads log.start ≡ true → IsLinked log m.addr.0 x
   taken_on on = links_is log m.addr.0 x known leads knowing is_lost lost_too leading_too (links_too ∙ on)
@@ -51,8 +57,8 @@ module _ (log : Log) (m : MetRecord) (tells : Tells log m) (at : ℕ → Option 
   known_on on =
       let of_record = knows_met log m.addr x tells.from_start tells.fits tells.alone tells.valid (taken_on on) known knowing is_lost lost_too in
       subst (λ h. Knows log h (m.addr.0 + 1) (met known m.addr m.previous m.version is_lost log.start log.version)) (sym tells.home)
-      (subst (λ (p : Addr). Knows log own (m.addr.0 + 1) (met known m.addr p m.version is_lost log.start log.version)) (sym tells.previous)
-      (subst (λ (v : Version). Knows log own (m.addr.0 + 1) (met known m.addr x.header.previous v is_lost log.start log.version)) (sym version_is) of_record))
+      (subst (λ (p : Addr). Knows log own (m.addr.0 + 1) (met known m.addr p m.version is_lost log.start log.version)) (sym previous_is)
+      (subst (λ (v : Version). Knows log own (m.addr.0 + 1) (met known m.addr previous_addr v is_lost log.start log.version)) (sym version_is) of_record))
 
   -- whether it is on its chain, with what is known then
   pub taken_in : (next : ℕ → Option HomeScan) (linked : Bool) → linked ≡ links known m.previous m.version.0 is_lost leads log.start

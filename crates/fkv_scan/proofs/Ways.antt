@@ -3,7 +3,7 @@ use Rattle.std.proofs.Common.{◌≡◌, ◌⊎◌, inl, inr, ⊎_elim, ℕ, ◌
 use Rattle.fkv_base.specs.declared.numbers.Addr.{Addr}
 use Rattle.fkv_record.specs.declared.records.Record.{Record}
 use Rattle.fkv_scan.specs.Log.{Log}
-use Rattle.fkv_scan.specs.Records.{IsValid}
+use Rattle.fkv_scan.specs.Records.{next_of, IsValid}
 use Rattle.fkv_scan.specs.Scan.{GoesOn, by_triple, by_none, by_record}
 use Rattle.fkv_scan.specs.Known.{IsWay}
 use Rattle.fkv_scan.proofs.Greatest.{at_or_below, none_more}
@@ -17,9 +17,9 @@ module _ (log : Log) (its_home : ℕ) where
 
   -- the one record more that may tell of it
   abbrev pub NewWay : ℕ → ℕ → Type 0
-  NewWay a q = (x : Record) × IsValid log its_home a x × (x.header.previous.0 ≡ q) × (q < log.start)
+  NewWay a q = (x : Record) × IsValid log its_home a x × (next_of log x ≡ q) × (q < log.start)
 
-  goes_by : (a q c : ℕ) (x : Record) → log.start ≤ c → IsValid log its_home c x → x.header.previous.0 ≡ q → q < log.start → (c < a) ⊎ (c ≡ a) → GoesOn log its_home a q ⊎ NewWay a q
+  goes_by : (a q c : ℕ) (x : Record) → log.start ≤ c → IsValid log its_home c x → next_of log x ≡ q → q < log.start → (c < a) ⊎ (c ≡ a) → GoesOn log its_home a q ⊎ NewWay a q
   goes_by a q c x from valid is small (inl less) = inl (by_record c x from less valid is small)
   goes_by a q c x from valid is small (inr same) = inr (x, subst (λ n. IsValid log its_home n x) same valid, is, small)
 

@@ -12,7 +12,7 @@ use Rattle.fkv_scan.specs.declared.gathering.Gathered.{Gathered}
 use Rattle.fkv_scan.specs.declared.home_scans.HomeScan.{HomeScan}
 use Rattle.fkv_scan.specs.declared.met_records.MetRecord.{MetRecord}
 use Rattle.fkv_scan.specs.Log.{Log, record_home}
-use Rattle.fkv_scan.specs.Records.{Stands, version_of, IsNewer}
+use Rattle.fkv_scan.specs.Records.{Stands, next_of, version_of, IsNewer}
 use Rattle.fkv_scan.specs.Scan.{Has, HasNone, IsFit, IsOff, IsScanned}
 use Rattle.fkv_scan.specs.Known.{KnowsOf, KnowsAll}
 
@@ -24,7 +24,7 @@ pub record Tells (log : Log) (m : MetRecord) : Type 0 where
   pub alone : (y : Record) → Stands log m.addr.0 y → y ≡ held
   pub valid : (let x = held in x.header.invalid ≡ false)
   pub home : m.home ≡ record_home log.shape.bucket_bits held
-  pub previous : (let x = held in m.previous ≡ x.header.previous)
+  pub previous : m.previous.0 ≡ next_of log held
   pub version : m.version.0 ≡ version_of log held
 
 -- a record that was given up stands at the address

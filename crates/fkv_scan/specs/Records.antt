@@ -4,6 +4,7 @@ use Rattle.fkv_marks.specs.Window.{version_in}
 use Rattle.fkv_disk.specs.Bytes.{bytes_at}
 use Rattle.fkv_record.specs.declared.lost_ranges.LostRange.{LostRange}
 use Rattle.fkv_record.specs.declared.records.Record.{Record}
+use Rattle.fkv_record.specs.Begin.{from_or_none}
 use Rattle.fkv_record.specs.Layout.{record_bytes}
 use Rattle.fkv_record.specs.Places.{record_place}
 use Rattle.fkv_scan.specs.Log.{Log, record_home}
@@ -11,6 +12,10 @@ use Rattle.fkv_scan.specs.Log.{Log, record_home}
 -- the bytes at this address spell this record
 abbrev pub Stands : Log → ℕ → Record → Type 0
 Stands log a x = record_bytes x ≡ bytes_at log.image (record_place log.shape a) 24
+
+-- where a record leads: to the address in its header, or nowhere where that lies below the log's begin
+abbrev pub next_of : Log → Record → ℕ
+next_of log x = from_or_none log.begin x.header.previous.0
 
 -- the version of a record of the scan: what the mark in its header is read as
 abbrev pub version_of : Log → Record → ℕ

@@ -6,7 +6,7 @@ use Rattle.fkv_base.specs.declared.faults.Damage.TheVariants.{Record as of_recor
 use Rattle.fkv_record.specs.declared.records.Record.{Record}
 use Rattle.fkv_record.specs.declared.triples.Triple.{Triple}
 use Rattle.fkv_scan.specs.Log.{Log, record_home, triple_home, HasTriple, HasNoTriple}
-use Rattle.fkv_scan.specs.Records.{Stands, version_of, losses_of, IsValid, IsKept}
+use Rattle.fkv_scan.specs.Records.{Stands, next_of, version_of, losses_of, IsValid, IsKept}
 
 -- some record at the address has P
 abbrev pub Has : (ℕ → Record → Type 0) → ℕ → Type 0
@@ -24,27 +24,27 @@ pub record IsGreatest (P : ℕ → Record → Type 0) (from to a : ℕ) : Type 0
   pub none_above : HasNone P (a + 1) to
 
 -- Where the chain of a home goes on below the scan's start, by the records below an address: at the address of the home's triple, if that lies below the
--- start; nowhere, if the home has no triple; and at the previous address of each valid record of the home, if that lies below the start.
+-- start; nowhere, if the home has no triple; and where each valid record of the home leads, if that lies below the start.
 pub data GoesOn (log : Log) (its_home to : ℕ) (q : ℕ) : Type 0 where
   by_triple : HasTriple log its_home q → q < log.start → GoesOn log its_home to q
   by_none : HasNoTriple log its_home → q ≡ 0 → GoesOn log its_home to q
-  by_record : (c : ℕ) (x : Record) → log.start ≤ c → c < to → IsValid log its_home c x → x.header.previous.0 ≡ q → q < log.start → GoesOn log its_home to q
+  by_record : (c : ℕ) (x : Record) → log.start ≤ c → c < to → IsValid log its_home c x → next_of log x ≡ q → q < log.start → GoesOn log its_home to q
 
 -- A valid record that isn't lost leads to the nearest of its home that isn't lost either, whose version isn't above its own, and where there is none below
 -- the start. A lost one leads to a valid record of its home, or below the start. All that lead below the start lead to where the chain of the home goes on.
 pub record IsLinked (log : Log) (a : ℕ) (x : Record) : Type 0 where
   pub nearest : losses_of log a x ≡ 0 → (b : ℕ) → IsGreatest (IsKept log (record_home log.shape.bucket_bits x)) log.start a b
-      → (x.header.previous.0 ≡ b) × ((y : Record) → Stands log b y → version_of log y ≤ version_of log x)
-  pub first : losses_of log a x ≡ 0 → HasNone (IsKept log (record_home log.shape.bucket_bits x)) log.start a → x.header.previous.0 < log.start
-  pub lost : losses_of log a x ≢ 0 → log.start ≤ x.header.previous.0 → Has (IsValid log (record_home log.shape.bucket_bits x)) x.header.previous.0
-  pub below : x.header.previous.0 < log.start → (q : ℕ) → GoesOn log (record_home log.shape.bucket_bits x) a q → x.header.previous.0 ≡ q
+      → (next_of log x ≡ b) × ((y : Record) → Stands log b y → version_of log y ≤ version_of log x)
+  pub first : losses_of log a x ≡ 0 → HasNone (IsKept log (record_home log.shape.bucket_bits x)) log.start a → next_of log x < log.start
+  pub lost : losses_of log a x ≢ 0 → log.start ≤ next_of log x → Has (IsValid log (record_home log.shape.bucket_bits x)) (next_of log x)
+  pub below : next_of log x < log.start → (q : ℕ) → GoesOn log (record_home log.shape.bucket_bits x) a q → next_of log x ≡ q
 
 -- the bytes at an address spell a record that leads below it, of a version from the oldest one up to the next commit's
 pub record IsFit (log : Log) (a : ℕ) (x : Record) : Type 0 where
   pub stands : Stands log a x
   pub new_enough : log.oldest ≤ version_of log x
   pub old_enough : version_of log x ≤ log.version + 1
-  pub falls : x.header.previous.0 < a
+  pub falls : next_of log x < a
 
 -- a record of the scan is as it should be
 pub record IsScanned (log : Log) (a : ℕ) : Type 0 where

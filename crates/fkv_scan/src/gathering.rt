@@ -12,7 +12,7 @@ use crate::readings::record_at;
 use fkv_base::{Addr, Fault, Shape};
 use fkv_disk::Device;
 use fkv_marks::{oldest, version_in};
-use fkv_record::ManifestSlot;
+use fkv_record::{ManifestSlot, from_or_none};
 use std::alloc::Global;
 
 /// What is found at an address of the scan.
@@ -59,7 +59,8 @@ fn found_at<D: Device>(
     if version.0 < oldest(shape.class, slot.checkpoint) || version.0 > slot.number + 1 {
         return Ok(Found::Unfit);
     }
-    if found.header.previous.0 >= addr.0 {
+    let previous = from_or_none(slot.begin, found.header.previous);
+    if previous.0 >= addr.0 {
         return Ok(Found::Unfit);
     }
     if found.header.invalid {
@@ -68,7 +69,7 @@ fn found_at<D: Device>(
     Ok(Found::Valid(MetRecord {
         home: record_home(&found, shape.bucket_bits),
         addr,
-        previous: found.header.previous,
+        previous,
         version,
     }))
 }

@@ -8,7 +8,7 @@ use fkv_base::{Addr, Version};
 pub(crate) struct MetRecord {
     pub home: u64,
     pub addr: Addr,
-    /// Where the record leads.
+    /// Where the record leads, or address 0 where that lies below the log's begin.
     pub previous: Addr,
     /// The version as which its mark is read.
     pub version: Version,

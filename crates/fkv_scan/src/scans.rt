@@ -33,20 +33,23 @@ pub struct Scanned {
     pub newer: bool,
 }
 
-/// What the triples tell of the homes.
+/// What the triples tell of the homes. A triple below the log's begin is none.
 fn led_homes(
     alloc: Global,
+    slot: &ManifestSlot,
     triples: &[Triple],
-    start: Addr,
 ) -> Result<BTreeMap<u64, HomeScan>, Fault>
     requires { AreApart triples.now }
-    ensures ok { (image : List ℕ) (shape : Shape) (slot : ManifestSlot) → slot.first ≡ start → IfOk result (λ homes. KnowsAll (log_in image shape slot triples.now) slot.first.0 (get nat_cmp homes)) }
+    ensures ok { (image : List ℕ) (shape : Shape) → IfOk result (λ homes. KnowsAll (log_in image shape slot.now triples.now) slot.now.first.0 (get nat_cmp homes)) }
     ensures err { OnErr result (result ≡ Err Memory) }
 {
     let mut homes = BTreeMap::new(alloc);
     for i in 0..triples.len() {
         let triple = triples[i];
-        homes.insert(triple_home(&triple), HomeScan::led(triple.addr, start))?;
+        if triple.addr.0 < slot.begin.0 {
+            continue;
+        }
+        homes.insert(triple_home(&triple), HomeScan::led(triple.addr, slot.first))?;
     }
     Ok(homes)
 }
@@ -140,7 +143,7 @@ pub fn scan<D: Device>(
     ensures quiet { IsQuiet D.honest D.seen D.may_leave D.moment D.left_since D.failed d.old d.new }
     ensures reads { OnlyReads D.refuses D.expects d.old d.new }
 {
-    let mut homes = led_homes(alloc, triples, slot.first)?;
+    let mut homes = led_homes(alloc, slot, triples)?;
     let newer = match meet_all(alloc, d, shape, slot, &mut homes) {
         Ok(newer) => newer,
         Err(fault) => return Err(fault),

@@ -44,7 +44,7 @@ use Rattle.fkv_session.specs.declared.sessions.Sitting.TheVariants.{Idle, Attemp
 use Rattle.fkv_session.specs.CatchingUp.{catch_ask, catch_requests}
 use Rattle.fkv_session.specs.InOrder.{Exchange, loaded_last, IsTakenUp}
 use Rattle.fkv_session.specs.OwnTurns.{own_turn_given}
-use Rattle.fkv_session.specs.Sessions.{SessionState, Seat, bits_of, room_of, is_busy, answers, refuses, answers_after_turn, ticket_after, request_in_hand, attempts, polls_request, polls_at, refusal_of, op_begun, refresh_call, poll_begun, poll_call, sleep_call, wake_call, call_begun, attempt_left, serial_taken, update_done, is_no_room, with_request, accepts, shifts, attempted, attempt_ledto, catch_ledto, clear_ledto, is_finished, is_owed, request_finished, lacks_room, finishes_request, keeps_request, poll_ledto, turn_ledto, leave_ledto, attempt_moved, caught, own_turn_moved, sitting_ask, sitting_next, sitting_given}
+use Rattle.fkv_session.specs.Sessions.{SessionState, Seat, bits_of, room_of, is_busy, answers, refuses, answers_after_turn, ticket_after, request_in_hand, attempts, polls_request, polls_at, refusal_of, op_begun, refresh_call, poll_begun, poll_call, sleep_call, wake_call, call_begun, attempt_left, poll_left, serial_taken, update_done, is_no_room, with_request, accepts, shifts, attempted, attempt_ledto, catch_ledto, clear_ledto, is_finished, is_owed, request_finished, lacks_room, finishes_request, keeps_request, poll_ledto, turn_ledto, leave_ledto, attempt_moved, caught, own_turn_moved, sitting_ask, sitting_next, sitting_given}
 use Rattle.fkv_session.specs.Shares.{HasItsBuckets}
 use Rattle.fkv_session.specs.TrueAnswers.{trial_of, IsPhaseSeen}
 use Rattle.fkv_session.proofs.CallTries.{LastTry, HasAwaited, HasShifted, SomeTry, TryEnded, AttemptAt, AttemptNow, AttemptEnd, begun_ran, ended_true, more_last, attempt_goes, HasRefreshed, has_refreshed, more_refreshed}
@@ -89,16 +89,16 @@ end_at c asked p n a step its at done e = absurd (not_done (attempting_ask p n a
 module _ (k : Seat) (buckets : HasItsBuckets k) (was : Seen) (called : Option Call) where
   -- where a call ends
   pub data EndKnown (asked : List Exchange) (s : SessionState) (its : Told) : Type 0 where
-    ByOp : called ≡ Some (call.Op s.op) → OpKnown (trial_of k buckets s.seen s.op) asked its → EndKnown asked s its
+    ByOp : called ≡ Some (call.Op s.op) → OpKnown (trial_of k buckets s.seen s.floor s.op) asked its → EndKnown asked s its
     ByOther : (other : Call) → called ≡ Some other → OtherKnown k was asked s other its → EndKnown asked s its
 
   -- a turn keeps what its call is answered behind it
   abbrev pub StepKnown : List Exchange → SessionState → Sitting → Type 0
   StepKnown asked s (Idle its) = ⊤
-  StepKnown asked s (Attempts has_shifted) = (called ≡ Some (call.Op s.op)) × AttemptRestsOrAsks s.attempt × AttemptNow (trial_of k buckets s.seen s.op) asked s.attempt × (has_shifted ≡ true → HasRefreshed asked)
+  StepKnown asked s (Attempts has_shifted) = (called ≡ Some (call.Op s.op)) × AttemptRestsOrAsks s.attempt × AttemptNow (trial_of k buckets s.seen s.floor s.op) asked s.attempt × (has_shifted ≡ true → HasRefreshed asked)
   StepKnown asked s (CatchesUp Shifts) = (called ≡ Some (call.Op s.op)) × PhaseNow s.seen asked s.catching
   StepKnown asked s (CatchesUp cause) = (called ≡ Some (call_of cause)) × (s.seen ≡ was) × PhaseNow s.seen asked s.catching
-  StepKnown asked s (Turns (told.Pending serial why)) = (called ≡ Some (call.Op s.op)) × (is_read s.op ≡ false) × LastTry (trial_of k buckets s.seen s.op) asked why
+  StepKnown asked s (Turns (told.Pending serial why)) = (called ≡ Some (call.Op s.op)) × (is_read s.op ≡ false) × LastTry (trial_of k buckets s.seen s.floor s.op) asked why
   StepKnown asked s (Turns (told.Polled left)) = called ≡ Some call.Poll
   StepKnown asked s (Turns its) = ⊥
   StepKnown asked s StoresCut = called ≡ Some call.Sleep
@@ -131,7 +131,7 @@ module _ (k : Seat) (buckets : HasItsBuckets k) (was : Seen) (called : Option Ca
   either true asked one other known known_other = known
   either false asked one other known known_other = known_other
 
-  turn_waits : (asked : List Exchange) (s : SessionState) (serial : Serial) (why : Reason) → called ≡ Some (call.Op s.op) → is_read s.op ≡ false → LastTry (trial_of k buckets s.seen s.op) asked why → KnownAfter asked (answers_after_turn s (told.Pending serial why))
+  turn_waits : (asked : List Exchange) (s : SessionState) (serial : Serial) (why : Reason) → called ≡ Some (call.Op s.op) → is_read s.op ≡ false → LastTry (trial_of k buckets s.seen s.floor s.op) asked why → KnownAfter asked (answers_after_turn s (told.Pending serial why))
   turn_waits asked s serial why op update last = either s.wants_turn asked _ (answers s (told.Pending serial why)) (op, update, last) (ByOp op (update, last))
 
   turn_polled : (asked : List Exchange) (s : SessionState) (left : ℕ) → called ≡ Some call.Poll → KnownAfter asked (answers_after_turn s (told.Polled left))
@@ -140,7 +140,7 @@ module _ (k : Seat) (buckets : HasItsBuckets k) (was : Seen) (called : Option Ca
   attempts_known : (asked : List Exchange) (s : SessionState) (has_shifted : Bool) → called ≡ Some (call.Op s.op) → (has_shifted ≡ true → HasRefreshed asked) → KnownAfter asked (attempts k s has_shifted)
   unfolding attempts
   attempts_known asked s has_shifted op has =
-      (op, attempt_begun_rests k.places (bits_of k) (request_in_hand s) s.seen (AtCall (bounds_of k.shape)) s.spare s.is_orphaned, begun_ran (trial_of k buckets s.seen s.op) asked s.spare, has)
+      (op, attempt_begun_rests k.places (bits_of k) (request_in_hand s) s.seen (AtCall (bounds_of k.shape)) s.spare s.is_orphaned, begun_ran (trial_of k buckets s.seen s.floor s.op) asked s.spare, has)
 
   found_known : (asked : List Exchange) (s : SessionState) (i : ℕ) (found : Option PendingRequest) → called ≡ Some call.Poll → KnownAfter asked (polls_request k s i found)
   found_known asked s i None poll = turn_polled asked s (length s.requests) poll
@@ -151,7 +151,7 @@ module _ (k : Seat) (buckets : HasItsBuckets k) (was : Seen) (called : Option Ca
   polls_known asked s i poll = found_known asked s i (slice_get s.requests i) poll
 
   -- what an attempt at a call leads to
-  accepts_known : (asked : List Exchange) (s : SessionState) (why : Reason) → called ≡ Some (call.Op s.op) → LastTry (trial_of k buckets s.seen s.op) asked why → KnownAfter asked (accepts s why)
+  accepts_known : (asked : List Exchange) (s : SessionState) (why : Reason) → called ≡ Some (call.Op s.op) → LastTry (trial_of k buckets s.seen s.floor s.op) asked why → KnownAfter asked (accepts s why)
   unfolding accepts
   accepts_known asked s why op last = tested (is_read s.op) refl
     where
@@ -161,7 +161,7 @@ module _ (k : Seat) (buckets : HasItsBuckets k) (was : Seen) (called : Option Ca
       tested true e = ByOp op (e, record { why = why; last = last })
       tested false e = turn_waits asked (with_request (serial_taken (record s { wants_turn = is_no_room why }))) (record { 0 = s.serial + 1 }) why op e last
 
-  shifts_known : (asked : List Exchange) (s : SessionState) (has_shifted : Bool) → called ≡ Some (call.Op s.op) → (has_shifted ≡ true → HasRefreshed asked) → TryEnded (trial_of k buckets s.seen s.op) asked tried.Shift → KnownAfter asked (shifts s has_shifted)
+  shifts_known : (asked : List Exchange) (s : SessionState) (has_shifted : Bool) → called ≡ Some (call.Op s.op) → (has_shifted ≡ true → HasRefreshed asked) → TryEnded (trial_of k buckets s.seen s.floor s.op) asked tried.Shift → KnownAfter asked (shifts s has_shifted)
   unfolding shifts
   shifts_known asked s false op has ended = (op, refresh_now s.seen asked s.catching s.serial)
   shifts_known asked s true op has ended = accepts_known asked s reason.Contended op (HasShifted refl ended (has refl))
@@ -176,8 +176,8 @@ module _ (k : Seat) (buckets : HasItsBuckets k) (was : Seen) (called : Option Ca
           never e = cc
       tested false e = ByOp op update
 
-  attempted_known : (asked : List Exchange) (s : SessionState) (has_shifted : Bool) (its : TryAnswer) → called ≡ Some (call.Op s.op) → (has_shifted ≡ true → HasRefreshed asked) → AttemptEnd (trial_of k buckets s.seen s.op) asked its → KnownAfter asked (attempted s has_shifted its)
-  attempted_known asked s has_shifted (tried.Done its) op has end = done_known asked s its op (ended_true (trial_of k buckets s.seen s.op) asked (tried.Done its) end)
+  attempted_known : (asked : List Exchange) (s : SessionState) (has_shifted : Bool) (its : TryAnswer) → called ≡ Some (call.Op s.op) → (has_shifted ≡ true → HasRefreshed asked) → AttemptEnd (trial_of k buckets s.seen s.floor s.op) asked its → KnownAfter asked (attempted s has_shifted its)
+  attempted_known asked s has_shifted (tried.Done its) op has end = done_known asked s its op (ended_true (trial_of k buckets s.seen s.floor s.op) asked (tried.Done its) end)
   attempted_known asked s has_shifted (tried.Found value) op has end = ByOp op end
   attempted_known asked s has_shifted tried.Absent op has end = ByOp op end
   attempted_known asked s has_shifted (tried.Wait why) op has end = accepts_known asked s why op end
@@ -191,7 +191,7 @@ module _ (k : Seat) (buckets : HasItsBuckets k) (was : Seen) (called : Option Ca
   unfolding attempt_ledto
   attempt_known asked s has_shifted (Done its) e known asks =
       attempted_known asked (attempt_left s) has_shifted its known.0 known.3
-      (end_at (trial_of k buckets s.seen s.op) asked k.places k.number s.attempt s.attempt.step its known.2 (attempt_done k.places k.number s.attempt known.1) asks)
+      (end_at (trial_of k buckets s.seen s.floor s.op) asked k.places k.number s.attempt s.attempt.step its known.2 (attempt_done k.places k.number s.attempt known.1) asks)
   attempt_known asked s has_shifted ask e known asks = still asked s (Attempts has_shifted) e refl known
 
   -- catching up
@@ -231,7 +231,7 @@ module _ (k : Seat) (buckets : HasItsBuckets k) (was : Seen) (called : Option Ca
   poll_known : (asked : List Exchange) (s : SessionState) (i : ℕ) (ask : Ask TryAnswer) → s.step ≡ Polls i → called ≡ Some call.Poll → KnownAfter asked (poll_ledto k s i ask)
   unfolding poll_ledto
   poll_known asked s i (Done its) e poll =
-      either (is_finished its) asked (finishes_request k (attempt_left s) i its) (keeps_request k (attempt_left s) i its) (finishes_known asked (attempt_left s) i its poll) (keeps_known asked (attempt_left s) i its poll)
+      either (is_finished its) asked (finishes_request k (poll_left s) i its) (keeps_request k (poll_left s) i its) (finishes_known asked (poll_left s) i its poll) (keeps_known asked (poll_left s) i its poll)
   poll_known asked s i ask e poll = still asked s (Polls i) e refl poll
 
   -- turns and sleep
@@ -243,7 +243,7 @@ module _ (k : Seat) (buckets : HasItsBuckets k) (was : Seen) (called : Option Ca
   turned_known asked s its ask e known = still asked s (Turns its) e refl known
 
   more_turned : (asked : List Exchange) (it : Exchange) (s : SessionState) (its : Told) → StepKnown asked s (Turns its) → StepKnown (it ∷ asked) s (Turns its)
-  more_turned asked it s (told.Pending serial why) known = (known.0, known.1, more_last (trial_of k buckets s.seen s.op) asked it why known.2)
+  more_turned asked it s (told.Pending serial why) known = (known.0, known.1, more_last (trial_of k buckets s.seen s.floor s.op) asked it why known.2)
   more_turned asked it s (told.Polled left) known = known
   more_turned asked it s its known = absurd known
 
@@ -274,7 +274,7 @@ module _ (k : Seat) (buckets : HasItsBuckets k) (was : Seen) (called : Option Ca
       attempt_known (with_ask s (Attempts has_shifted) reply asked) (attempt_moved k t reply) has_shifted _ e (
         known.0,
         attempt_rests k.places (bits_of k) (room_of k) k.number s.attempt reply known.1,
-        attempt_goes k buckets s.seen s.op asked s.attempt s.attempt.step reply refl known.2,
+        attempt_goes k buckets s.seen s.floor s.op asked s.attempt s.attempt.step reply refl known.2,
         λ shifted. more_refreshed asked _ (known.3 shifted),
       ) refl
   next_known asked s asks (CatchesUp cause) reply e busy known =

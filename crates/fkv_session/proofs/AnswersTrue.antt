@@ -125,7 +125,7 @@ op_of_call k opening (event ∷ before) = after_alike (session_run k opening bef
 
 -- an operation's answer
 pub run_true : (k : Seat) (buckets : HasItsBuckets k) (opening : SessionState) (event : SessionEvent) (before : List SessionEvent) (its : Told) (op : Op) → IsOpened opening → Ends k opening event before its → op_called k opening (event ∷ before) ≡ Some op
-    → IsTrueOf (trial_of k buckets (session_run k opening (event ∷ before)).seen op) (told_in (asked_in_call k opening (event ∷ before))) its
+    → IsTrueOf (trial_of k buckets (session_run k opening (event ∷ before)).seen (session_run k opening (event ∷ before)).floor op) (told_in (asked_in_call k opening (event ∷ before))) its
 run_true k buckets opening event before its op opened ends called = by_end (run_ends k buckets opening event before its opened ends)
   where
     s : SessionState
@@ -144,10 +144,10 @@ run_true k buckets opening event before its op opened ends called = by_end (run_
     no_other (call.Op it) known e = known
     no_other other known e = cc
 
-    by_end : EndKnown k buckets (before_call k opening (event ∷ before)).seen begun asked s its → IsTrueOf (trial_of k buckets s.seen op) (told_in asked) its
+    by_end : EndKnown k buckets (before_call k opening (event ∷ before)).seen begun asked s its → IsTrueOf (trial_of k buckets s.seen s.floor op) (told_in asked) its
     by_end (ByOp e known) =
         let same : s.op ≡ op = (let there = op_there e in cc) in
-        subst (λ (x : Op). IsTrueOf (trial_of k buckets s.seen x) (told_in asked) its) same (known_true (trial_of k buckets s.seen s.op) asked its known)
+        subst (λ (x : Op). IsTrueOf (trial_of k buckets s.seen s.floor x) (told_in asked) its) same (known_true (trial_of k buckets s.seen s.floor s.op) asked its known)
     by_end (ByOther other e known) = absurd (no_other other known (op_there e))
 
 -- an answer is of its call's kind
@@ -170,7 +170,7 @@ other_kind k was asked s call.Poll (told.Polled left) known = tt
 other_kind k was asked s other its known = absurd known
 
 end_kind : (k : Seat) (buckets : HasItsBuckets k) (was : Seen) (called : Option Call) (asked : List Exchange) (s : SessionState) (its : Told) → EndKnown k buckets was called asked s its → IsAnswerTo called its
-end_kind k buckets was called asked s its (ByOp e known) = subst (λ (x : Option Call). IsAnswerTo x its) (sym e) (op_kind (trial_of k buckets s.seen s.op) asked its known)
+end_kind k buckets was called asked s its (ByOp e known) = subst (λ (x : Option Call). IsAnswerTo x its) (sym e) (op_kind (trial_of k buckets s.seen s.floor s.op) asked its known)
 end_kind k buckets was called asked s its (ByOther other e known) = subst (λ (x : Option Call). IsAnswerTo x its) (sym e) (other_kind k was asked s other its known)
 
 pub run_kind : (k : Seat) (buckets : HasItsBuckets k) (opening : SessionState) (event : SessionEvent) (before : List SessionEvent) (its : Told) → IsOpened opening → Ends k opening event before its
@@ -181,7 +181,7 @@ run_kind k buckets opening event before its opened ends =
 -- a refresh, a wake, and what is durable
 other_so : {P : Type 0} (k : Seat) (buckets : HasItsBuckets k) (was : Seen) (called : Option Call) (asked : List Exchange) (s : SessionState) (its : Told) → ((c : Trial) → OpKnown c asked its → ⊥) → ((other : Call) → OtherKnown k was asked s other its → P)
     → EndKnown k buckets was called asked s its → P
-other_so k buckets was called asked s its none by_call (ByOp e known) = absurd (none (trial_of k buckets s.seen s.op) known)
+other_so k buckets was called asked s its none by_call (ByOp e known) = absurd (none (trial_of k buckets s.seen s.floor s.op) known)
 other_so k buckets was called asked s its none by_call (ByOther other e known) = by_call other known
 
 refreshed_so : (k : Seat) (was : Seen) (asked : List Exchange) (s : SessionState) (phase : Phase) (version : Version) (other : Call) → OtherKnown k was asked s other (told.Refreshed phase version)

@@ -34,7 +34,7 @@ use Rattle.fkv_session.specs.declared.sessions.Sitting.TheVariants.{Idle, Attemp
 use Rattle.fkv_session.specs.Asleep.{IsAsleep}
 use Rattle.fkv_session.specs.CatchingUp.{CatchState, latched, latch_marked, catching_requests}
 use Rattle.fkv_session.specs.OwnTurns.{own_turn_given}
-use Rattle.fkv_session.specs.Sessions.{SessionState, Seat, is_busy, answers, refuses, answers_after_turn, ticket_after, attempts, polls_request, polls_at, refusal_of, op_begun, refresh_call, poll_begun, poll_call, sleep_call, wake_call, call_begun, attempt_left, serial_taken, update_done, is_no_room, with_request, accepts, shifts, attempted, attempt_ledto, catch_ledto, clear_ledto, is_finished, is_owed, request_finished, finishes_request, keeps_request, poll_ledto, turn_ledto, leave_ledto, attempt_moved, caught, own_turn_moved, sitting_next, sitting_given, asks_after, is_word_ask, session_ask, IsOpened}
+use Rattle.fkv_session.specs.Sessions.{SessionState, Seat, is_busy, answers, refuses, answers_after_turn, ticket_after, attempts, polls_request, polls_at, refusal_of, op_begun, refresh_call, poll_begun, poll_call, sleep_call, wake_call, call_begun, attempt_left, poll_left, serial_taken, update_done, is_no_room, with_request, accepts, shifts, attempted, attempt_ledto, catch_ledto, clear_ledto, is_finished, is_owed, request_finished, finishes_request, keeps_request, poll_ledto, turn_ledto, leave_ledto, attempt_moved, caught, own_turn_moved, sitting_next, sitting_given, asks_after, is_word_ask, session_ask, IsOpened}
 use Rattle.fkv_session.specs.SessionRun.{SessionEvent, Begins, Replies, Gets, begins, session_happens, session_run}
 
 -- where it may sleep nothing waits, and elsewhere it is awake
@@ -128,7 +128,7 @@ keeps_sound k s i its awake = polls_sound k _ (i + 1) awake
 
 poll_sound : (k : Seat) (s : SessionState) (i : ℕ) (ask : Ask TryAnswer) → s.step ≡ Polls i → s.is_awake ≡ true → IsSoundNow (poll_ledto k s i ask)
 unfolding poll_ledto
-poll_sound k s i (Done its) e awake = either_sound (is_finished its) _ (keeps_request k (attempt_left s) i its) (finishes_sound k (attempt_left s) i its awake) (keeps_sound k (attempt_left s) i its awake)
+poll_sound k s i (Done its) e awake = either_sound (is_finished its) _ (keeps_request k (poll_left s) i its) (finishes_sound k (poll_left s) i its awake) (keeps_sound k (poll_left s) i its awake)
 poll_sound k s i ask e awake = still s (Polls i) e awake
 
 turned_sound : (s : SessionState) (its : Told) (ask : Ask (Unit {0})) → s.step ≡ Turns its → s.is_awake ≡ true → IsSoundNow (turn_ledto s its ask)

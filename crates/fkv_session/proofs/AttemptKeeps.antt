@@ -19,12 +19,14 @@ use Rattle.fkv_pending.specs.declared.mailing.MailAnswer.{MailAnswer}
 use Rattle.fkv_pending.specs.declared.mailing.MailAnswer.TheVariants as mail
 use Rattle.fkv_pending.specs.declared.mailing.MailRecord.{MailRecord}
 use Rattle.fkv_pending.specs.declared.pending_requests.PendingRequest.{PendingRequest}
-use Rattle.fkv_pending.specs.Mailing.{mail_ask, mail_next}
-use Rattle.fkv_pending.specs.Pending.{with_sought, with_held, with_latch, with_asked}
-use Rattle.fkv_pending.specs.Attempting.{AttemptState, is_seeking_read, puts_addr, puts, goes_on, attempt_begun, record_taken, read_on, moved_on, held_of, held_kept, not_ready, look_ledto, awaits_record, tried, try_ledto, put_ledto, mail_moved, try_moved, attempting_next, attempt_next, new_attempt}
+use Rattle.fkv_pending.specs.Mailing.{mail_ask, mail_next, is_gone, begin_told}
+use Rattle.fkv_pending.specs.Pending.{with_sought, with_held, with_latch, with_asked, without_gone}
+use Rattle.fkv_pending.specs.Attempting.{AttemptState, is_seeking_read, puts_addr, puts, goes_on, attempt_begun, record_taken, read_on, moved_on, held_of, held_kept, not_ready, look_ledto, awaits_record, tried, try_ledto, put_ledto, mail_moved, try_moved, attempting_next, attempt_next, new_attempt, goes_anew, mail_taken}
 use Rattle.fkv_ops.specs.declared.requests.Occasion.{Occasion}
 use Rattle.fkv_ops.specs.declared.requests.Seen.{Seen}
 use Rattle.fkv_session.proofs.Requests.{IsSameRequest}
+use Rattle.fkv_ops.specs.Requests.{is_chain_end}
+use Rattle.fkv_base.specs.declared.numbers.Addr.{Addr}
 
 sought_same : (p o : PendingRequest) (sought : Option DiskRecord) → IsSameRequest p o → IsSameRequest (with_sought p sought) o
 unfolding with_sought
@@ -41,6 +43,10 @@ latch_same p o latch same = record { name = same.name; op = same.op; version = s
 asked_same : (p o : PendingRequest) (asked : Bool) → IsSameRequest p o → IsSameRequest (with_asked p asked) o
 unfolding with_asked
 asked_same p o asked same = record { name = same.name; op = same.op; version = same.version }
+
+gone_same : (p o : PendingRequest) (begin : Addr) → IsSameRequest p o → IsSameRequest (without_gone p begin) o
+unfolding without_gone
+gone_same p o begin same = record { name = same.name; op = same.op; version = same.version }
 
 puts_same : (a : AttemptState) (o : PendingRequest) (sought : Option DiskRecord) → IsSameRequest a.pending o → IsSameRequest (puts_addr a sought).pending o
 puts_same a o None same = same
@@ -59,11 +65,16 @@ read_same a its (Says previous version) o same =
     let sought : Option DiskRecord = moved_on a.pending.sought previous in
     let moved : PendingRequest = with_sought a.pending sought in
     either_same (its.key.0 == (key_of a.pending.request.op).0) _ _ o same
-    (either_same (previous.0 == 0) _ _ o same (puts_same (record a { pending = moved }) o moved.sought (sought_same a.pending o sought same)))
+    (either_same (is_chain_end a.pending.request.floor previous) _ _ o same (puts_same (record a { pending = moved }) o moved.sought (sought_same a.pending o sought same)))
 
 taken_same : (p : Places) (bits : ℕ) (a : AttemptState) (its : MailRecord) (said : HeaderSaid) (o : PendingRequest) → IsSameRequest a.pending o → IsSameRequest (record_taken p bits a its said).pending o
 taken_same p bits a its said o same =
     either_same (is_seeking_read a) (read_on a its said) _ o (read_same a its said o same) (held_same a.pending o (held_of a.pending.sought its said) same)
+
+mail_same : (p : Places) (bits : ℕ) (a : AttemptState) (its : MailRecord) (o : PendingRequest) → IsSameRequest a.pending o → IsSameRequest (mail_taken p bits a its).pending o
+mail_same p bits a its o same =
+    let gone = gone_same a.pending o (begin_told its) same in
+    either_same (is_gone its) (goes_anew p bits a (begin_told its)) (record_taken p bits a its (header_said its.header)) o (either_same (is_seeking_read a) _ _ o gone gone) (taken_same p bits a its (header_said its.header) o same)
 
 waits_same : (p : Places) (bits : ℕ) (a : AttemptState) (o : PendingRequest) → IsSameRequest a.pending o → IsSameRequest (not_ready p bits a).pending o
 waits_same p bits a o same = either_same (is_seeking_read a) _ _ o same same
@@ -71,7 +82,7 @@ waits_same p bits a o same = either_same (is_seeking_read a) _ _ o same same
 look_same : (p : Places) (bits : ℕ) (a : AttemptState) (ask : Ask MailAnswer) (o : PendingRequest) → IsSameRequest a.pending o → IsSameRequest (look_ledto p bits a ask).pending o
 unfolding look_ledto
 look_same p bits a (Done (mail.Taken its)) o same =
-    taken_same p bits (record a { is_emptied = true; pending = with_asked a.pending false }) its (header_said its.header) o (asked_same a.pending o false same)
+    mail_same p bits (record a { is_emptied = true; pending = with_asked a.pending false }) its o (asked_same a.pending o false same)
 look_same p bits a (Done mail.NotReady) o same = waits_same p bits a o same
 look_same p bits a (Done mail.Occupied) o same = waits_same p bits a o same
 look_same p bits a (Done mail.Asked) o same = waits_same p bits a o same

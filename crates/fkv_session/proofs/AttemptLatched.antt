@@ -14,7 +14,7 @@ use Rattle.fkv_ops.specs.declared.requests.Occasion.{Occasion}
 use Rattle.fkv_ops.specs.declared.requests.Request.{Request}
 use Rattle.fkv_ops.specs.declared.requests.Seen.{Seen}
 use Rattle.fkv_ops.specs.HeaderWords.{header_said}
-use Rattle.fkv_ops.specs.Requests.{is_read}
+use Rattle.fkv_ops.specs.Requests.{is_read, is_chain_end}
 use Rattle.fkv_ops.specs.Trying.{TryState, try_ask, try_next, told_value, is_wait, is_prepare}
 use Rattle.fkv_ops.specs.Values.{value_of}
 use Rattle.fkv_ops.proofs.Shown.{IsTrying, begun_trying, next_trying, ended_keeps}
@@ -24,12 +24,14 @@ use Rattle.fkv_pending.specs.declared.mailing.MailAnswer.{MailAnswer}
 use Rattle.fkv_pending.specs.declared.mailing.MailAnswer.TheVariants as mail
 use Rattle.fkv_pending.specs.declared.mailing.MailRecord.{MailRecord}
 use Rattle.fkv_pending.specs.declared.pending_requests.PendingRequest.{PendingRequest}
-use Rattle.fkv_pending.specs.Pending.{with_sought, with_held, with_latch, with_asked}
-use Rattle.fkv_pending.specs.Attempting.{AttemptState, is_seeking_read, attempt_ended, waits_for_disk, puts_addr, puts, tries, goes_on, attempt_begun, read_on, moved_on, held_of, held_kept, look_ledto, tried, try_ledto, put_ledto, mail_moved, try_moved, attempting_next, attempt_next, new_attempt}
+use Rattle.fkv_pending.specs.Pending.{with_sought, with_held, with_latch, with_asked, without_gone}
+use Rattle.fkv_pending.specs.Attempting.{AttemptState, is_seeking_read, attempt_ended, waits_for_disk, puts_addr, puts, tries, goes_on, attempt_begun, read_on, moved_on, held_of, held_kept, look_ledto, tried, try_ledto, put_ledto, mail_moved, try_moved, attempting_next, attempt_next, new_attempt, goes_anew, record_taken}
 use Rattle.fkv_session.specs.Sessions.{Seat, bits_of, room_of}
 use Rattle.fkv_session.specs.Shares.{HasItsBuckets}
 use Rattle.fkv_session.proofs.AttemptShares.{trial_at}
 use Rattle.fkv_session.proofs.AttemptMade.{read_of}
+use Rattle.fkv_base.specs.declared.numbers.Addr.{Addr}
+use Rattle.fkv_pending.specs.Mailing.{is_gone, begin_told}
 
 -- a try by what the session has seen
 pub record IsTryIn (k : Seat) (its : HasItsBuckets k) (seen : Seen) (op : Op) (t : TryState) : Type 0 where
@@ -96,6 +98,10 @@ asked_has : (seen : Seen) (p : PendingRequest) (asked : Bool) → HasIt seen p �
 unfolding with_asked
 asked_has seen p asked has = has
 
+gone_read : (p : PendingRequest) (begin : Addr) → is_read p.request.op ≡ true → is_read (without_gone p begin).request.op ≡ true
+unfolding without_gone
+gone_read p begin read = read
+
 read_in : (k : Seat) (its : HasItsBuckets k) (seen : Seen) (a : AttemptState) (mail : MailRecord) (said : HeaderSaid) → is_read a.pending.request.op ≡ true → InLatch k its seen (read_on a mail said)
 read_in k its seen a mail Spoiled read = puts_in k its seen a a.pending.sought (of_read seen a.pending read)
 read_in k its seen a mail (Says previous version) read =
@@ -103,16 +109,23 @@ read_in k its seen a mail (Says previous version) read =
     let moved : AttemptState = record a { pending = next } in
     let found : AttemptState = attempt_ended a (told_value (value_of mail.value)) in
     let absent : AttemptState = attempt_ended a answer.Absent in
-    either_in (mail.key.0 == (key_of a.pending.request.op).0) k its seen found (if previous.0 == 0 then absent else puts moved) (λ e. λ waits. of_read seen a.pending read)
-    (either_in (previous.0 == 0) k its seen absent (puts moved) (λ e. λ waits. of_read seen a.pending read) (puts_in k its seen moved next.sought (of_read seen next (sought_read a.pending (moved_on a.pending.sought previous) read))))
+    either_in (mail.key.0 == (key_of a.pending.request.op).0) k its seen found (if is_chain_end a.pending.request.floor previous then absent else puts moved) (λ e. λ waits. of_read seen a.pending read)
+    (either_in (is_chain_end a.pending.request.floor previous) k its seen absent (puts moved) (λ e. λ waits. of_read seen a.pending read) (puts_in k its seen moved next.sought (of_read seen next (sought_read a.pending (moved_on a.pending.sought previous) read))))
+
+gone_in : (k : Seat) (its : HasItsBuckets k) (seen : Seen) (a : AttemptState) (begin : Addr) → a.seen ≡ seen → InLatch k its seen (goes_anew k.places (bits_of k) a begin)
+gone_in k its seen a begin same =
+    let next : PendingRequest = without_gone a.pending begin in
+    let anew : AttemptState = record a { pending = next } in
+    either_in (is_seeking_read a) k its seen (waits_for_disk anew) (tries k.places (bits_of k) anew) (λ read. λ waits. of_read seen next (gone_read a.pending begin (read_of a read))) (tries_in k its seen anew same)
 
 look_in : (k : Seat) (its : HasItsBuckets k) (seen : Seen) (a : AttemptState) (ask : Ask MailAnswer) → a.step ≡ Looks → a.seen ≡ seen → InLatch k its seen (look_ledto k.places (bits_of k) a ask)
 unfolding look_ledto
 look_in k its seen a (Done (mail.Taken it)) s same =
     let emptied : AttemptState = record a { is_emptied = true; pending = with_asked a.pending false } in
     let holding : AttemptState = record emptied { pending = with_held emptied.pending (held_of emptied.pending.sought it (header_said it.header)) } in
-    either_in (is_seeking_read emptied) k its seen (read_on emptied it (header_said it.header)) (tries k.places (bits_of k) holding)
-    (λ read. read_in k its seen emptied it (header_said it.header) (read_of emptied read)) (tries_in k its seen holding same)
+    either_in (is_gone it) k its seen (goes_anew k.places (bits_of k) emptied (begin_told it)) (record_taken k.places (bits_of k) emptied it (header_said it.header)) (λ gone. gone_in k its seen emptied (begin_told it) same)
+    (either_in (is_seeking_read emptied) k its seen (read_on emptied it (header_said it.header)) (tries k.places (bits_of k) holding)
+    (λ read. read_in k its seen emptied it (header_said it.header) (read_of emptied read)) (tries_in k its seen holding same))
 look_in k its seen a (Done other) s same =
     either_in (is_seeking_read a) k its seen (waits_for_disk a) (tries k.places (bits_of k) a) (λ read. λ waits. of_read seen a.pending (read_of a read)) (tries_in k its seen a same)
 look_in k its seen a ask s same = still_in k its seen a Looks s same

@@ -20,7 +20,7 @@ use Rattle.fkv_ops.specs.HeaderWords.{header_said}
 use Rattle.fkv_ops.specs.declared.trying.Trying.{Trying}
 use Rattle.fkv_ops.specs.declared.trying.Trying.TheVariants as try
 use Rattle.fkv_ops.specs.declared.requests.Request.{Request}
-use Rattle.fkv_ops.specs.Requests.{is_read}
+use Rattle.fkv_ops.specs.Requests.{is_read, is_chain_end}
 use Rattle.fkv_ops.specs.Trying as trying
 use Rattle.fkv_ops.specs.Values.{value_of}
 use Rattle.fkv_ops.specs.Trying.{TryState, try_begun, wants_shared, walks, told_value, trying_ask, try_ask, new_try}
@@ -30,11 +30,13 @@ use Rattle.fkv_pending.specs.declared.mailing.MailAnswer.{MailAnswer}
 use Rattle.fkv_pending.specs.declared.mailing.MailAnswer.TheVariants as mail
 use Rattle.fkv_pending.specs.declared.mailing.MailRecord.{MailRecord}
 use Rattle.fkv_pending.specs.declared.pending_requests.PendingRequest.{PendingRequest}
-use Rattle.fkv_pending.specs.Pending.{with_sought, with_held, with_latch, with_asked}
-use Rattle.fkv_pending.specs.Attempting.{AttemptState, is_poll, is_seeking_read, attempt_ended, waits_for_disk, puts_addr, puts, tries, goes_on, attempt_begun, read_on, moved_on, held_of, held_kept, look_ledto, awaits_record, tried, try_ledto, put_ledto, mail_moved, try_moved, attempting_ask, attempt_ask, attempting_next, attempt_next, new_attempt}
+use Rattle.fkv_pending.specs.Pending.{with_sought, with_held, with_latch, with_asked, without_gone}
+use Rattle.fkv_pending.specs.Attempting.{AttemptState, is_poll, is_seeking_read, attempt_ended, waits_for_disk, puts_addr, puts, tries, goes_on, attempt_begun, read_on, moved_on, held_of, held_kept, look_ledto, awaits_record, tried, try_ledto, put_ledto, mail_moved, try_moved, attempting_ask, attempt_ask, attempting_next, attempt_next, new_attempt, goes_anew, record_taken}
 use Rattle.fkv_pending.proofs.Shown.{is_attempt_end, AttemptRestsOrAsks, attempt_done}
 use Rattle.fkv_session.proofs.Made.{reply_of, made_by, MadeFrom, try_made, try_ended}
 use Rattle.fkv_session.proofs.UpdateEnds.{IsUpdateEnd, IsUpdateStep, IsUpdateTry, try_update, begun_update}
+use Rattle.fkv_base.specs.declared.numbers.Addr.{Addr}
+use Rattle.fkv_pending.specs.Mailing.{is_gone, begin_told}
 
 -- the reply of the effect that the attempt has made by now
 abbrev pub made_in : AttemptState → Attempting → Option Reply
@@ -128,19 +130,25 @@ read_so a its (Says previous version) e read =
     let moved : AttemptState = record a { pending = with_sought a.pending (moved_on a.pending.sought previous) } in
     let found : AttemptState = attempt_ended a (told_value (value_of its.value)) in
     let absent : AttemptState = attempt_ended a answer.Absent in
-    either_so (its.key.0 == (key_of a.pending.request.op).0) found (if previous.0 == 0 then absent else puts moved) None (quiet found None e (told_none (value_of its.value)) (λ update. cc))
-    (either_so (previous.0 == 0) absent (puts moved) None (quiet absent None e refl (λ update. cc)) (puts_so moved moved.pending.sought None (from_none a.effect e)))
+    either_so (its.key.0 == (key_of a.pending.request.op).0) found (if is_chain_end a.pending.request.floor previous then absent else puts moved) None (quiet found None e (told_none (value_of its.value)) (λ update. cc))
+    (either_so (is_chain_end a.pending.request.floor previous) absent (puts moved) None (quiet absent None e refl (λ update. cc)) (puts_so moved moved.pending.sought None (from_none a.effect e)))
 
 record_so : (p : Places) (bits : ℕ) (a : AttemptState) (its : MailRecord) (said : HeaderSaid) (read : Bool) → is_seeking_read a ≡ read → a.effect ≡ None
     → IsMadeSo None (if read then read_on a its said else tries p bits (record a { pending = with_held a.pending (held_of a.pending.sought its said) }))
 record_so p bits a its said true r e = read_so a its said e (read_of a r)
 record_so p bits a its said false r e = tries_so p bits (record a { pending = with_held a.pending (held_of a.pending.sought its said) }) e
 
+gone_so : (p : Places) (bits : ℕ) (a : AttemptState) (begin : Addr) → a.effect ≡ None → IsMadeSo None (goes_anew p bits a begin)
+gone_so p bits a begin e =
+    let anew : AttemptState = record a { pending = without_gone a.pending begin } in
+    either_so (is_seeking_read a) (waits_for_disk anew) (tries p bits anew) None (quiet (waits_for_disk anew) None e refl (λ update. tt)) (tries_so p bits anew e)
+
 look_so : (p : Places) (bits : ℕ) (a : AttemptState) (ask : Ask MailAnswer) → a.effect ≡ None → a.step ≡ Looks → IsMadeSo None (look_ledto p bits a ask)
 unfolding look_ledto
 look_so p bits a (Done (mail.Taken its)) e s =
     let emptied : AttemptState = record a { is_emptied = true; pending = with_asked a.pending false } in
-    record_so p bits emptied its (header_said its.header) (is_seeking_read emptied) refl e
+    either_so (is_gone its) (goes_anew p bits emptied (begin_told its)) (record_taken p bits emptied its (header_said its.header)) None (gone_so p bits emptied (begin_told its) e)
+    (record_so p bits emptied its (header_said its.header) (is_seeking_read emptied) refl e)
 look_so p bits a (Done other) e s = either_so (is_seeking_read a) _ (tries p bits a) None (quiet _ None e refl (λ update. tt)) (tries_so p bits a e)
 look_so p bits a ask e s = quiet a None e (ap (made_in a) s) (λ update. subst (λ (x : Attempting). KnowsUpdate a x) (sym s) tt)
 

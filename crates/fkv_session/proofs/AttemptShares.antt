@@ -20,7 +20,7 @@ use Rattle.fkv_ops.specs.declared.requests.Seen.{Seen}
 use Rattle.fkv_ops.specs.HeaderWords.{header_said}
 use Rattle.fkv_ops.specs.LatchCounts.{is_adding}
 use Rattle.fkv_ops.specs.Reasons.{latch_place}
-use Rattle.fkv_ops.specs.Requests.{is_read}
+use Rattle.fkv_ops.specs.Requests.{is_read, is_chain_end}
 use Rattle.fkv_ops.specs.Trying.{TryState, try_ask, try_next, told_value, is_wait, is_prepare}
 use Rattle.fkv_ops.specs.TryRun.{Trial}
 use Rattle.fkv_ops.specs.Values.{value_of}
@@ -31,12 +31,14 @@ use Rattle.fkv_pending.specs.declared.mailing.MailAnswer.{MailAnswer}
 use Rattle.fkv_pending.specs.declared.mailing.MailAnswer.TheVariants as mail
 use Rattle.fkv_pending.specs.declared.mailing.MailRecord.{MailRecord}
 use Rattle.fkv_pending.specs.declared.pending_requests.PendingRequest.{PendingRequest}
-use Rattle.fkv_pending.specs.Pending.{with_sought, with_held, with_latch, with_asked}
-use Rattle.fkv_pending.specs.Attempting.{AttemptState, is_seeking_read, attempt_ended, waits_for_disk, puts_addr, puts, tries, goes_on, attempt_begun, read_on, moved_on, held_of, held_kept, look_ledto, awaits_record, tried, try_ledto, put_ledto, mail_moved, try_moved, attempting_ask, attempt_ask, attempting_next, attempt_next, new_attempt}
+use Rattle.fkv_pending.specs.Pending.{with_sought, with_held, with_latch, with_asked, without_gone}
+use Rattle.fkv_pending.specs.Attempting.{AttemptState, is_seeking_read, attempt_ended, waits_for_disk, puts_addr, puts, tries, goes_on, attempt_begun, read_on, moved_on, held_of, held_kept, look_ledto, awaits_record, tried, try_ledto, put_ledto, mail_moved, try_moved, attempting_ask, attempt_ask, attempting_next, attempt_next, new_attempt, goes_anew, record_taken}
 use Rattle.fkv_session.specs.Sessions.{Seat, bits_of, room_of}
 use Rattle.fkv_session.specs.Shares.{added_by, latch_of, HasItsBuckets}
 use Rattle.fkv_session.proofs.SharesSpared.{SharesNone, none_added, none_dropped, passed_added, passed_none, mail_none}
 use Rattle.fkv_session.proofs.AttemptMade.{read_of}
+use Rattle.fkv_base.specs.declared.numbers.Addr.{Addr}
+use Rattle.fkv_pending.specs.Mailing.{is_gone, begin_told}
 
 -- a number that counts where the test holds
 abbrev pub there : Bool → ℕ → ℕ
@@ -130,6 +132,10 @@ asked_latch : (p : PendingRequest) (asked : Bool) → ((with_asked p asked).requ
 unfolding with_asked
 asked_latch p asked = (refl, refl)
 
+gone_latch : (p : PendingRequest) (begin : Addr) → ((without_gone p begin).request.has_latch ≡ p.request.has_latch) × ((without_gone p begin).request.op ≡ p.request.op)
+unfolding without_gone
+gone_latch p begin = (refl, refl)
+
 reads_as : (p q : PendingRequest) → (q.request.has_latch ≡ p.request.has_latch) × (q.request.op ≡ p.request.op) → ReadsNone p → ReadsNone q
 reads_as p q same reads = λ e. same.0 ∙ reads (sym (ap (λ (o : Op). is_read o) same.1) ∙ e)
 
@@ -144,8 +150,8 @@ read_so k its owed a mail (Says previous version) owes reads read =
     let moved : AttemptState = record a { pending = next } in
     let found : AttemptState = attempt_ended a (told_value (value_of mail.value)) in
     let absent : AttemptState = attempt_ended a answer.Absent in
-    either_so (mail.key.0 == (key_of a.pending.request.op).0) k its owed found (if previous.0 == 0 then absent else puts moved) (record { owes = owes; reads = reads; knows = λ e. reads read })
-    (either_so (previous.0 == 0) k its owed absent (puts moved) (record { owes = owes; reads = reads; knows = λ e. reads read })
+    either_so (mail.key.0 == (key_of a.pending.request.op).0) k its owed found (if is_chain_end a.pending.request.floor previous then absent else puts moved) (record { owes = owes; reads = reads; knows = λ e. reads read })
+    (either_so (is_chain_end a.pending.request.floor previous) k its owed absent (puts moved) (record { owes = owes; reads = reads; knows = λ e. reads read })
     (puts_so k its owed moved next.sought (owes_as a.pending next owed same owes) (reads_as a.pending next same reads)))
 
 record_so : (k : Seat) (its : HasItsBuckets k) (owed : ℕ) (a : AttemptState) (mail : MailRecord) (said : HeaderSaid) (read : Bool) → is_seeking_read a ≡ read → OwesSo owed a → ReadsNone a.pending
@@ -156,13 +162,25 @@ record_so k its owed a mail said false r owes reads =
     let same = held_latch a.pending (held_of a.pending.sought mail said) in
     tries_so k its owed (record a { pending = next }) (owes_as a.pending next owed same owes) (reads_as a.pending next same reads)
 
+gone_so : (k : Seat) (its : HasItsBuckets k) (owed : ℕ) (a : AttemptState) (begin : Addr) → OwesSo owed a → ReadsNone a.pending → IsShareSo k its owed (goes_anew k.places (bits_of k) a begin)
+gone_so k its owed a begin owes reads =
+    let next : PendingRequest = without_gone a.pending begin in
+    let anew : AttemptState = record a { pending = next } in
+    let same = gone_latch a.pending begin in
+    let owes_next = owes_as a.pending next owed same owes in
+    let reads_next = reads_as a.pending next same reads in
+    either_so (is_seeking_read a) k its owed (waits_for_disk anew) (tries k.places (bits_of k) anew) (record { owes = owes_next; reads = reads_next; knows = λ e. cc }) (tries_so k its owed anew owes_next reads_next)
+
 look_so : (k : Seat) (its : HasItsBuckets k) (owed : ℕ) (a : AttemptState) (ask : Ask MailAnswer) → a.step ≡ Looks → OwesSo owed a → ReadsNone a.pending → IsShareSo k its owed (look_ledto k.places (bits_of k) a ask)
 unfolding look_ledto
 look_so k its owed a (Done (mail.Taken it)) s owes reads =
     let next : PendingRequest = with_asked a.pending false in
     let same = asked_latch a.pending false in
     let emptied : AttemptState = record a { is_emptied = true; pending = next } in
-    record_so k its owed emptied it (header_said it.header) (is_seeking_read emptied) refl (owes_as a.pending next owed same owes) (reads_as a.pending next same reads)
+    let owes_next = owes_as a.pending next owed same owes in
+    let reads_next = reads_as a.pending next same reads in
+    either_so (is_gone it) k its owed (goes_anew k.places (bits_of k) emptied (begin_told it)) (record_taken k.places (bits_of k) emptied it (header_said it.header)) (gone_so k its owed emptied (begin_told it) owes_next reads_next)
+    (record_so k its owed emptied it (header_said it.header) (is_seeking_read emptied) refl owes_next reads_next)
 look_so k its owed a (Done other) s owes reads =
     either_so (is_seeking_read a) k its owed (waits_for_disk a) (tries k.places (bits_of k) a) (record { owes = owes; reads = reads; knows = λ e. cc }) (tries_so k its owed a owes reads)
 look_so k its owed a ask s owes reads = still_so k its owed a Looks s owes reads tt

@@ -34,7 +34,7 @@ use Rattle.fkv_session.specs.declared.sessions.Sitting.TheVariants.{Idle, Attemp
 use Rattle.fkv_session.specs.InOrder.{epoch_place}
 use Rattle.fkv_session.proofs.AsleepKept.{run_asleep}
 use Rattle.fkv_session.specs.OwnTurns.{own_turn_given}
-use Rattle.fkv_session.specs.Sessions.{SessionState, Seat, IsOpened, asks_after, is_word_ask, is_busy, answers, refuses, answers_after_turn, ticket_after, attempts, polls_request, polls_at, refusal_of, op_begun, refresh_call, poll_begun, poll_call, sleep_call, wake_call, call_begun, attempt_left, serial_taken, update_done, is_no_room, with_request, accepts, shifts, attempted, attempt_ledto, catch_ledto, clear_ledto, is_finished, is_owed, request_finished, lacks_room, finishes_request, keeps_request, poll_ledto, turn_ledto, leave_ledto, attempt_moved, caught, own_turn_moved, sitting_ask, session_ask, sitting_next, sitting_given}
+use Rattle.fkv_session.specs.Sessions.{SessionState, Seat, IsOpened, asks_after, is_word_ask, is_busy, answers, refuses, answers_after_turn, ticket_after, attempts, polls_request, polls_at, refusal_of, op_begun, refresh_call, poll_begun, poll_call, sleep_call, wake_call, call_begun, attempt_left, poll_left, serial_taken, update_done, is_no_room, with_request, accepts, shifts, attempted, attempt_ledto, catch_ledto, clear_ledto, is_finished, is_owed, request_finished, lacks_room, finishes_request, keeps_request, poll_ledto, turn_ledto, leave_ledto, attempt_moved, caught, own_turn_moved, sitting_ask, session_ask, sitting_next, sitting_given}
 use Rattle.fkv_session.specs.SessionRun.{SessionEvent, Begins, Replies, Gets, Telling, begins, is_calling, session_happens, session_run, answered, told_after, tellings}
 use Rattle.fkv_session.specs.Asleep.{IsStepAsleep, is_awake_told}
 
@@ -141,7 +141,7 @@ module _ (k : Seat) (ask : Ask Told) (awake : Bool) where
   poll_awake : (s : SessionState) (i : ℕ) (its : Ask TryAnswer) → s.step ≡ Polls i → s.is_awake ≡ awake → AwakeNow (poll_ledto k s i its)
   unfolding poll_ledto
   poll_awake s i (Done its) e same =
-      either (is_finished its) (finishes_request k (attempt_left s) i its) (keeps_request k (attempt_left s) i its) (finishes_awake (attempt_left s) i its same) (keeps_awake (attempt_left s) i its same)
+      either (is_finished its) (finishes_request k (poll_left s) i its) (keeps_request k (poll_left s) i its) (finishes_awake (poll_left s) i its same) (keeps_awake (poll_left s) i its same)
   poll_awake s i its e same = still s (Polls i) e refl same tt
 
   plain_answer : (s : SessionState) (its : Told) → TellsNoSleep its → s.is_awake ≡ awake → AwakeNow (answers s its)

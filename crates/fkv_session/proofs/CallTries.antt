@@ -32,6 +32,7 @@ use Rattle.fkv_session.specs.InOrder.{Exchange, IsTakenUp, loaded_by, loaded_las
 use Rattle.fkv_session.specs.Sessions.{Seat, bits_of, room_of}
 use Rattle.fkv_session.specs.Shares.{HasItsBuckets}
 use Rattle.fkv_session.specs.TrueAnswers.{trial_of}
+use Rattle.fkv_base.specs.declared.numbers.Addr.{Addr}
 
 -- all that a run of a try has asked is among these asks
 abbrev AllAsked : Trial → List Exchange → ℕ → List ℕ → Type 0
@@ -170,14 +171,14 @@ unfolding passed
 passed_twice (Done its) = refl
 passed_twice ask = refl
 
-module _ (k : Seat) (buckets : HasItsBuckets k) (seen : Seen) (op : Op) where
+module _ (k : Seat) (buckets : HasItsBuckets k) (seen : Seen) (floor : Addr) (op : Op) where
   trial : Trial
-  trial = trial_of k buckets seen op
+  trial = trial_of k buckets seen floor op
 
   abbrev of_try : TryState → ℕ → Exchange
   of_try t reply = record { ask = passed (passed (try_ask k.places t) answer.Shift) told.Slept; reply = reply }
 
-  next_ran : (asked : List Exchange) (t : TryState) (reply : ℕ) → TryRan (trial_of k buckets seen op) asked t → TryRan (trial_of k buckets seen op) (of_try t reply ∷ asked) (try_next k.places (room_of k) t reply)
+  next_ran : (asked : List Exchange) (t : TryState) (reply : ℕ) → TryRan (trial_of k buckets seen floor op) asked t → TryRan (trial_of k buckets seen floor op) (of_try t reply ∷ asked) (try_next k.places (room_of k) t reply)
   next_ran asked t reply ran = record {
     spare = ran.spare;
     replies = reply ∷ ran.replies;
@@ -185,33 +186,33 @@ module _ (k : Seat) (buckets : HasItsBuckets k) (seen : Seen) (op : Op) where
     all = all;
   }
     where
-      all : AllAsked (trial_of k buckets seen op) (of_try t reply ∷ asked) ran.spare (reply ∷ ran.replies)
+      all : AllAsked (trial_of k buckets seen floor op) (of_try t reply ∷ asked) ran.spare (reply ∷ ran.replies)
       all ask its (inl same) = inl (passed_twice (try_ask k.places t) ∙ ap (λ (x : Ask TryAnswer). passed x told.Slept) (ap (λ (x : TryState). try_ask k.places x) ran.its_run ∙ same.0), same.1)
       all ask its (inr earlier) = inr (ran.all ask its earlier)
 
-  ran_ended : (asked : List Exchange) (t : TryState) (its : TryAnswer) → TryRan (trial_of k buckets seen op) asked t → try_ask k.places t ≡ Done its → TryEnded (trial_of k buckets seen op) asked its
+  ran_ended : (asked : List Exchange) (t : TryState) (its : TryAnswer) → TryRan (trial_of k buckets seen floor op) asked t → try_ask k.places t ≡ Done its → TryEnded (trial_of k buckets seen floor op) asked its
   ran_ended asked t its ran e = record { spare = ran.spare; replies = ran.replies; its_end = ap (λ (x : TryState). try_ask k.places x) (sym ran.its_run) ∙ e; all = ran.all }
 
-  try_led : (asked : List Exchange) (a : AttemptState) (ask : Ask TryAnswer) → a.step ≡ Tries → TryRan (trial_of k buckets seen op) asked a.trial → try_ask k.places a.trial ≡ ask → AttemptNow (trial_of k buckets seen op) asked (try_ledto a ask)
+  try_led : (asked : List Exchange) (a : AttemptState) (ask : Ask TryAnswer) → a.step ≡ Tries → TryRan (trial_of k buckets seen floor op) asked a.trial → try_ask k.places a.trial ≡ ask → AttemptNow (trial_of k buckets seen floor op) asked (try_ledto a ask)
   unfolding try_ledto
-  try_led asked a (Done its) e ran asks = tried_now (trial_of k buckets seen op) asked (record a { spare = a.trial.spare; pending = with_latch a.pending a.trial.has_shared }) its (ran_ended asked a.trial its ran asks)
-  try_led asked a ask e ran asks = still_now (trial_of k buckets seen op) asked a Tries e ran
+  try_led asked a (Done its) e ran asks = tried_now (trial_of k buckets seen floor op) asked (record a { spare = a.trial.spare; pending = with_latch a.pending a.trial.has_shared }) its (ran_ended asked a.trial its ran asks)
+  try_led asked a ask e ran asks = still_now (trial_of k buckets seen floor op) asked a Tries e ran
 
-  put_led : (asked : List Exchange) (a : AttemptState) (ask : Ask MailAnswer) → a.step ≡ Puts → AwaitsOne (trial_of k buckets seen op) asked → AttemptNow (trial_of k buckets seen op) asked (put_ledto a ask)
+  put_led : (asked : List Exchange) (a : AttemptState) (ask : Ask MailAnswer) → a.step ≡ Puts → AwaitsOne (trial_of k buckets seen floor op) asked → AttemptNow (trial_of k buckets seen floor op) asked (put_ledto a ask)
   unfolding put_ledto
   put_led asked a (Done mail.Asked) e awaits = HasAwaited refl awaits
   put_led asked a (Done other) e awaits = HasAwaited refl awaits
-  put_led asked a ask e awaits = still_now (trial_of k buckets seen op) asked a Puts e awaits
+  put_led asked a ask e awaits = still_now (trial_of k buckets seen floor op) asked a Puts e awaits
 
   -- behind each reply
-  pub attempt_goes : (asked : List Exchange) (a : AttemptState) (step : Attempting) (reply : ℕ) → a.step ≡ step → AttemptAt (trial_of k buckets seen op) asked a step
-      → AttemptNow (trial_of k buckets seen op) (record { ask = passed (attempting_ask k.places k.number a step) told.Slept; reply = reply } ∷ asked) (attempting_next k.places (bits_of k) (room_of k) k.number (record a { effect = None }) step reply)
+  pub attempt_goes : (asked : List Exchange) (a : AttemptState) (step : Attempting) (reply : ℕ) → a.step ≡ step → AttemptAt (trial_of k buckets seen floor op) asked a step
+      → AttemptNow (trial_of k buckets seen floor op) (record { ask = passed (attempting_ask k.places k.number a step) told.Slept; reply = reply } ∷ asked) (attempting_next k.places (bits_of k) (room_of k) k.number (record a { effect = None }) step reply)
   unfolding attempting_ask attempting_next
-  attempt_goes asked a (Ended its) reply e at = still_now (trial_of k buckets seen op) _ (record a { effect = None }) (Ended its) e (more_end (trial_of k buckets seen op) asked _ its at)
+  attempt_goes asked a (Ended its) reply e at = still_now (trial_of k buckets seen floor op) _ (record a { effect = None }) (Ended its) e (more_end (trial_of k buckets seen floor op) asked _ its at)
   attempt_goes asked a Looks reply e at = absurd at
   attempt_goes asked a Tries reply e at =
       let quiet : AttemptState = record a { effect = None } in
       try_led (of_try a.trial reply ∷ asked) (try_moved k.places (room_of k) quiet reply) (try_ask k.places (try_next k.places (room_of k) a.trial reply)) e (next_ran asked a.trial reply at) refl
   attempt_goes asked a Puts reply e at =
       let quiet : AttemptState = record a { effect = None } in
-      put_led _ (mail_moved quiet reply) (mail_ask k.number (mail_next a.mailing reply)) e (more_awaits (trial_of k buckets seen op) asked _ at)
+      put_led _ (mail_moved quiet reply) (mail_ask k.number (mail_next a.mailing reply)) e (more_awaits (trial_of k buckets seen floor op) asked _ at)

@@ -35,7 +35,7 @@ use Rattle.fkv_session.specs.declared.sessions.Sitting.{Sitting}
 use Rattle.fkv_session.specs.declared.sessions.Sitting.TheVariants.{Idle, Attempts, CatchesUp, ClearsMail, Polls, StoresOwing, Turns, StoresCut, Leaves, LoadsDurable}
 use Rattle.fkv_session.specs.CatchingUp.{catching_ask, catch_requests}
 use Rattle.fkv_session.specs.OwnTurns.{own_turn_given}
-use Rattle.fkv_session.specs.Sessions.{SessionState, Seat, IsOpened, bits_of, is_busy, answers, answers_after_turn, ticket_after, attempts, polls_request, polls_at, refusal_of, op_begun, refresh_call, poll_begun, poll_call, sleep_call, wake_call, call_begun, attempt_left, serial_taken, update_done, is_no_room, with_request, accepts, shifts, attempted, attempt_ledto, caught_up, catch_ledto, clear_ledto, is_finished, is_owed, request_finished, lacks_room, finishes_request, keeps_request, poll_ledto, turn_ledto, leave_ledto, attempt_moved, caught, own_turn_moved, sitting_ask, session_ask, sitting_next, sitting_given, refuses, asks_after, is_word_ask}
+use Rattle.fkv_session.specs.Sessions.{SessionState, Seat, IsOpened, bits_of, is_busy, answers, answers_after_turn, ticket_after, attempts, polls_request, polls_at, refusal_of, op_begun, refresh_call, poll_begun, poll_call, sleep_call, wake_call, call_begun, attempt_left, poll_left, serial_taken, update_done, is_no_room, with_request, accepts, shifts, attempted, attempt_ledto, caught_up, catch_ledto, clear_ledto, is_finished, is_owed, request_finished, lacks_room, finishes_request, keeps_request, poll_ledto, turn_ledto, leave_ledto, attempt_moved, caught, own_turn_moved, sitting_ask, session_ask, sitting_next, sitting_given, refuses, asks_after, is_word_ask}
 use Rattle.fkv_session.specs.SessionRun.{SessionEvent, Begins, Replies, Gets, begins, session_happens, session_run}
 use Rattle.fkv_session.specs.InOrder.{Exchange, exchanged_by, exchanged, IsEpochLast}
 use Rattle.fkv_session.proofs.PhaseTaken.{CatchKnows, RefreshKnows, IsTaken, step_knows}
@@ -127,7 +127,7 @@ keeps_known k s i its = polls_known k (record s { requests = slice_set s.request
 poll_known : (k : Seat) (s : SessionState) (i : ℕ) (ask : Ask TryAnswer) → s.step ≡ Polls i → KnowsAfter k [] (poll_ledto k s i ask)
 unfolding poll_ledto
 poll_known k s i (Done its) e =
-    either_known (is_finished its) k [] (finishes_request k (attempt_left s) i its) (keeps_request k (attempt_left s) i its) (finishes_known k (attempt_left s) i its) (keeps_known k (attempt_left s) i its)
+    either_known (is_finished its) k [] (finishes_request k (poll_left s) i its) (keeps_request k (poll_left s) i its) (finishes_known k (poll_left s) i its) (keeps_known k (poll_left s) i its)
 poll_known k s i ask e = still_known k [] s (Polls i) e tt
 
 turned_known : (k : Seat) (s : SessionState) (its : Told) (ask : Ask (Unit {0})) → s.step ≡ Turns its → KnowsAfter k [] (turn_ledto s its ask)

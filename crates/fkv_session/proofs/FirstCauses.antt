@@ -9,8 +9,7 @@ use Rattle.fkv_base.specs.declared.faults.Fault.TheVariants as fault
 use Rattle.fkv_map.specs.declared.operations.Call.{Call}
 use Rattle.fkv_map.specs.declared.operations.Call.TheVariants as call
 use Rattle.fkv_map.specs.declared.operations.Op.{Op}
-use Rattle.fkv_map.specs.declared.operations.Op.TheVariants as op
-use Rattle.fkv_map.specs.Map.{IsReserved, is_reserved}
+use Rattle.fkv_map.specs.Map.{is_reserved}
 use Rattle.fkv_map.proofs.Shown.{reserved_by_test, free_by_test}
 use Rattle.fkv_ops.specs.Requests.{is_read}
 use Rattle.fkv_pending.specs.declared.pending_requests.PendingRequest.{PendingRequest}

@@ -39,7 +39,7 @@ use Rattle.fkv_session.specs.declared.sessions.Sitting.TheVariants.{Idle, Attemp
 use Rattle.fkv_session.specs.AsksLeft.{session_asks_left}
 use Rattle.fkv_session.specs.CatchingUp.{catch_ask, catching_ask, refresh_begun, wake_begun}
 use Rattle.fkv_session.specs.OwnTurns.{own_turn_ask, own_turning_ask, own_turn_begun, own_turn_given}
-use Rattle.fkv_session.specs.Sessions.{Seat, SessionState, bits_of, is_busy, sitting_ask, session_ask, answers, refuses, answers_after_turn, request_in_hand, attempts, polls_request, polls_at, refusal_of, op_begun, refresh_call, poll_begun, poll_call, sleep_call, wake_call, call_begun, attempt_left, serial_taken, is_no_room, with_request, ticket_after, accepts, shifts, attempted, attempt_ledto, caught_up, catch_ledto, clear_ledto, is_finished, is_owed, request_finished, finishes_request, lacks_room, keeps_request, poll_ledto, turn_ledto, leave_ledto, attempt_moved, caught, own_turn_moved, sitting_next, sitting_given, asks_after, is_word_ask}
+use Rattle.fkv_session.specs.Sessions.{Seat, SessionState, bits_of, is_busy, sitting_ask, session_ask, answers, refuses, answers_after_turn, request_in_hand, attempts, polls_request, polls_at, refusal_of, op_begun, refresh_call, poll_begun, poll_call, sleep_call, wake_call, call_begun, attempt_left, poll_left, serial_taken, is_no_room, with_request, ticket_after, accepts, shifts, attempted, attempt_ledto, caught_up, catch_ledto, clear_ledto, is_finished, is_owed, request_finished, finishes_request, lacks_room, keeps_request, poll_ledto, turn_ledto, leave_ledto, attempt_moved, caught, own_turn_moved, sitting_next, sitting_given, asks_after, is_word_ask}
 use Rattle.fkv_session.specs.SessionRun.{SessionEvent, Begins, Replies, Gets, begins, session_happens, session_run}
 use Rattle.fkv_session.proofs.SessionLeft.{session_left}
 
@@ -179,7 +179,7 @@ keeps_asks k s index its = polls_asks k (record s { requests = slice_set s.reque
 poll_asks : (k : Seat) (s : SessionState) (index : ℕ) (ask : Ask TryAnswer) → s.step ≡ Polls index → attempt_ask k.places k.number s.attempt ≡ ask → AsksInHand k (poll_ledto k s index ask)
 unfolding poll_ledto sitting_ask
 poll_asks k s index (Done its) at same =
-    let left = attempt_left s in
+    let left = poll_left s in
     either_asks (is_finished its) k (finishes_request k left index its) (keeps_request k left index its) (finishes_asks k left index its) (keeps_asks k left index its)
 poll_asks k s index ask at same = still_asks k s (Polls index) at (passed_asks (attempt_ask k.places k.number s.attempt) ask told.Slept same refl)
 

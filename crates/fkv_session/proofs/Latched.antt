@@ -38,7 +38,7 @@ use Rattle.fkv_session.specs.declared.sessions.Sitting.{Sitting}
 use Rattle.fkv_session.specs.declared.sessions.Sitting.TheVariants.{Idle, Attempts, CatchesUp, ClearsMail, Polls, StoresOwing, Turns, StoresCut, Leaves, LoadsDurable}
 use Rattle.fkv_session.specs.CatchingUp.{refresh_begun, wake_begun, catch_ask}
 use Rattle.fkv_session.specs.OwnTurns.{own_turn_begun, own_turn_given}
-use Rattle.fkv_session.specs.Sessions.{SessionState, Seat, bits_of, room_of, is_busy, answers, refuses, answers_after_turn, request_in_hand, attempts, polls_request, polls_at, refusal_of, op_begun, refresh_call, poll_begun, poll_call, sleep_call, wake_call, call_begun, ticket_after, attempt_left, serial_taken, update_done, is_no_room, lacks_room, with_request, accepts, shifts, attempted, attempt_ledto, caught_up, catch_ledto, clear_ledto, is_finished, is_owed, request_finished, finishes_request, keeps_request, poll_ledto, turn_ledto, leave_ledto, attempt_moved, caught, own_turn_moved, sitting_ask, session_ask, sitting_next, sitting_given, asks_after, is_word_ask}
+use Rattle.fkv_session.specs.Sessions.{SessionState, Seat, bits_of, room_of, is_busy, answers, refuses, answers_after_turn, request_in_hand, attempts, polls_request, polls_at, refusal_of, op_begun, refresh_call, poll_begun, poll_call, sleep_call, wake_call, call_begun, ticket_after, attempt_left, poll_left, serial_taken, update_done, is_no_room, lacks_room, with_request, accepts, shifts, attempted, attempt_ledto, caught_up, catch_ledto, clear_ledto, is_finished, is_owed, request_finished, finishes_request, keeps_request, poll_ledto, turn_ledto, leave_ledto, attempt_moved, caught, own_turn_moved, sitting_ask, session_ask, sitting_next, sitting_given, asks_after, is_word_ask}
 use Rattle.fkv_session.specs.SessionRun.{SessionEvent, Begins, Replies, Gets, begins, session_happens, session_run}
 use Rattle.fkv_session.proofs.AttemptMade.{attempt_ends}
 use Rattle.fkv_ops.specs.declared.requests.Seen.{Seen}
@@ -156,7 +156,7 @@ poll_led : (k : Seat) (its : HasItsBuckets k) (s : SessionState) (i : ℕ) (ask 
     → LatchedAfter k its (poll_ledto k s i ask)
 unfolding poll_ledto
 poll_led k its s i (Done found) e asks none holds =
-    poll_either k its (attempt_left s) i found (is_finished found) refl none holds.all (ended_knows k its s.seen s.attempt found (attempt_ends k.places k.number s.attempt found holds.rests asks) holds.knows)
+    poll_either k its (poll_left s) i found (is_finished found) refl none holds.all (ended_knows k its s.seen s.attempt found (attempt_ends k.places k.number s.attempt found holds.rests asks) holds.knows)
 poll_led k its s i ask e asks none holds = still k its s (Polls i) e holds
 
 -- a take-up

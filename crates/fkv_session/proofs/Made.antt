@@ -1,6 +1,6 @@
 -- An update whose effect a try has made is done, with the reply that was told at the effect, and no other is.
 use Rattle.std.proofs.Common.{◌≡◌, ℕ, refl, sym, subst, Bool, true, false, ap}
-use Rattle.std.specs.Prelude.{Option, Some, None, if◌then◌else◌, ◌==◌, ◌&&◌, not, nat_le}
+use Rattle.std.specs.Prelude.{Option, Some, None, if◌then◌else◌, ◌==◌, ◌&&◌, not, nat_le, ◌||◌}
 use Rattle.fkv_base.specs.declared.numbers.Addr.{Addr}
 use Rattle.fkv_base.specs.declared.numbers.Version.{Version}
 use Rattle.fkv_log.specs.declared.regions.Region.{Region}
@@ -32,7 +32,7 @@ use Rattle.fkv_ops.specs.declared.answers.Waiting.{Waiting}
 use Rattle.fkv_ops.specs.declared.answers.Waiting.TheVariants.{For, ForRecord}
 use Rattle.fkv_ops.specs.Bounds.{bounds_at, is_past_taken, is_past_tail}
 use Rattle.fkv_ops.specs.Waiting.{told_of}
-use Rattle.fkv_ops.specs.Requests.{is_read, is_blind}
+use Rattle.fkv_ops.specs.Requests.{is_read, is_blind, is_chain_end}
 use Rattle.fkv_ops.specs.Values.{value_of}
 use Rattle.fkv_ops.specs.Trying.{TryState, is_bounded, ends, ends_so, tail_loaded, taken_loaded, must_count, count_loaded, ended_without, is_wait, takes_effect, full_at, walks, is_next_marked, shared_ledto, is_still_in, phase_loaded, is_surely_own, wants_exclusive, copies_from, copies, appends, awaits, held_used, changes, is_own_version, region_met, walked, has_walked, must_shift, walk_ledto, safe_loaded, current_ledto, value_changed, told_value, answer_ledto, exclusive_ledto, old_ledto, append_ledto, exclusive_dropped, shared_dropped, trying_ask, try_ask, trying_next, try_next}
 
@@ -126,7 +126,7 @@ held_made p t addr None e = ends_made p t _ None e refl
 held_made p t addr (Some held) e =
     either_made (held.entry == t.walk.entry) _ (awaits p t addr) None
     (either_made (held.key.0 == (key_of t.request.op).0) (copies p t (Known held.value) false) _ None (copies_made p t (Known held.value) false e)
-    (either_made (held.previous.0 == 0) (copies p t (Known _) false) (awaits p t held.previous) None (copies_made p t (Known _) false e) (ends_made p t _ None e refl)))
+    (either_made (is_chain_end t.request.floor held.previous) (copies p t (Known _) false) (awaits p t held.previous) None (copies_made p t (Known _) false e) (ends_made p t _ None e refl)))
     (ends_made p t _ None e refl)
 
 region_made : (p : Places) (t : TryState) (addr : Addr) (version : Version) (its : Option Region) → t.effect ≡ None → IsMade (region_met p t addr version its) None
@@ -145,8 +145,9 @@ walked_made p t walk.Nowhere e =
     either_made (is_read t.request.op) (ends p t answer.Absent) _ None (ends_made p t answer.Absent None e refl)
     (either_made (must_count p t) (record t { step = try.CountsTaken }) (copies p t (Known _) false) None (stepped t e) (copies_made p t (Known _) false e))
 walked_made p t (walk.OnDisk addr) e =
-    either_made (is_read t.request.op) (awaits p t addr) _ None (ends_made p t _ None e refl)
-    (either_made (is_blind t.request.op) (copies p t (Known _) false) (held_used p t addr t.request.held) None (copies_made p t (Known _) false e) (held_made p t addr t.request.held e))
+    either_made (is_read t.request.op) (if is_chain_end t.request.floor addr then ends p t answer.Absent else awaits p t addr) _ None
+    (either_made (is_chain_end t.request.floor addr) (ends p t answer.Absent) (awaits p t addr) None (ends_made p t answer.Absent None e refl) (ends_made p t _ None e refl))
+    (either_made (is_blind t.request.op || is_chain_end t.request.floor addr) (copies p t (Known _) false) (held_used p t addr t.request.held) None (copies_made p t (Known _) false e) (held_made p t addr t.request.held e))
 walked_made p t (walk.Value value) e = ends_made p t _ None e refl
 walked_made p t walk.Full e = ends_made p t _ None e (full_none t.occasion answer.IndexFull refl)
 walked_made p t walk.Kept e = ends_made p t _ None e (full_none t.occasion answer.IndexFull refl)

@@ -1,6 +1,6 @@
 -- What a session has stored last as its cut words and its owing word, at every moment of a run.
 use Rattle.std.proofs.Common.{◌≡◌, ℕ, ◌+◌, ◌*◌, ◌-◌, ◌<◌, ◌≤◌, ◌∙◌, zero, suc, List, [], ◌∷◌, ◌++◌, length, refl, arith, ap, sym, subst, inl, inr, Bool, true, false}
-use Rattle.std.specs.Prelude.{slice_get, slice_set, Option, Some, None, if◌then◌else◌, not, cond, ◌==◌, ◌&&◌, ◌≢◌, ◌⊎◌, nat_lt, ◌||◌, ◌%◌, ◌/◌, ◌^◌}
+use Rattle.std.specs.Prelude.{slice_get, slice_set, Option, Some, None, if◌then◌else◌, not, cond, ◌==◌, ◌&&◌, ◌≢◌, ◌⊎◌, nat_lt, ◌||◌, ◌%◌}
 use Rattle.std.specs.List.{remove, count_by, position}
 use Rattle.std.proofs.lemmas.Bool.Decides.{nat_tests}
 use Rattle.std.proofs.lemmas.List.Sums.{sum_by-cons}
@@ -51,7 +51,7 @@ use Rattle.fkv_session.specs.declared.sessions.Sitting.{Sitting}
 use Rattle.fkv_session.specs.declared.sessions.Sitting.TheVariants.{Idle, Attempts, CatchesUp, ClearsMail, Polls, StoresOwing, Turns, StoresCut, Leaves, LoadsDurable}
 use Rattle.fkv_session.specs.CatchingUp.{CatchState, refresh_begun, cut_of, cut_at, catching_ask, catch_ask, seen_after, finishes, latch_begun, latch_wanted, latches, cuts, is_same_version, enters_prepare, takes_up, refresh_ledto, protect_ledto, latched, latch_marked, catching_requests, latch_ledto, finish_ledto, catching_next}
 use Rattle.fkv_session.specs.OwnTurns.{own_turn_begun}
-use Rattle.fkv_session.specs.Sessions.{SessionState, Seat, bits_of, room_of, is_busy, answers, answers_after_turn, version_within, request_in_hand, attempts, polls_request, polls_at, ticket_after, attempt_left, serial_taken, update_done, is_no_room, lacks_room, with_request, accepts, shifts, attempted, attempt_ledto, caught_up, catch_ledto, clear_ledto, is_finished, is_owed, request_finished, finishes_request, keeps_request, poll_ledto, turn_ledto, leave_ledto, attempt_moved, caught, own_turn_moved, sitting_ask, sitting_next}
+use Rattle.fkv_session.specs.Sessions.{SessionState, Seat, bits_of, room_of, is_busy, answers, answers_after_turn, version_within, request_in_hand, attempts, polls_request, polls_at, ticket_after, attempt_left, poll_left, serial_taken, update_done, is_no_room, lacks_room, with_request, accepts, shifts, attempted, attempt_ledto, caught_up, catch_ledto, clear_ledto, is_finished, is_owed, request_finished, finishes_request, keeps_request, poll_ledto, turn_ledto, leave_ledto, attempt_moved, caught, own_turn_moved, sitting_ask, sitting_next}
 use Rattle.fkv_session.specs.Words.{IsMark, stored_by, left_with}
 use Rattle.fkv_session.proofs.AttemptKeeps.{attempt_keeps, begun_same}
 use Rattle.fkv_session.proofs.CatchKeeps.{catch_serial}
@@ -534,7 +534,7 @@ poll_marks : (m : Moment) (s : SessionState) (i : ℕ) (ask : Ask TryAnswer) (le
 unfolding poll_ledto
 poll_marks m s i (Done its) left e so marked at =
     let at_left : IsAt s.requests i s.attempt.pending = record { its = at.its; at = at.at; same = at.same } in
-    either_marks (is_finished its) m (finishes_request m.seat (attempt_left s) i its) (keeps_request m.seat (attempt_left s) i its) (finishes_marks m (attempt_left s) i its left so marked at_left) (keeps_marks m (attempt_left s) i its left so marked at_left)
+    either_marks (is_finished its) m (finishes_request m.seat (poll_left s) i its) (keeps_request m.seat (poll_left s) i its) (finishes_marks m (poll_left s) i its left so marked at_left) (keeps_marks m (poll_left s) i its left so marked at_left)
 poll_marks m s i ask left e so marked at = still m s left (Polls i) so e (marked, at)
 
 pub turned_marks : (m : Moment) (s : SessionState) (its : Told) (ask : Ask (Unit {0})) (left : Option ℕ) → s.step ≡ Turns its → LeavesSo m s left → MarkedBy m s left → IsOwnTurnSparing s.own_turn → MarksAfter m (turn_ledto s its ask)

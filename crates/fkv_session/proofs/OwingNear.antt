@@ -33,7 +33,7 @@ use Rattle.fkv_session.specs.declared.sessions.CatchCause.TheVariants.{Refreshes
 use Rattle.fkv_session.specs.declared.sessions.Sitting.{Sitting}
 use Rattle.fkv_session.specs.declared.sessions.Sitting.TheVariants.{Idle, Attempts, CatchesUp, ClearsMail, Polls, StoresOwing, Turns, StoresCut, Leaves, LoadsDurable}
 use Rattle.fkv_session.specs.OwnTurns.{own_turn_given}
-use Rattle.fkv_session.specs.Sessions.{SessionState, Seat, IsOpened, bits_of, room_of, is_busy, answers, answers_after_turn, ticket_after, attempts, polls_request, polls_at, refusal_of, op_begun, refresh_call, poll_begun, poll_call, sleep_call, wake_call, call_begun, attempt_left, serial_taken, update_done, is_no_room, with_request, accepts, shifts, attempted, attempt_ledto, caught_up, catch_ledto, clear_ledto, is_finished, is_owed, request_finished, lacks_room, finishes_request, keeps_request, poll_ledto, turn_ledto, leave_ledto, attempt_moved, caught, own_turn_moved, sitting_ask, session_ask, sitting_next, sitting_given, refuses, asks_after, is_word_ask}
+use Rattle.fkv_session.specs.Sessions.{SessionState, Seat, IsOpened, bits_of, room_of, is_busy, answers, answers_after_turn, ticket_after, attempts, polls_request, polls_at, refusal_of, op_begun, refresh_call, poll_begun, poll_call, sleep_call, wake_call, call_begun, attempt_left, poll_left, serial_taken, update_done, is_no_room, with_request, accepts, shifts, attempted, attempt_ledto, caught_up, catch_ledto, clear_ledto, is_finished, is_owed, request_finished, lacks_room, finishes_request, keeps_request, poll_ledto, turn_ledto, leave_ledto, attempt_moved, caught, own_turn_moved, sitting_ask, session_ask, sitting_next, sitting_given, refuses, asks_after, is_word_ask}
 use Rattle.fkv_session.specs.SessionRun.{SessionEvent, Begins, Replies, Gets, begins, session_happens, session_run}
 use Rattle.fkv_session.specs.Words.{stored_by, stored_behind, stored_last, left_with, left_by, serial_left}
 use Rattle.fkv_session.specs.InOrder.{IsOwedOrOneMore}
@@ -162,7 +162,7 @@ poll_near : (m : Moment) (s : SessionState) (i : ℕ) (ask : Ask TryAnswer) (lef
 unfolding poll_ledto
 poll_near m s i (Done its) left e so has at =
     let at_left : IsAt s.requests i s.attempt.pending = record { its = at.its; at = at.at; same = at.same } in
-    either_near (is_finished its) m (finishes_request m.seat (attempt_left s) i its) (keeps_request m.seat (attempt_left s) i its) (finishes_near m (attempt_left s) i its left so has at_left) (keeps_near m (attempt_left s) i its)
+    either_near (is_finished its) m (finishes_request m.seat (poll_left s) i its) (keeps_request m.seat (poll_left s) i its) (finishes_near m (poll_left s) i its left so has at_left) (keeps_near m (poll_left s) i its)
 poll_near m s i ask left e so has at = still_near m s (Polls i) e tt
 
 turned_near : (m : Moment) (s : SessionState) (its : Told) (ask : Ask (Unit {0})) → s.step ≡ Turns its → NearAfter m (turn_ledto s its ask)

@@ -34,7 +34,7 @@ use Rattle.fkv_session.specs.OwnTurns.{own_turn_given}
 use Rattle.fkv_session.specs.Polls.{IsSameRequest, IsParted, no_more, is_finished as parts_finished, waits_on, with_attempted, attempted_at, attempted_by, attempted_in_poll, IsPollOf}
 use Rattle.fkv_session.specs.Refused.{begun_from, before_call}
 use Rattle.fkv_session.specs.Replies.{op_called}
-use Rattle.fkv_session.specs.Sessions.{SessionState, Seat, bits_of, room_of, is_busy, answers, answers_after_turn, ticket_after, attempts, polls_request, polls_at, refusal_of, op_begun, refresh_call, poll_begun, poll_call, sleep_call, wake_call, call_begun, attempt_left, serial_taken, update_done, is_no_room, with_request, accepts, shifts, attempted, attempt_ledto, catch_ledto, clear_ledto, finished_of, is_finished, is_owed, request_finished, finishes_request, keeps_request, poll_ledto, turn_ledto, leave_ledto, attempt_moved, caught, own_turn_moved, sitting_next, sitting_given, asks_after, is_word_ask, session_ask, IsOpened}
+use Rattle.fkv_session.specs.Sessions.{SessionState, Seat, bits_of, room_of, is_busy, answers, answers_after_turn, ticket_after, attempts, polls_request, polls_at, refusal_of, op_begun, refresh_call, poll_begun, poll_call, sleep_call, wake_call, call_begun, attempt_left, poll_left, serial_taken, update_done, is_no_room, with_request, accepts, shifts, attempted, attempt_ledto, catch_ledto, clear_ledto, finished_of, is_finished, is_owed, request_finished, finishes_request, keeps_request, poll_ledto, turn_ledto, leave_ledto, attempt_moved, caught, own_turn_moved, sitting_next, sitting_given, asks_after, is_word_ask, session_ask, IsOpened}
 use Rattle.fkv_session.specs.SessionRun.{SessionEvent, Begins, Replies, Gets, begins, session_happens, session_run, is_calling}
 use Rattle.fkv_session.specs.Versions.{IsAttemptOfRequest}
 use Rattle.fkv_session.proofs.AttemptKeeps.{attempt_keeps}
@@ -211,7 +211,7 @@ poll_polls : (waited : List PendingRequest) (tried : List RequestName) (k : Seat
     → IsPollingNow waited (with_attempted ask s.attempt.pending.name tried) (poll_ledto k s i ask)
 unfolding poll_ledto
 poll_polls waited tried k s i (Done its) e same parted =
-    either_polls (is_finished its) waited (tried ++ s.attempt.pending.name ∷ []) _ (keeps_request k (attempt_left s) i its) (finishes_polls waited tried k (attempt_left s) i its same parted) (keeps_polls waited tried k (attempt_left s) i its same parted)
+    either_polls (is_finished its) waited (tried ++ s.attempt.pending.name ∷ []) _ (keeps_request k (poll_left s) i its) (finishes_polls waited tried k (poll_left s) i its same parted) (keeps_polls waited tried k (poll_left s) i its same parted)
 poll_polls waited tried k s i ask e same parted = still waited tried s (Polls i) e parted
 
 next_polls : (waited : List PendingRequest) (tried : List RequestName) (called : Option Op) (k : Seat) (s : SessionState) (step : Sitting) (reply : ℕ) → s.step ≡ step → KnowsRequest called s step → IsPolling waited tried s step

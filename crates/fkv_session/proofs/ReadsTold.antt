@@ -30,7 +30,7 @@ use Rattle.fkv_session.specs.declared.sessions.CatchCause.TheVariants.{Refreshes
 use Rattle.fkv_session.specs.declared.sessions.Sitting.{Sitting}
 use Rattle.fkv_session.specs.declared.sessions.Sitting.TheVariants.{Idle, Attempts, CatchesUp, ClearsMail, Polls, StoresOwing, Turns, StoresCut, Leaves, LoadsDurable}
 use Rattle.fkv_session.specs.OwnTurns.{own_turn_given}
-use Rattle.fkv_session.specs.Sessions.{SessionState, Seat, IsOpened, is_busy, answers, answers_after_turn, ticket_after, attempts, polls_request, polls_at, refusal_of, op_begun, refresh_call, poll_begun, poll_call, sleep_call, wake_call, call_begun, session_begun, attempt_left, serial_taken, update_done, is_no_room, with_request, accepts, shifts, attempted, attempt_ledto, caught_up, catch_ledto, clear_ledto, finished_of, is_finished, is_owed, request_finished, lacks_room, finishes_request, keeps_request, poll_ledto, turn_ledto, leave_ledto, attempt_moved, caught, own_turn_moved, sitting_next, sitting_given, asks_after, is_word_ask, session_ask, refuses}
+use Rattle.fkv_session.specs.Sessions.{SessionState, Seat, IsOpened, is_busy, answers, answers_after_turn, ticket_after, attempts, polls_request, polls_at, refusal_of, op_begun, refresh_call, poll_begun, poll_call, sleep_call, wake_call, call_begun, session_begun, attempt_left, poll_left, serial_taken, update_done, is_no_room, with_request, accepts, shifts, attempted, attempt_ledto, caught_up, catch_ledto, clear_ledto, finished_of, is_finished, is_owed, request_finished, lacks_room, finishes_request, keeps_request, poll_ledto, turn_ledto, leave_ledto, attempt_moved, caught, own_turn_moved, sitting_next, sitting_given, asks_after, is_word_ask, session_ask, refuses}
 use Rattle.fkv_session.specs.SessionRun.{SessionEvent, Begins, Replies, Gets, begins, session_happens, session_run, Telling, telling, answered, is_calling, told_after, tellings, with_coming, in_hand}
 use Rattle.fkv_session.specs.Accounts.{number_of}
 use Rattle.fkv_session.specs.Reads.{ReadAnswered, with_called, with_polled, reads_replied, reads_behind, reads_ended, reads_by_poll, reads_told, AreReadsAnswered, IsAttemptOf}
@@ -186,9 +186,9 @@ poll_reads : (ended : List ReadAnswered) (before : List Telling) (k : Seat) (s :
     → ReadsAfter (with_polled s.attempt.pending.name ask ended) before (poll_ledto k s i ask)
 unfolding poll_ledto
 poll_reads ended before k s i (Done its) e reads =
-    tested_reads (is_finished its) (with_polled s.attempt.pending.name (Done its) ended) before (finishes_request k (attempt_left s) i its) (keeps_request k (attempt_left s) i its)
-    (λ ends. finishes_reads ended before k (attempt_left s) i its ends reads)
-    (λ waits. subst (λ (x : List ReadAnswered). ReadsAfter x before (keeps_request k (attempt_left s) i its)) (sym (kept_so ended s.attempt.pending.name its waits)) (keeps_reads ended before k (attempt_left s) i its reads))
+    tested_reads (is_finished its) (with_polled s.attempt.pending.name (Done its) ended) before (finishes_request k (poll_left s) i its) (keeps_request k (poll_left s) i its)
+    (λ ends. finishes_reads ended before k (poll_left s) i its ends reads)
+    (λ waits. subst (λ (x : List ReadAnswered). ReadsAfter x before (keeps_request k (poll_left s) i its)) (sym (kept_so ended s.attempt.pending.name its waits)) (keeps_reads ended before k (poll_left s) i its reads))
 poll_reads ended before k s i ask e reads = under_way s.attempt.pending.name
   where
     under_way : (name : RequestName) → ReadsAfter (with_polled name ask ended) before s

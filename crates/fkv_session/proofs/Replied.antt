@@ -45,7 +45,7 @@ use Rattle.fkv_session.specs.declared.sessions.Sitting.{Sitting}
 use Rattle.fkv_session.specs.declared.sessions.Sitting.TheVariants.{Idle, Attempts, CatchesUp, ClearsMail, Polls, StoresOwing, Turns, StoresCut, Leaves, LoadsDurable}
 use Rattle.fkv_session.specs.CatchingUp.{CatchState, latched, latch_marked, catching_requests}
 use Rattle.fkv_session.specs.OwnTurns.{own_turn_given}
-use Rattle.fkv_session.specs.Sessions.{SessionState, Seat, IsOpened, bits_of, room_of, is_busy, answers, answers_after_turn, ticket_after, name_of, request_in_hand, attempts, polls_request, polls_at, refusal_of, op_begun, refresh_call, poll_begun, poll_call, sleep_call, wake_call, call_begun, session_begun, attempt_left, serial_taken, update_done, is_no_room, with_request, accepts, shifts, attempted, attempt_ledto, caught_up, catch_ledto, clear_ledto, finished_of, is_finished, is_owed, request_finished, finishes_request, keeps_request, poll_ledto, turn_ledto, leave_ledto, entry_of, attempt_moved, caught, own_turn_moved, sitting_next, sitting_given, asks_after, is_word_ask, session_ask}
+use Rattle.fkv_session.specs.Sessions.{SessionState, Seat, IsOpened, bits_of, room_of, is_busy, answers, answers_after_turn, ticket_after, name_of, request_in_hand, attempts, polls_request, polls_at, refusal_of, op_begun, refresh_call, poll_begun, poll_call, sleep_call, wake_call, call_begun, session_begun, attempt_left, poll_left, serial_taken, update_done, is_no_room, with_request, accepts, shifts, attempted, attempt_ledto, caught_up, catch_ledto, clear_ledto, finished_of, is_finished, is_owed, request_finished, finishes_request, keeps_request, poll_ledto, turn_ledto, leave_ledto, entry_of, attempt_moved, caught, own_turn_moved, sitting_next, sitting_given, asks_after, is_word_ask, session_ask}
 use Rattle.fkv_session.specs.SessionRun.{SessionEvent, Begins, Replies, Gets, begins, session_happens, session_run, Telling, telling, answered, is_calling, told_after, tellings, with_coming, in_hand}
 use Rattle.fkv_session.specs.Accounts.{number_of}
 use Rattle.fkv_session.specs.Replies as law
@@ -482,7 +482,7 @@ poll_told : (k : Seat) (effects : List HistoryEntry) (taken : List Taken) (calle
 unfolding poll_ledto
 poll_told k effects taken called before s i (Done its) ones e asks parts books in_poll =
     let ended = attempt_ends k.places k.number s.attempt its in_poll.under_way.rests asks in
-    ended_poll k effects taken called before (attempt_left s) i its ones (is_finished its) refl (parts ∙ ap (λ x. with_effect (entry_made k.number s.attempt (made_in s.attempt x)) ones) ended) books in_poll.name
+    ended_poll k effects taken called before (poll_left s) i its ones (is_finished its) refl (parts ∙ ap (λ x. with_effect (entry_made k.number s.attempt (made_in s.attempt x)) ones) ended) books in_poll.name
     (λ update. subst (λ x. KnowsUpdate s.attempt x) ended (in_poll.under_way.knows update))
 poll_told k effects taken called before s i ask ones e asks parts books in_poll =
     still k effects taken called before s (Polls i) e (record { settled_ones = ones; its_effects = parts; books = books; knows = in_poll })

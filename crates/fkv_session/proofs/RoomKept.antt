@@ -41,7 +41,7 @@ use Rattle.fkv_session.specs.declared.sessions.Sitting.{Sitting}
 use Rattle.fkv_session.specs.declared.sessions.Sitting.TheVariants.{Idle, Attempts, CatchesUp, ClearsMail, Polls, StoresOwing, Turns, StoresCut, Leaves, LoadsDurable}
 use Rattle.fkv_session.specs.CatchingUp.{CatchState, catch_ask, refresh_begun, wake_begun, catching_requests, latched, latch_marked}
 use Rattle.fkv_session.specs.OwnTurns.{own_turn_ask, own_turn_begun, own_turn_given}
-use Rattle.fkv_session.specs.Sessions.{Seat, SessionState, is_busy, session_ask, answers, refuses, answers_after_turn, attempts, polls_request, polls_at, is_full, is_spent, refusal_of, op_begun, refresh_call, poll_begun, poll_call, sleep_call, wake_call, call_begun, session_begun, attempt_left, serial_taken, is_no_room, with_request, ticket_after, accepts, shifts, attempted, attempt_ledto, catch_ledto, clear_ledto, is_finished, is_owed, request_finished, finishes_request, lacks_room, keeps_request, poll_ledto, turn_ledto, leave_ledto, attempt_moved, caught, own_turn_moved, sitting_next, session_next, sitting_given, session_given, asks_after, is_word_ask, IsOpened}
+use Rattle.fkv_session.specs.Sessions.{Seat, SessionState, is_busy, session_ask, answers, refuses, answers_after_turn, attempts, polls_request, polls_at, is_full, is_spent, refusal_of, op_begun, refresh_call, poll_begun, poll_call, sleep_call, wake_call, call_begun, session_begun, attempt_left, poll_left, serial_taken, is_no_room, with_request, ticket_after, accepts, shifts, attempted, attempt_ledto, catch_ledto, clear_ledto, is_finished, is_owed, request_finished, finishes_request, lacks_room, keeps_request, poll_ledto, turn_ledto, leave_ledto, attempt_moved, caught, own_turn_moved, sitting_next, session_next, sitting_given, session_given, asks_after, is_word_ask, IsOpened}
 use Rattle.fkv_session.specs.SessionRun.{SessionEvent, Begins, Replies, Gets, begins, session_happens, session_run}
 
 -- while an operation is in hand there is room for its request
@@ -167,7 +167,7 @@ keeps_keeps n k s index its same few =
 
 poll_keeps : (n : ℕ) (k : Seat) (s : SessionState) (index : ℕ) (ask : Ask TryAnswer) → s.step ≡ Polls index → s.asks ≡ n → length s.requests ≤ max_pending → KeepsRoom n (poll_ledto k s index ask)
 unfolding poll_ledto
-poll_keeps n k s index (Done its) at same few = either_keeps (is_finished its) n _ _ (finishes_keeps n k (attempt_left s) index its same few) (keeps_keeps n k (attempt_left s) index its same few)
+poll_keeps n k s index (Done its) at same few = either_keeps (is_finished its) n _ _ (finishes_keeps n k (poll_left s) index its same few) (keeps_keeps n k (poll_left s) index its same few)
 poll_keeps n k s index ask at same few = still n s (Polls index) at same few tt
 
 turned_keeps : (n : ℕ) (s : SessionState) (its : Told) (ask : Ask (Unit {0})) → s.step ≡ Turns its → s.asks ≡ n → length s.requests ≤ max_pending → KeepsRoom n (turn_ledto s its ask)

@@ -43,7 +43,7 @@ use Rattle.fkv_session.specs.declared.sessions.Sitting.{Sitting}
 use Rattle.fkv_session.specs.declared.sessions.Sitting.TheVariants.{Idle, Attempts, CatchesUp, ClearsMail, Polls, StoresOwing, Turns, StoresCut, Leaves, LoadsDurable}
 use Rattle.fkv_session.specs.CatchingUp.{catch_ask, refresh_begun, wake_begun}
 use Rattle.fkv_session.specs.OwnTurns.{OwnTurnState, own_turn_ask, own_turn_next, own_turn_begun, own_turn_given}
-use Rattle.fkv_session.specs.Sessions.{Seat, SessionState, bits_of, room_of, sitting_ask, session_ask, answers, refuses, answers_after_turn, request_in_hand, attempts, polls_request, polls_at, refusal_of, op_begun, refresh_call, poll_begun, poll_call, sleep_call, wake_call, call_begun, session_begun, attempt_left as left_behind, serial_taken, is_no_room, with_request, ticket_after, accepts, shifts, attempted, attempt_ledto, catch_ledto, clear_ledto, is_finished, is_owed, request_finished, finishes_request, lacks_room, keeps_request, poll_ledto, turn_ledto, leave_ledto, attempt_moved, caught, own_turn_moved, sitting_next, session_next, sitting_given, session_given, asks_after, is_word_ask}
+use Rattle.fkv_session.specs.Sessions.{Seat, SessionState, bits_of, room_of, sitting_ask, session_ask, answers, refuses, answers_after_turn, request_in_hand, attempts, polls_request, polls_at, refusal_of, op_begun, refresh_call, poll_begun, poll_call, sleep_call, wake_call, call_begun, session_begun, attempt_left as left_behind, serial_taken, is_no_room, with_request, ticket_after, accepts, shifts, attempted, attempt_ledto, catch_ledto, clear_ledto, is_finished, is_owed, request_finished, finishes_request, lacks_room, keeps_request, poll_ledto, turn_ledto, leave_ledto, attempt_moved, caught, own_turn_moved, sitting_next, session_next, sitting_given, session_given, asks_after, is_word_ask, poll_left as poll_behind}
 use Rattle.fkv_session.specs.AsksLeft.{catch_asks_left, most_catch_asks, own_turn_asks_left, most_own_turn_asks, most_attempt_asks, most_poll_asks, sitting_asks_left, session_asks_left, IsOfShape, try_bound, call_bound}
 use Rattle.fkv_session.proofs.CatchLeft.{catch_left, catch_fewer, catch_most, refresh_begun_left, wake_begun_left}
 use Rattle.fkv_session.proofs.OwnTurnLeft.{own_turn_left, own_turn_begun_left, own_turn_fewer, own_turn_given_fewer, own_turn_waits, own_turn_spared, own_turn_most, passed_takes}
@@ -273,7 +273,7 @@ poll_done_left k s index its false = let few = keeps_left k s index its in omega
 poll_led : (k : Seat) (s : SessionState) (index old : ℕ) (ask : Ask TryAnswer) → s.step ≡ Polls index → 0 < old → attempt_asks_left k.places s.attempt < old
     → session_asks_left k (poll_ledto k s index ask) < sum_left old (most_poll_asks k s.requests (index + 1) + 1)
 unfolding poll_ledto
-poll_led k s index old (Done its) at some fewer = behind_fewer _ old (most_poll_asks k s.requests (index + 1) + 1) some (poll_done_left k (left_behind s) index its (is_finished its))
+poll_led k s index old (Done its) at some fewer = behind_fewer _ old (most_poll_asks k s.requests (index + 1) + 1) some (poll_done_left k (poll_behind s) index its (is_finished its))
 poll_led k s index old ask at some fewer = inside_poll k s index old at fewer
 
 turn_led : (k : Seat) (s : SessionState) (its : Told) (old : ℕ) (ask : Ask (Unit {0})) → s.step ≡ Turns its → own_turn_asks_left k.shape s.own_turn < old → session_asks_left k (turn_ledto s its ask) < old

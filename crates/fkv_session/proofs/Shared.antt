@@ -47,7 +47,7 @@ use Rattle.fkv_session.specs.declared.sessions.Sitting.{Sitting}
 use Rattle.fkv_session.specs.declared.sessions.Sitting.TheVariants.{Idle, Attempts, CatchesUp, ClearsMail, Polls, StoresOwing, Turns, StoresCut, Leaves, LoadsDurable}
 use Rattle.fkv_session.specs.CatchingUp.{CatchState, cut_of, cut_at, owing, refresh_begun, wake_begun, catching_ask, catch_ask, catch_next, catch_requests}
 use Rattle.fkv_session.specs.OwnTurns.{own_turn_begun, own_turn_ask, own_turn_given}
-use Rattle.fkv_session.specs.Sessions.{SessionState, Seat, IsOpened, bits_of, room_of, is_busy, answers, refuses, answers_after_turn, request_in_hand, attempts, polls_request, polls_at, refusal_of, op_begun, refresh_call, poll_begun, poll_call, sleep_call, wake_call, call_begun, ticket_after, attempt_left, serial_taken, update_done, is_no_room, lacks_room, with_request, accepts, shifts, attempted, attempt_ledto, caught_up, catch_ledto, clear_ledto, is_finished, is_owed, request_finished, finishes_request, keeps_request, poll_ledto, turn_ledto, leave_ledto, attempt_moved, caught, own_turn_moved, sitting_ask, session_ask, sitting_next, sitting_given, asks_after, is_word_ask}
+use Rattle.fkv_session.specs.Sessions.{SessionState, Seat, IsOpened, bits_of, room_of, is_busy, answers, refuses, answers_after_turn, request_in_hand, attempts, polls_request, polls_at, refusal_of, op_begun, refresh_call, poll_begun, poll_call, sleep_call, wake_call, call_begun, ticket_after, attempt_left, poll_left, serial_taken, update_done, is_no_room, lacks_room, with_request, accepts, shifts, attempted, attempt_ledto, caught_up, catch_ledto, clear_ledto, is_finished, is_owed, request_finished, finishes_request, keeps_request, poll_ledto, turn_ledto, leave_ledto, attempt_moved, caught, own_turn_moved, sitting_ask, session_ask, sitting_next, sitting_given, asks_after, is_word_ask}
 use Rattle.fkv_session.specs.SessionRun.{SessionEvent, Begins, Replies, Gets, begins, session_happens, session_run}
 use Rattle.fkv_session.specs.Shares.{added_by, added_behind, times_added, shares_added, shares_dropped, HasItsBuckets, latch_of, is_sharing, sharing, OnlyUpdatesShare}
 use Rattle.fkv_session.proofs.AttemptKeeps.{attempt_keeps, begun_same}
@@ -243,19 +243,19 @@ unfolding keeps_request
 keeps_shares m s i its plain = polls_shares m (record s { requests = slice_set s.requests i s.attempt.pending; wants_turn = s.wants_turn || lacks_room its }) (i + 1) plain
 
 poll_either : (m : Book) (s : SessionState) (i : ℕ) (its : TryAnswer) (done : Bool) → is_finished its ≡ done → s.attempt.step ≡ Ended its → IsPolling m s.requests i s.attempt
-    → SharesAfter m (if done then finishes_request m.seat (attempt_left s) i its else keeps_request m.seat (attempt_left s) i its)
+    → SharesAfter m (if done then finishes_request m.seat (poll_left s) i its else keeps_request m.seat (poll_left s) i its)
 poll_either m s i its true e ended holds =
     let counted = holds.counted in
     let owes = end_owes m s.attempt its ended in
     let none = end_knows m s.attempt its ended holds.known (waits_not its e) in
     let free : ◌≡◌ {A = ℕ} (bit_of (is_sharing m.seat m.at s.attempt.pending)) 0 = ap (λ (b : Bool). bit_of (b && latch_of m.seat.places (bits_of m.seat) s.attempt.pending.request.op == m.at)) none in
     let removed = sharing_removed m.seat m.at s.requests i holds.pending holds.got in
-    finishes_shares m (attempt_left s) i its (record { counted = omega (arith, counted, owes, free, removed); only = only_removed s.requests i holds.only })
+    finishes_shares m (poll_left s) i its (record { counted = omega (arith, counted, owes, free, removed); only = only_removed s.requests i holds.only })
 poll_either m s i its false e ended holds =
     let counted = holds.counted in
     let owes = end_owes m s.attempt its ended in
     let set = sharing_set m.seat m.at s.requests i s.attempt.pending holds.pending holds.got in
-    keeps_shares m (attempt_left s) i its (record { counted = omega (arith, counted, owes, set); only = only_set s.requests i s.attempt.pending holds.known.reads holds.only })
+    keeps_shares m (poll_left s) i its (record { counted = omega (arith, counted, owes, set); only = only_set s.requests i s.attempt.pending holds.known.reads holds.only })
 
 poll_led : (m : Book) (s : SessionState) (i : ℕ) (ask : Ask TryAnswer) → s.step ≡ Polls i → attempt_ask m.seat.places m.seat.number s.attempt ≡ ask → IsPolling m s.requests i s.attempt → SharesAfter m (poll_ledto m.seat s i ask)
 unfolding poll_ledto

@@ -32,7 +32,7 @@ use Rattle.fkv_session.specs.declared.sessions.Sitting.{Sitting}
 use Rattle.fkv_session.specs.declared.sessions.Sitting.TheVariants.{Idle, Attempts, CatchesUp, ClearsMail, Polls, StoresOwing, Turns, StoresCut, Leaves, LoadsDurable}
 use Rattle.fkv_session.specs.CatchingUp.{cut_of, cut_at}
 use Rattle.fkv_session.specs.OwnTurns.{own_turn_given}
-use Rattle.fkv_session.specs.Sessions.{SessionState, Seat, IsOpened, is_busy, answers, answers_after_turn, ticket_after, attempts, polls_request, polls_at, refusal_of, op_begun, refresh_call, poll_begun, poll_call, sleep_call, wake_call, call_begun, attempt_left, serial_taken, update_done, is_no_room, with_request, accepts, shifts, attempted, attempt_ledto, caught_up, catch_ledto, clear_ledto, is_finished, is_owed, request_finished, lacks_room, finishes_request, keeps_request, poll_ledto, turn_ledto, leave_ledto, attempt_moved, caught, own_turn_moved, sitting_ask, session_ask, sitting_next, sitting_given, refuses, asks_after, is_word_ask}
+use Rattle.fkv_session.specs.Sessions.{SessionState, Seat, IsOpened, is_busy, answers, answers_after_turn, ticket_after, attempts, polls_request, polls_at, refusal_of, op_begun, refresh_call, poll_begun, poll_call, sleep_call, wake_call, call_begun, attempt_left, poll_left, serial_taken, update_done, is_no_room, with_request, accepts, shifts, attempted, attempt_ledto, caught_up, catch_ledto, clear_ledto, is_finished, is_owed, request_finished, lacks_room, finishes_request, keeps_request, poll_ledto, turn_ledto, leave_ledto, attempt_moved, caught, own_turn_moved, sitting_ask, session_ask, sitting_next, sitting_given, refuses, asks_after, is_word_ask}
 use Rattle.fkv_session.specs.SessionRun.{SessionEvent, Begins, Replies, Gets, begins, session_happens, session_run}
 use Rattle.fkv_session.specs.Words.{stored_by, stored_behind, stored_last, IsCutAsleep}
 use Rattle.fkv_session.proofs.MarksSpared.{passed_off, leave_off}
@@ -141,7 +141,7 @@ keeps_slept k words s i its awake = polls_slept k words (record s { requests = s
 poll_slept : (k : Seat) (words : ℕ → ℕ) (s : SessionState) (i : ℕ) (ask : Ask TryAnswer) → s.step ≡ Polls i → s.is_awake ≡ true → SleptAfter k words (poll_ledto k s i ask)
 unfolding poll_ledto
 poll_slept k words s i (Done its) e awake =
-    either_slept (is_finished its) k words (finishes_request k (attempt_left s) i its) (keeps_request k (attempt_left s) i its) (finishes_slept k words (attempt_left s) i its awake) (keeps_slept k words (attempt_left s) i its awake)
+    either_slept (is_finished its) k words (finishes_request k (poll_left s) i its) (keeps_request k (poll_left s) i its) (finishes_slept k words (poll_left s) i its awake) (keeps_slept k words (poll_left s) i its awake)
 poll_slept k words s i ask e awake = still_slept k words s (Polls i) e awake
 
 turned_slept : (k : Seat) (words : ℕ → ℕ) (s : SessionState) (its : Told) (ask : Ask (Unit {0})) → s.step ≡ Turns its → s.is_awake ≡ true → SleptAfter k words (turn_ledto s its ask)

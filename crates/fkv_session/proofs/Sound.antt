@@ -38,7 +38,7 @@ use Rattle.fkv_session.specs.declared.sessions.Sitting.{Sitting}
 use Rattle.fkv_session.specs.declared.sessions.Sitting.TheVariants.{Idle, Attempts, CatchesUp, ClearsMail, Polls, StoresOwing, Turns, StoresCut, Leaves, LoadsDurable}
 use Rattle.fkv_session.specs.CatchingUp.{refresh_begun, wake_begun, CatchState, latched, latch_marked, catching_requests}
 use Rattle.fkv_session.specs.OwnTurns.{own_turn_given}
-use Rattle.fkv_session.specs.Sessions.{SessionState, Seat, bits_of, is_busy, answers, answers_after_turn, ticket_after, name_of, request_in_hand, attempts, polls_request, polls_at, refusal_of, op_begun, refresh_call, poll_begun, poll_call, sleep_call, wake_call, call_begun, session_begun, attempt_left, serial_taken, update_done, is_no_room, with_request, accepts, shifts, attempted, attempt_ledto, caught_up, catch_ledto, clear_ledto, finished_of, is_finished, is_owed, request_finished, finishes_request, keeps_request, poll_ledto, turn_ledto, leave_ledto, attempt_moved, caught, own_turn_moved, sitting_next, sitting_given, asks_after, is_word_ask, session_ask}
+use Rattle.fkv_session.specs.Sessions.{SessionState, Seat, bits_of, is_busy, answers, answers_after_turn, ticket_after, name_of, request_in_hand, attempts, polls_request, polls_at, refusal_of, op_begun, refresh_call, poll_begun, poll_call, sleep_call, wake_call, call_begun, session_begun, attempt_left, poll_left, serial_taken, update_done, is_no_room, with_request, accepts, shifts, attempted, attempt_ledto, caught_up, catch_ledto, clear_ledto, finished_of, is_finished, is_owed, request_finished, finishes_request, keeps_request, poll_ledto, turn_ledto, leave_ledto, attempt_moved, caught, own_turn_moved, sitting_next, sitting_given, asks_after, is_word_ask, session_ask}
 use Rattle.fkv_session.specs.SessionRun.{SessionEvent, Begins, Replies, Gets, begins, session_happens, session_run, Telling, telling, answered, is_calling, told_after, tellings, with_coming, in_hand}
 use Rattle.fkv_session.specs.Sessions.{IsOpened}
 use Rattle.fkv_session.specs.Accounts.{names_of, name_finished}
@@ -234,7 +234,7 @@ poll_held : (first : ℕ) (before : List Telling) (k : Seat) (s : SessionState) 
     → IsHeldAfter first before (poll_ledto k s i ask)
 unfolding poll_ledto
 poll_held first before k s i (Done its) e got books =
-    either_held (is_finished its) first before _ (keeps_request k (attempt_left s) i its) (finishes_held first before k (attempt_left s) i its got books) (keeps_held first before k (attempt_left s) i its got books)
+    either_held (is_finished its) first before _ (keeps_request k (poll_left s) i its) (finishes_held first before k (poll_left s) i its got books) (keeps_held first before k (poll_left s) i its got books)
 poll_held first before k s i ask e got books = still first before s (Polls i) e (record { books = books; knows = got })
 
 turned_held : (first : ℕ) (before : List Telling) (s : SessionState) (its : Told) (ask : Ask (Unit {0})) → s.step ≡ Turns its → AreBooksKept first s.serial (telling its s.finished ∷ before) (names_of s.requests) []

@@ -34,7 +34,7 @@ use Rattle.fkv_session.specs.declared.sessions.Sitting.{Sitting}
 use Rattle.fkv_session.specs.declared.sessions.Sitting.TheVariants.{Idle, Attempts, CatchesUp, ClearsMail, Polls, StoresOwing, Turns, StoresCut, Leaves, LoadsDurable}
 use Rattle.fkv_session.specs.CatchingUp.{CatchState, latched, latch_marked, catching_requests}
 use Rattle.fkv_session.specs.OwnTurns.{own_turn_given}
-use Rattle.fkv_session.specs.Sessions.{SessionState, Seat, is_busy, answers, refuses, answers_after_turn, attempts, polls_request, polls_at, refusal_of, op_begun, refresh_call, poll_begun, poll_call, sleep_call, wake_call, call_begun, attempt_left, update_done, serial_taken, ticket_after, is_no_room, with_request, accepts, shifts, attempted, attempt_ledto, catch_ledto, clear_ledto, is_finished, is_owed, request_finished, finishes_request, keeps_request, poll_ledto, turn_ledto, leave_ledto, attempt_moved, caught, own_turn_moved, sitting_next, sitting_given, asks_after, is_word_ask, session_ask}
+use Rattle.fkv_session.specs.Sessions.{SessionState, Seat, is_busy, answers, refuses, answers_after_turn, attempts, polls_request, polls_at, refusal_of, op_begun, refresh_call, poll_begun, poll_call, sleep_call, wake_call, call_begun, attempt_left, poll_left, update_done, serial_taken, ticket_after, is_no_room, with_request, accepts, shifts, attempted, attempt_ledto, catch_ledto, clear_ledto, is_finished, is_owed, request_finished, finishes_request, keeps_request, poll_ledto, turn_ledto, leave_ledto, attempt_moved, caught, own_turn_moved, sitting_next, sitting_given, asks_after, is_word_ask, session_ask}
 use Rattle.fkv_session.specs.SessionRun.{SessionEvent, Begins, Replies, Gets, begins, session_happens, session_run}
 use Rattle.fkv_session.specs.Sessions.{IsOpened}
 use Rattle.fkv_session.specs.Refused.{begun_from, before_call, is_catching_up, catches_up_by, has_caught_up, but_latches, IsLeft, HasTakenNothingUp, IsRefusal}
@@ -177,7 +177,7 @@ keeps_spared b c k s i its = polls_spared b c k _ (i + 1)
 
 poll_spared : (b : SessionState) (c : Bool) (k : Seat) (s : SessionState) (i : ℕ) (ask : Ask TryAnswer) → s.step ≡ Polls i → IsSparedNow b c (poll_ledto k s i ask)
 unfolding poll_ledto
-poll_spared b c k s i (Done its) e = either_spared (is_finished its) b c (finishes_request k (attempt_left s) i its) _ (finishes_spared b c k (attempt_left s) i its) (keeps_spared b c k (attempt_left s) i its)
+poll_spared b c k s i (Done its) e = either_spared (is_finished its) b c (finishes_request k (poll_left s) i its) _ (finishes_spared b c k (poll_left s) i its) (keeps_spared b c k (poll_left s) i its)
 poll_spared b c k s i ask e = still b c s (Polls i) e tt
 
 turned_spared : (b : SessionState) (c : Bool) (s : SessionState) (its : Told) → IsSpared b c s (Turns its) → IsSpared b c (answers s its) (Idle its)

@@ -20,7 +20,7 @@ use Rattle.fkv_session.specs.declared.sessions.CatchCause.TheVariants.{Refreshes
 use Rattle.fkv_session.specs.declared.sessions.Sitting.{Sitting}
 use Rattle.fkv_session.specs.declared.sessions.Sitting.TheVariants.{Idle, Attempts, CatchesUp, ClearsMail, Polls, StoresOwing, Turns, StoresCut, Leaves, LoadsDurable}
 use Rattle.fkv_session.specs.OwnTurns.{own_turn_given}
-use Rattle.fkv_session.specs.Sessions.{SessionState, Seat, session_ask, sitting_ask, session_begun, call_begun, session_next, sitting_next, session_given, sitting_given, answers_after_turn, attempts, polls_request, polls_at, refusal_of, op_begun, refresh_call, poll_begun, poll_call, sleep_call, wake_call, attempt_left, is_finished, is_owed, request_finished, finishes_request, keeps_request, poll_ledto, clear_ledto, catch_ledto, turn_ledto, leave_ledto, attempt_moved, caught, own_turn_moved, asks_after, is_word_ask}
+use Rattle.fkv_session.specs.Sessions.{SessionState, Seat, session_ask, sitting_ask, session_begun, call_begun, session_next, sitting_next, session_given, sitting_given, answers_after_turn, attempts, polls_request, polls_at, refusal_of, op_begun, refresh_call, poll_begun, poll_call, sleep_call, wake_call, poll_left, is_finished, is_owed, request_finished, finishes_request, keeps_request, poll_ledto, clear_ledto, catch_ledto, turn_ledto, leave_ledto, attempt_moved, caught, own_turn_moved, asks_after, is_word_ask}
 use Rattle.fkv_session.specs.Alike.{Lasting, lasting, Standing, standing, StandAlike, op_in_hand, attempt_in_hand}
 
 either : (c : Bool) (x y one other : SessionState) → StandAlike x one → StandAlike y other → StandAlike (if c then x else y) (if c then one else other)
@@ -125,7 +125,7 @@ keeps_alike k s op index its = polls_alike k _ op s.attempt _
 
 poll_alike : (k : Seat) (s : SessionState) (op : Op) (index : ℕ) (ask : Ask TryAnswer) → s.step ≡ Polls index → StandAlike (poll_ledto k s index ask) (poll_ledto k (record s { op = op }) index ask)
 unfolding poll_ledto
-poll_alike k s op index (Done its) e = either (is_finished its) _ _ _ _ (finishes_alike k (attempt_left s) op index its) (keeps_alike k (attempt_left s) op index its)
+poll_alike k s op index (Done its) e = either (is_finished its) _ _ _ _ (finishes_alike k (poll_left s) op index its) (keeps_alike k (poll_left s) op index its)
 poll_alike k s op index ask e = stays (Polls index) s op s.attempt e
 
 own_turn_alike : (s : SessionState) (op : Op) (a : AttemptState) (its : Told) (ask : Ask (Unit {0})) → s.step ≡ Turns its → StandAlike (turn_ledto s its ask) (turn_ledto (besides s op a) its ask)
@@ -176,6 +176,7 @@ lasted l s =
       seen = l.seen;
       serial = l.serial;
       ticket = l.ticket;
+      floor = l.floor;
       requests = l.requests;
       is_orphaned = l.is_orphaned;
       spare = l.spare;

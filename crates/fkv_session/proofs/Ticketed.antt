@@ -27,7 +27,7 @@ use Rattle.fkv_session.specs.declared.sessions.CatchCause.TheVariants.{Refreshes
 use Rattle.fkv_session.specs.declared.sessions.Sitting.{Sitting}
 use Rattle.fkv_session.specs.declared.sessions.Sitting.TheVariants.{Idle, Attempts, CatchesUp, ClearsMail, Polls, StoresOwing, Turns, StoresCut, Leaves, LoadsDurable}
 use Rattle.fkv_session.specs.OwnTurns.{own_turn_given}
-use Rattle.fkv_session.specs.Sessions.{SessionState, Seat, is_busy, answers, answers_after_turn, ticket_after, attempts, polls_request, polls_at, refusal_of, op_begun, refresh_call, poll_begun, poll_call, sleep_call, wake_call, call_begun, session_begun, attempt_left, serial_taken, update_done, is_no_room, with_request, accepts, shifts, attempted, attempt_ledto, caught_up, catch_ledto, clear_ledto, is_finished, is_owed, request_finished, finishes_request, keeps_request, poll_ledto, turn_ledto, leave_ledto, attempt_moved, caught, own_turn_moved, sitting_next, sitting_given, asks_after, is_word_ask, session_ask, IsOpened}
+use Rattle.fkv_session.specs.Sessions.{SessionState, Seat, is_busy, answers, answers_after_turn, ticket_after, attempts, polls_request, polls_at, refusal_of, op_begun, refresh_call, poll_begun, poll_call, sleep_call, wake_call, call_begun, session_begun, attempt_left, poll_left, serial_taken, update_done, is_no_room, with_request, accepts, shifts, attempted, attempt_ledto, caught_up, catch_ledto, clear_ledto, is_finished, is_owed, request_finished, finishes_request, keeps_request, poll_ledto, turn_ledto, leave_ledto, attempt_moved, caught, own_turn_moved, sitting_next, sitting_given, asks_after, is_word_ask, session_ask, IsOpened}
 use Rattle.fkv_session.specs.SessionRun.{SessionEvent, Begins, Replies, Gets, begins, session_happens, session_run, Telling, telling, answered, is_calling, told_after, tellings, with_coming}
 use Rattle.fkv_session.specs.Tickets.{tickets_given, newest_ticket, ComesBehind, ComeInTurn, AreTicketsInTurn}
 
@@ -159,7 +159,7 @@ keeps_held before k s i its books = polls_held before k _ (i + 1) books
 
 poll_held : (before : List Telling) (k : Seat) (s : SessionState) (i : ℕ) (ask : Ask TryAnswer) → s.step ≡ Polls i → AreTicketsInTurn s.ticket before → IsInTurnAfter before (poll_ledto k s i ask)
 unfolding poll_ledto
-poll_held before k s i (Done its) e books = either_held (is_finished its) before _ (keeps_request k (attempt_left s) i its) (finishes_held before k (attempt_left s) i its books) (keeps_held before k (attempt_left s) i its books)
+poll_held before k s i (Done its) e books = either_held (is_finished its) before _ (keeps_request k (poll_left s) i its) (finishes_held before k (poll_left s) i its books) (keeps_held before k (poll_left s) i its books)
 poll_held before k s i ask e books = still before s (Polls i) e books
 
 turned_held : (before : List Telling) (s : SessionState) (its : Told) (ask : Ask (Unit {0})) → s.step ≡ Turns its → AreTicketsInTurn s.ticket (telling its s.finished ∷ before) → IsInTurnAfter before (turn_ledto s its ask)

@@ -1,6 +1,6 @@
 -- The try of an update never ends as a read's does: it finds no value, and no absence.
 use Rattle.std.proofs.Common.{◌≡◌, ℕ, Bool, true, false}
-use Rattle.std.specs.Prelude.{Option, Some, None, if◌then◌else◌, ◌==◌, ◌&&◌, not, nat_le}
+use Rattle.std.specs.Prelude.{Option, Some, None, if◌then◌else◌, ◌==◌, ◌&&◌, not, nat_le, ◌||◌}
 use Rattle.fkv_base.specs.declared.numbers.Addr.{Addr}
 use Rattle.fkv_base.specs.declared.numbers.Version.{Version}
 use Rattle.fkv_log.specs.declared.regions.Region.{Region}
@@ -34,7 +34,7 @@ use Rattle.fkv_ops.specs.declared.answers.Waiting.{Waiting}
 use Rattle.fkv_ops.specs.declared.answers.Waiting.TheVariants.{For, ForRecord}
 use Rattle.fkv_ops.specs.Bounds.{bounds_at, is_past_taken, is_past_tail}
 use Rattle.fkv_ops.specs.Waiting.{told_of}
-use Rattle.fkv_ops.specs.Requests.{is_read, is_blind}
+use Rattle.fkv_ops.specs.Requests.{is_read, is_blind, is_chain_end}
 use Rattle.fkv_ops.specs.Trying.{TryState, try_begun, wants_shared, with_latch, walks, is_bounded, ends, ends_so, tail_loaded, taken_loaded, must_count, count_loaded, ended_without, is_wait, takes_effect, full_at, is_next_marked, shared_ledto, is_still_in, phase_loaded, is_surely_own, wants_exclusive, copies_from, copies, appends, awaits, held_used, changes, is_own_version, region_met, walked, has_walked, must_shift, walk_ledto, safe_loaded, current_ledto, value_changed, exclusive_ledto, old_ledto, append_ledto, exclusive_dropped, shared_dropped, trying_next, try_next, new_try}
 
 -- no answer of a read
@@ -113,7 +113,7 @@ held_update p t addr None e = ends_update p t _ e tt
 held_update p t addr (Some held) e =
     either_update (held.entry == t.walk.entry) _ (awaits p t addr)
     (either_update (held.key.0 == (key_of t.request.op).0) (copies p t (Known held.value) false) _ (copies_update p t (Known held.value) false e)
-    (either_update (held.previous.0 == 0) (copies p t (Known _) false) (awaits p t held.previous) (copies_update p t (Known _) false e) (ends_update p t _ e tt)))
+    (either_update (is_chain_end t.request.floor held.previous) (copies p t (Known _) false) (awaits p t held.previous) (copies_update p t (Known _) false e) (ends_update p t _ e tt)))
     (ends_update p t _ e tt)
 
 region_update : (p : Places) (t : TryState) (addr : Addr) (version : Version) (its : Option Region) → is_read t.request.op ≡ false → IsUpdateTry (region_met p t addr version its)
@@ -132,8 +132,8 @@ walked_update p t walk.Nowhere e =
     else_update (is_read t.request.op) (ends p t answer.Absent) _ e
     (either_update (must_count p t) (record t { step = try.CountsTaken }) (copies p t (Known _) false) (record { update = e; step = tt }) (copies_update p t (Known _) false e))
 walked_update p t (walk.OnDisk addr) e =
-    either_update (is_read t.request.op) (awaits p t addr) _ (ends_update p t _ e tt)
-    (either_update (is_blind t.request.op) (copies p t (Known _) false) (held_used p t addr t.request.held) (copies_update p t (Known _) false e) (held_update p t addr t.request.held e))
+    else_update (is_read t.request.op) (if is_chain_end t.request.floor addr then ends p t answer.Absent else awaits p t addr) _ e
+    (either_update (is_blind t.request.op || is_chain_end t.request.floor addr) (copies p t (Known _) false) (held_used p t addr t.request.held) (copies_update p t (Known _) false e) (held_update p t addr t.request.held e))
 walked_update p t (walk.Value value) e = ends_update p t _ e tt
 walked_update p t walk.Full e = ends_update p t _ e (full_end t.occasion answer.IndexFull tt)
 walked_update p t walk.Kept e = ends_update p t _ e (full_end t.occasion answer.IndexFull tt)

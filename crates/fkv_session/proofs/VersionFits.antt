@@ -26,7 +26,7 @@ use Rattle.fkv_session.specs.declared.sessions.CatchCause.TheVariants.{Refreshes
 use Rattle.fkv_session.specs.declared.sessions.Sitting.{Sitting}
 use Rattle.fkv_session.specs.declared.sessions.Sitting.TheVariants.{Idle, Attempts, CatchesUp, ClearsMail, Polls, StoresOwing, Turns, StoresCut, Leaves, LoadsDurable}
 use Rattle.fkv_session.specs.OwnTurns.{own_turn_given}
-use Rattle.fkv_session.specs.Sessions.{SessionState, Seat, bits_of, is_busy, answers, refuses, answers_after_turn, ticket_after, attempts, polls_request, polls_at, refusal_of, op_begun, refresh_call, poll_begun, poll_call, sleep_call, wake_call, call_begun, attempt_left, serial_taken, update_done, is_no_room, with_request, accepts, shifts, attempted, attempt_ledto, catch_ledto, clear_ledto, is_finished, is_owed, request_finished, finishes_request, keeps_request, poll_ledto, turn_ledto, leave_ledto, attempt_moved, caught, own_turn_moved, sitting_next, sitting_given, asks_after, is_word_ask, session_ask, IsOpened}
+use Rattle.fkv_session.specs.Sessions.{SessionState, Seat, bits_of, is_busy, answers, refuses, answers_after_turn, ticket_after, attempts, polls_request, polls_at, refusal_of, op_begun, refresh_call, poll_begun, poll_call, sleep_call, wake_call, call_begun, attempt_left, poll_left, serial_taken, update_done, is_no_room, with_request, accepts, shifts, attempted, attempt_ledto, catch_ledto, clear_ledto, is_finished, is_owed, request_finished, finishes_request, keeps_request, poll_ledto, turn_ledto, leave_ledto, attempt_moved, caught, own_turn_moved, sitting_next, sitting_given, asks_after, is_word_ask, session_ask, IsOpened}
 use Rattle.fkv_session.specs.SessionRun.{SessionEvent, Begins, Replies, Gets, begins, session_happens, session_run}
 use Rattle.fkv_session.specs.Versions.{IsVersion}
 use Rattle.fkv_session.proofs.CatchFits.{catch_fit}
@@ -113,7 +113,7 @@ keeps_fits k s i its fit = polls_fits k _ (i + 1) fit
 
 poll_fits : (k : Seat) (s : SessionState) (i : ℕ) (ask : Ask TryAnswer) → s.step ≡ Polls i → IsVersion s.seen.version.0 → IsKeptNow (poll_ledto k s i ask)
 unfolding poll_ledto
-poll_fits k s i (Done its) e fit = either_fits (is_finished its) _ (keeps_request k (attempt_left s) i its) (finishes_fits k (attempt_left s) i its fit) (keeps_fits k (attempt_left s) i its fit)
+poll_fits k s i (Done its) e fit = either_fits (is_finished its) _ (keeps_request k (poll_left s) i its) (finishes_fits k (poll_left s) i its fit) (keeps_fits k (poll_left s) i its fit)
 poll_fits k s i ask e fit = still s (Polls i) e fit
 
 turned_fits : (s : SessionState) (its : Told) (ask : Ask (Unit {0})) → s.step ≡ Turns its → IsVersion s.seen.version.0 → IsKeptNow (turn_ledto s its ask)

@@ -40,7 +40,7 @@ use Rattle.fkv_session.specs.declared.sessions.Sitting.{Sitting}
 use Rattle.fkv_session.specs.declared.sessions.Sitting.TheVariants.{Idle, Attempts, CatchesUp, ClearsMail, Polls, StoresOwing, Turns, StoresCut, Leaves, LoadsDurable}
 use Rattle.fkv_session.specs.CatchingUp.{CatchState, latched, latch_marked, catching_requests}
 use Rattle.fkv_session.specs.OwnTurns.{own_turn_given}
-use Rattle.fkv_session.specs.Sessions.{SessionState, Seat, bits_of, room_of, is_busy, answers, answers_after_turn, version_within, ticket_after, name_of, request_in_hand, attempts, polls_request, polls_at, refusal_of, op_begun, refresh_call, poll_begun, poll_call, sleep_call, wake_call, call_begun, attempt_left, serial_taken, update_done, is_no_room, with_request, accepts, shifts, attempted, attempt_ledto, caught_up, catch_ledto, clear_ledto, is_finished, is_owed, request_finished, finishes_request, keeps_request, poll_ledto, turn_ledto, leave_ledto, attempt_moved, caught, own_turn_moved, sitting_next, sitting_given, asks_after, is_word_ask, session_ask, IsOpened}
+use Rattle.fkv_session.specs.Sessions.{SessionState, Seat, bits_of, room_of, is_busy, answers, answers_after_turn, version_within, ticket_after, name_of, request_in_hand, attempts, polls_request, polls_at, refusal_of, op_begun, refresh_call, poll_begun, poll_call, sleep_call, wake_call, call_begun, attempt_left, poll_left, serial_taken, update_done, is_no_room, with_request, accepts, shifts, attempted, attempt_ledto, caught_up, catch_ledto, clear_ledto, is_finished, is_owed, request_finished, finishes_request, keeps_request, poll_ledto, turn_ledto, leave_ledto, attempt_moved, caught, own_turn_moved, sitting_next, sitting_given, asks_after, is_word_ask, session_ask, IsOpened}
 use Rattle.fkv_session.specs.SessionRun.{SessionEvent, Begins, Replies, Gets, begins, session_happens, session_run}
 use Rattle.fkv_session.specs.Replies as law
 use Rattle.fkv_session.specs.Replies.{op_after, op_called}
@@ -243,7 +243,7 @@ keeps_kept taken called k s i its same waiting = polls_kept taken called k _ (i 
 poll_kept : (taken : List TakenAt) (called : Option Op) (k : Seat) (s : SessionState) (i : ℕ) (ask : Ask TryAnswer) → s.step ≡ Polls i → IsAttemptOfRequest s.requests i s.attempt.pending → AreAsTaken taken s.requests → IsKeptAfter taken called s.serial (poll_ledto k s i ask)
 unfolding poll_ledto
 poll_kept taken called k s i (Done its) e same waiting =
-    either_kept (is_finished its) taken called s.serial _ (keeps_request k (attempt_left s) i its) (finishes_kept taken called k (attempt_left s) i its waiting) (keeps_kept taken called k (attempt_left s) i its same waiting)
+    either_kept (is_finished its) taken called s.serial _ (keeps_request k (poll_left s) i its) (finishes_kept taken called k (poll_left s) i its waiting) (keeps_kept taken called k (poll_left s) i its same waiting)
 poll_kept taken called k s i ask e same waiting = calm taken called s (Polls i) e waiting same
 
 turned_kept : (taken : List TakenAt) (called : Option Op) (s : SessionState) (its : Told) (ask : Ask (Unit {0})) → s.step ≡ Turns its → AreAsTaken taken s.requests → IsKeptAfter taken called s.serial (turn_ledto s its ask)

@@ -1,6 +1,7 @@
 -- When two sessions stand alike: they differ in nothing that a later ask goes by. What of an operation and of an attempt isn't in hand
 -- may differ, since each call begins both anew.
 use Rattle.std.specs.Prelude.{◌≡◌, ℕ, Bool, Option, Some, None, List}
+use Rattle.fkv_base.specs.declared.numbers.Addr.{Addr}
 use Rattle.fkv_map.specs.declared.history.HistoryEntry.{HistoryEntry}
 use Rattle.fkv_map.specs.declared.operations.Op.{Op}
 use Rattle.fkv_epoch.specs.declared.leaving.Leaving.{Leaving}
@@ -21,6 +22,7 @@ pub record Lasting : Type 0 where
   pub seen : Seen
   pub serial : ℕ
   pub ticket : ℕ
+  pub floor : Addr
   pub requests : List PendingRequest
   pub is_orphaned : Bool
   pub spare : ℕ
@@ -37,6 +39,7 @@ lasting s =
       seen = s.seen;
       serial = s.serial;
       ticket = s.ticket;
+      floor = s.floor;
       requests = s.requests;
       is_orphaned = s.is_orphaned;
       spare = s.spare;

@@ -5,6 +5,7 @@ use Rattle.std.proofs.Common.{arith}
 use Rattle.fkv_base.specs.Limits.{max_pending, last_serial, last_version}
 use Rattle.fkv_base.specs.declared.faults.Fault.{Fault}
 use Rattle.fkv_base.specs.declared.faults.Fault.TheVariants as fault
+use Rattle.fkv_base.specs.declared.numbers.Addr.{Addr}
 use Rattle.fkv_base.specs.declared.numbers.Serial.{Serial}
 use Rattle.fkv_base.specs.declared.numbers.Version.{Version}
 use Rattle.fkv_base.specs.declared.numbers.Value.{Value}
@@ -64,6 +65,8 @@ pub record SessionState : Type 0 where
   -- the last serial that it has taken, and the last ticket that it has given
   pub serial : ℕ
   pub ticket : ℕ
+  -- the log begins there or above: each request begins with it
+  pub floor : Addr
   -- the requests that wait, in the order of their acceptance
   pub requests : List PendingRequest
   -- a record is asked for whose request has finished without it
@@ -141,8 +144,8 @@ answers_after_turn s its = if s.wants_turn then record s { own_turn = own_turn_b
 abbrev pub version_within : ℕ → ℕ
 version_within version = max (min version last_version) 1
 
-abbrev pub request_of : Op → Version → Request
-request_of op version = record { op = op; version = record { 0 = version_within version.0 }; has_latch = false; held = None; some_version = omega arith; version_fits = omega arith }
+abbrev pub request_of : Op → Version → Addr → Request
+request_of op version floor = record { op = op; version = record { 0 = version_within version.0 }; has_latch = false; held = None; floor = floor; some_version = omega arith; version_fits = omega arith }
 
 -- after the last ticket comes the first
 abbrev pub ticket_after : ℕ → ℕ
@@ -152,9 +155,9 @@ ticket_after ticket = if ticket == 2 ^ 64 - 1 then 1 else ticket + 1
 abbrev pub name_of : SessionState → RequestName
 name_of s = if is_read s.op then Read (record { 0 = ticket_after s.ticket }) else Update (record { 0 = s.serial + 1 })
 
--- the operation in hand as a request of the session's version
+-- the operation in hand as a request of the session's version, with its floor
 abbrev pub request_in_hand : SessionState → PendingRequest
-request_in_hand s = record { name = name_of s; request = request_of s.op s.seen.version; sought = None; has_asked = false }
+request_in_hand s = record { name = name_of s; request = request_of s.op s.seen.version s.floor; sought = None; has_asked = false }
 
 unfoldable pub attempts : Seat → SessionState → Bool → SessionState
 attempts k s has_shifted = record s { attempt = attempt_begun k.places (bits_of k) (request_in_hand s) s.seen (AtCall (bounds_of k.shape)) s.spare s.is_orphaned; step = Attempts has_shifted }
@@ -261,13 +264,13 @@ refreshed s seen = answers (record s { seen = seen; catching = refresh_ended s.c
 abbrev pub update_waiting : SessionState → Op → SessionState
 update_waiting s op =
     let taken : ℕ = s.serial + 1 in
-    answers (record s { serial = taken; requests = s.requests ++ record { name = Update (record { 0 = taken }); request = request_of op s.seen.version; sought = None; has_asked = false } ∷ [] }) told.Slept
+    answers (record s { serial = taken; requests = s.requests ++ record { name = Update (record { 0 = taken }); request = request_of op s.seen.version s.floor; sought = None; has_asked = false } ∷ [] }) told.Slept
 
 -- the session has tried a read without its machine, and it waits for this record of the device from then on. Its address is in the mailbox, or isn't
 abbrev pub read_waiting : SessionState → Op → DiskRecord → Bool → SessionState
 read_waiting s op sought has_asked =
     let taken : Ticket = record { 0 = ticket_after s.ticket } in
-    answers (record s { ticket = taken.0; requests = s.requests ++ record { name = Read taken; request = request_of op s.seen.version; sought = Some sought; has_asked = has_asked } ∷ [] }) told.Slept
+    answers (record s { ticket = taken.0; requests = s.requests ++ record { name = Read taken; request = request_of op s.seen.version s.floor; sought = Some sought; has_asked = has_asked } ∷ [] }) told.Slept
 
 -- the session has polled without its machine: an update has finished so, the first request that waited
 abbrev pub update_polled : SessionState → Serial → Reply → SessionState
@@ -337,8 +340,15 @@ lacks_room its = false
 unfoldable pub keeps_request : Seat → SessionState → ℕ → TryAnswer → SessionState
 keeps_request k s index its = polls_at k (record s { requests = slice_set s.requests index s.attempt.pending; wants_turn = s.wants_turn || lacks_room its }) (index + 1)
 
+-- What the attempt of a poll leaves to the session. Its request may have heard of a later begin of the log: the session's floor is raised to that.
+abbrev pub floor_by : Addr → PendingRequest → Addr
+floor_by floor its = record { 0 = max floor.0 its.request.floor.0 }
+
+abbrev pub poll_left : SessionState → SessionState
+poll_left s = record (attempt_left s) { floor = floor_by s.floor s.attempt.pending }
+
 unfoldable pub poll_ledto : Seat → SessionState → ℕ → Ask TryAnswer → SessionState
-poll_ledto k s index (Done its) = if is_finished its then finishes_request k (attempt_left s) index its else keeps_request k (attempt_left s) index its
+poll_ledto k s index (Done its) = if is_finished its then finishes_request k (poll_left s) index its else keeps_request k (poll_left s) index its
 poll_ledto k s index ask = s
 
 unfoldable pub turn_ledto : SessionState → Told → Ask (Unit {0}) → SessionState

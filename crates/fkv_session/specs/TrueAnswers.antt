@@ -2,6 +2,7 @@
 use Rattle.std.specs.Prelude.{◌≡◌, ◌⊎◌, ℕ, true, false, Option}
 use Rattle.fkv_base.specs.declared.faults.Fault.{Fault}
 use Rattle.fkv_base.specs.declared.faults.Fault.TheVariants as fault
+use Rattle.fkv_base.specs.declared.numbers.Addr.{Addr}
 use Rattle.fkv_base.specs.declared.numbers.Version.{Version}
 use Rattle.fkv_base.specs.declared.phases.Phase.{Phase}
 use Rattle.fkv_map.specs.declared.operations.Op.{Op}
@@ -22,9 +23,9 @@ use Rattle.fkv_session.specs.InOrder.{IsTakenUp}
 use Rattle.fkv_session.specs.Sessions.{Seat, bits_of, room_of, request_of}
 use Rattle.fkv_session.specs.Shares.{HasItsBuckets}
 
--- the operation of a call as it is tried: at the version that the session goes by
-abbrev pub trial_of : (k : Seat) → HasItsBuckets k → Seen → Op → try.Trial
-trial_of k buckets seen op = record { places = k.places; bits = bits_of k; its_buckets = buckets; room = room_of k; request = request_of op seen.version; seen = seen; occasion = Call (bounds_of k.shape) }
+-- the operation of a call as it is tried: at the version that the session goes by, with its floor
+abbrev pub trial_of : (k : Seat) → HasItsBuckets k → Seen → Addr → Op → try.Trial
+trial_of k buckets seen floor op = record { places = k.places; bits = bits_of k; its_buckets = buckets; room = room_of k; request = request_of op seen.version floor; seen = seen; occasion = Call (bounds_of k.shape) }
 
 -- The session has refreshed in this call, and its try meets another session that has gone on.
 pub record MustShiftAgain (c : try.Trial) (asked : try.Told) : Type 0 where

@@ -33,7 +33,7 @@ ghost use Rattle.fkv_session.specs.declared.sessions.Sitting.TheVariants.{Idle};
 pub fn law_of_answers()
     ensures operations { (seat : Seat) (buckets : HasItsBuckets seat) (opening : SessionState) (event : SessionEvent) (before : List SessionEvent) (its : Told) (op : Op) → IsOpened opening
         → Ends seat opening event before its → op_called seat opening (event ∷ before) ≡ Some op
-        → IsTrueOf (trial_of seat buckets (session_run seat opening (event ∷ before)).seen op) (told_in (asked_in_call seat opening (event ∷ before))) its }
+        → IsTrueOf (trial_of seat buckets (session_run seat opening (event ∷ before)).seen (session_run seat opening (event ∷ before)).floor op) (told_in (asked_in_call seat opening (event ∷ before))) its }
     ensures kinds { (seat : Seat) (opening : SessionState) (event : SessionEvent) (before : List SessionEvent) (its : Told) → IsOpened opening → HasItsBuckets seat
         → Ends seat opening event before its
         → IsAnswerTo (last_call seat opening (event ∷ before)) its }

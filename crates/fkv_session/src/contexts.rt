@@ -1,10 +1,10 @@
 //! What a session's calls go by, and how far the one in hand has come: FASTER's execution context.
-ghost use Rattle.std.specs.Prelude.{◌≡◌, ◌<◌, ◌≤◌, ◌+◌, ◌*◌, ◌^◌, None, length};
+ghost use Rattle.std.specs.Prelude.{◌≡◌, ◌<◌, ◌≤◌, ◌+◌, ◌*◌, ◌^◌, None, false, length};
 ghost use Rattle.fkv_base.specs.Limits.{max_pending, max_sessions, last_serial};
 ghost use Rattle.fkv_session.specs.AsksLeft.{session_asks_left, call_bound};
 ghost use Rattle.fkv_session.specs.declared.answers.Told.TheVariants.{Slept};
 ghost use Rattle.fkv_session.specs.declared.sessions.Sitting.TheVariants.{Idle, Turns};
-ghost use Rattle.fkv_session.specs.Sessions.{session_begun, session_ask, sitting_next, sitting_given, asks_after, nothing_polled, read_polled, read_waiting, refreshed, request_polled, update_polled, update_waiting, IsOpened};
+ghost use Rattle.fkv_session.specs.Sessions.{session_begun, session_ask, sitting_next, sitting_given, asks_after, is_busy, nothing_polled, read_polled, read_waiting, refreshed, request_polled, update_polled, update_waiting, IsOpened};
 
 use crate::answers::{Finished, Told};
 use crate::catching_up::CatchUp;
@@ -12,7 +12,7 @@ use crate::leading::{request_of, ticket_after};
 use crate::own_turns::OwnTurn;
 use crate::sessions::Sitting;
 use arrayvec::ArrayVec;
-use fkv_base::{Key, MAX_PENDING, Serial, Shape, Value};
+use fkv_base::{Addr, Key, MAX_PENDING, Serial, Shape, Value};
 use fkv_epoch::Leave;
 use fkv_map::{Call, HistoryEntry, Op, Reply};
 use fkv_ops::{DiskRecord, Seen};
@@ -29,6 +29,7 @@ pub(crate) struct Context {
     pub(crate) seen: Seen,
     pub(crate) serial: u64,
     pub(crate) ticket: u64,
+    pub(crate) floor: Addr,
     pub(crate) requests: PendingList,
     pub(crate) is_orphaned: bool,
     pub(crate) spare: u64,
@@ -53,14 +54,20 @@ impl Model for Context {
 
     ghost Value = { Sitter };
 
-    ghost view = { λ m. record { seat = record { places = m.places; shape = m.shape; number = m.number }; state = record { seen = m.seen; serial = m.serial; ticket = m.ticket; requests = m.requests; is_orphaned = m.is_orphaned; spare = m.spare; is_awake = m.is_awake; wants_turn = m.wants_turn; asks = m.asks; effect = m.effect; finished = m.finished.items; op = m.op; catching = m.catch.state; mailing = m.mail.step; attempt = m.attempt.state; leaving = m.leave.step; own_turn = m.own_turn.state; step = m.step } } };
+    ghost view = { λ m. record { seat = record { places = m.places; shape = m.shape; number = m.number }; state = record { seen = m.seen; serial = m.serial; ticket = m.ticket; floor = m.floor; requests = m.requests; is_orphaned = m.is_orphaned; spare = m.spare; is_awake = m.is_awake; wants_turn = m.wants_turn; asks = m.asks; effect = m.effect; finished = m.finished.items; op = m.op; catching = m.catch.state; mailing = m.mail.step; attempt = m.attempt.state; leaving = m.leave.step; own_turn = m.own_turn.state; step = m.step } } };
 
     ghost invariant = { λ m. (m.number < max_sessions) × (m.catch.places ≡ m.places) × (m.catch.bits ≡ m.shape.bucket_bits) × (m.catch.session ≡ m.number) × (m.mail.session ≡ m.number) × (m.attempt.places ≡ m.places) × (m.attempt.bits ≡ m.shape.bucket_bits) × (m.attempt.room ≡ m.shape.disk_pages * m.shape.page) × (m.attempt.session ≡ m.number) × (m.leave.session ≡ m.number) × (m.own_turn.shape ≡ m.shape) × (m.places.overflow ≡ m.shape.overflow) × (m.places.ring ≡ m.shape.frames * m.shape.page) × (m.serial ≤ last_serial) × (length m.requests ≤ max_pending) × IsStepInRange m.requests m.finished.items m.op m.serial m.step };
 }
 
 impl Context {
     /// The context of a session that was opened.
-    pub(crate) fn new(shape: Shape, number: usize, seen: Seen, serial: Serial) -> Context
+    pub(crate) fn new(
+        shape: Shape,
+        number: usize,
+        seen: Seen,
+        serial: Serial,
+        floor: Addr,
+    ) -> Context
         requires number { number < max_sessions }
         requires serial { serial.0 ≤ last_serial }
         ensures shape { result.seat.shape ≡ shape }
@@ -71,6 +78,7 @@ impl Context {
         ensures ring { result.seat.places.ring ≡ shape.frames * shape.page }
         ensures seen { result.state.seen ≡ seen }
         ensures serial { result.state.serial ≡ serial.0 }
+        ensures floor { result.state.floor ≡ floor }
         ensures opened { IsOpened result.state }
         ensures answer { result.state.step ≡ Idle Slept }
     {
@@ -83,6 +91,7 @@ impl Context {
             seen,
             serial: serial.0,
             ticket: 0,
+            floor,
             requests: PendingList::new(),
             is_orphaned: false,
             spare: 0,
@@ -113,17 +122,14 @@ impl Context {
         self.begin_call(call)
     }
 
-    /// The next serial is taken by an update that was done outside.
-    #[tactic(auto, unfolding(crate::specs::Sessions::sitting_ask))]
+    /// The next serial is taken by an update that was done outside, between two calls.
     #[inline(always)]
-    pub(crate) fn take_serial(&mut self) -> Ask<Told>
-        requires { self.old.state.serial < last_serial }
-        ensures next { self.new ≡ record self.old { state = record self.old.state { serial = self.old.state.serial + 1; step = Idle Slept } } }
-        ensures ask { result ≡ session_ask self.old.seat self.new.state }
+    pub(crate) fn take_serial(&mut self)
+        requires left { self.old.state.serial < last_serial }
+        requires idle { is_busy self.old.state.step ≡ false }
+        ensures { self.new ≡ record self.old { state = record self.old.state { serial = self.old.state.serial + 1 } } }
     {
         self.serial += 1;
-        self.step = Sitting::Idle(Told::Slept);
-        Ask::Done(Told::Slept)
     }
 
     /// The session was refreshed outside, and goes by this.
@@ -149,7 +155,7 @@ impl Context {
         self.serial += 1;
         self.requests.push(PendingRequest {
             name: RequestName::Update(Serial(self.serial)),
-            request: request_of(op, self.seen.version),
+            request: request_of(op, self.seen.version, self.floor),
             sought: None,
             has_asked: false,
         });
@@ -172,7 +178,7 @@ impl Context {
         self.ticket = ticket_after(self.ticket);
         self.requests.push(PendingRequest {
             name: RequestName::Read(Ticket(self.ticket)),
-            request: request_of(op, self.seen.version),
+            request: request_of(op, self.seen.version, self.floor),
             sought: Some(sought),
             has_asked,
         });

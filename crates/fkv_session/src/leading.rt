@@ -14,7 +14,7 @@ use crate::answers::Told;
 use crate::catching_up::{cut_at, cut_of};
 use crate::contexts::Context;
 use crate::sessions::{CatchCause, Sitting};
-use fkv_base::{Fault, Serial, Version};
+use fkv_base::{Addr, Fault, Serial, Version};
 use fkv_map::{HistoryEntry, Op, Reply};
 use fkv_ops::{Bounds, Occasion, Reason, Request, TryAnswer};
 use fkv_pending::{PendingRequest, RequestName, Ticket};
@@ -75,7 +75,7 @@ impl Context {
     {
         PendingRequest {
             name: self.name(),
-            request: request_of(self.op, self.seen.version),
+            request: request_of(self.op, self.seen.version, self.floor),
             sought: None,
             has_asked: false,
         }
@@ -305,15 +305,16 @@ fn is_read(op: Op) -> bool
     matches!(op, Op::Read(_))
 }
 
-/// The operation as a request of this version.
-pub(crate) fn request_of(op: Op, version: Version) -> Request
-    ensures { result ≡ request_of op version }
+/// The operation as a request of this version, with this floor.
+pub(crate) fn request_of(op: Op, version: Version, floor: Addr) -> Request
+    ensures { result ≡ request_of op version floor }
 {
     Request {
         op,
         version: Version(version.0.min(Version::LAST).max(1)),
         has_latch: false,
         held: None,
+        floor,
     }
 }
 

@@ -5,13 +5,13 @@ ghost use Rattle.fkv_pending.specs.Attempting.{attempt_ask};
 ghost use Rattle.fkv_pending.specs.Mailing.{mail_ask};
 ghost use Rattle.fkv_pending.specs.declared.pending_requests.PendingRequest.{PendingRequest};
 ghost use Rattle.fkv_session.specs.declared.sessions.Sitting.TheVariants.{ClearsMail, Polls};
-ghost use Rattle.fkv_session.specs.Sessions.{session_ask, poll_begun, polls_at, polls_request, clear_ledto, finished_of, is_finished, is_owed, request_finished, finishes_request, keeps_request, lacks_room, poll_ledto};
+ghost use Rattle.fkv_session.specs.Sessions.{session_ask, poll_begun, polls_at, polls_request, clear_ledto, finished_of, is_finished, is_owed, request_finished, finishes_request, poll_left, keeps_request, lacks_room, poll_ledto};
 
 use crate::answers::{Finished, Told};
 use crate::catching_up::owing;
 use crate::contexts::Context;
 use crate::sessions::Sitting;
-use fkv_base::Value;
+use fkv_base::{Addr, Value};
 use fkv_map::Reply;
 use fkv_ops::{Occasion, Reason, TryAnswer};
 use fkv_pending::{MailAnswer, MailTask, PendingRequest, RequestName};
@@ -88,7 +88,7 @@ impl Context {
     {
         match ask {
             Ask::Done(answer) => {
-                self.take_back();
+                self.take_back_polled();
                 if is_finished(answer) {
                     self.finish_request(index, answer)
                 } else {
@@ -126,6 +126,15 @@ impl Context {
         ensures { result ≡ is_owed self.now.state }
     {
         !pending.request.is_read() && pending.request.version < self.seen.version
+    }
+
+    /// What the attempt of a poll leaves to the session. Its request may have heard of a later begin of the log.
+    fn take_back_polled(&mut self)
+        ensures { self.new ≡ record self.old { state = poll_left self.old.state } }
+    {
+        self.take_back();
+        let floor = self.attempt.pending().request.floor;
+        self.floor = Addr(self.floor.0.max(floor.0));
     }
 
     /// The request goes on waiting.

@@ -12,7 +12,7 @@ ghost use Rattle.fkv_session.specs.Sessions.{session_begun, session_ask, session
 use crate::answers::{Answer, Finished, Told, answered};
 use crate::asks::{is_word_ask, same_ask};
 use crate::contexts::Context;
-use fkv_base::{Serial, Shape};
+use fkv_base::{Addr, Serial, Shape};
 use fkv_map::{Call, HistoryEntry};
 use fkv_ops::Seen;
 use fkv_plane::{Action, Ask};
@@ -69,9 +69,9 @@ impl Model for Session {
 
 impl Session {
     /// The session of this number of a store that was opened: it is awake, has seen these values, has taken serials up to this
-    /// one, and no call is in hand.
+    /// one, and no call is in hand. The log begins at its floor or above.
     #[tactic(auto, unfolding(crate::specs::Sessions::sitting_ask))]
-    pub fn new(shape: Shape, number: usize, seen: Seen, serial: Serial) -> Session
+    pub fn new(shape: Shape, number: usize, seen: Seen, serial: Serial, floor: Addr) -> Session
         requires number { number < max_sessions }
         requires serial { serial.0 ≤ last_serial }
         ensures shape { result.seat.shape ≡ shape }
@@ -82,10 +82,11 @@ impl Session {
         ensures ring { result.seat.places.ring ≡ shape.frames * shape.page }
         ensures seen { result.state.seen ≡ seen }
         ensures serial { result.state.serial ≡ serial.0 }
+        ensures floor { result.state.floor ≡ floor }
         ensures opened { IsOpened result.state }
     {
         Session {
-            context: Context::new(shape, number, seen, serial),
+            context: Context::new(shape, number, seen, serial, floor),
             ask: Ask::Done(Told::Slept),
         }
     }

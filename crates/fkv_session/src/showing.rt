@@ -1,5 +1,5 @@
 //! What a session shows of itself between two asks, and to who makes the asks of a call in its place.
-ghost use Rattle.std.specs.Prelude.{◌≡◌, ◌<◌, ◌≤◌, ◌+◌, ◌^◌, ◌==◌, IfNone, length};
+ghost use Rattle.std.specs.Prelude.{◌≡◌, ◌<◌, ◌≤◌, ◌+◌, ◌^◌, ◌==◌, IfNone, false, length};
 ghost use Rattle.fkv_base.specs.Limits.{max_pending, max_sessions, last_serial};
 ghost use Rattle.fkv_session.specs.declared.answers.Told.TheVariants.{Slept};
 ghost use Rattle.fkv_session.specs.declared.sessions.Sitting.TheVariants.{Idle};
@@ -7,7 +7,7 @@ ghost use Rattle.fkv_session.specs.Sessions.{is_busy, nothing_polled, only_of, r
 
 use crate::answers::Finished;
 use crate::sessions::{Session, Sitting};
-use fkv_base::{Fault, Serial, Shape, Value};
+use fkv_base::{Addr, Fault, Serial, Shape, Value};
 use fkv_map::{HistoryEntry, Op, Reply};
 use fkv_ops::{DiskRecord, Seen};
 use fkv_pending::{PendingRequest, Ticket};
@@ -73,6 +73,13 @@ impl Session {
         ensures { result.0 ≡ self.now.state.ticket }
     {
         Ticket(self.context.ticket)
+    }
+
+    /// The log begins there or above: to the next request an address below counts as 0.
+    pub fn floor(&self) -> Addr
+        ensures { result ≡ self.now.state.floor }
+    {
+        self.context.floor
     }
 
     /// How many requests wait.
@@ -146,14 +153,15 @@ impl Session {
         self.context.finished.as_slice()
     }
 
-    /// Takes the next serial, for an update that somebody else has done in its place. No call is in hand behind it.
+    /// Takes the next serial, for an update that somebody else has done in its place, between two calls. What the last of its own calls was told stays.
     #[inline(always)]
     pub fn take_serial(&mut self) -> Serial
-        requires { self.old.state.serial < last_serial }
+        requires left { self.old.state.serial < last_serial }
+        requires idle { is_busy self.old.state.step ≡ false }
         ensures serial { result.0 ≡ self.old.state.serial + 1 }
-        ensures next { self.new ≡ record self.old { state = record self.old.state { serial = self.old.state.serial + 1; step = Idle Slept } } }
+        ensures next { self.new ≡ record self.old { state = record self.old.state { serial = self.old.state.serial + 1 } } }
     {
-        self.ask = self.context.take_serial();
+        self.context.take_serial();
         self.serial()
     }
 

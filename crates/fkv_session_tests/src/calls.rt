@@ -88,7 +88,7 @@ fn reads_find(rt: &impl Abort, plane: &mut PlainWords, session: &mut Session) {
 }
 
 fn operations_are_answered(rt: &impl Abort, plane: &mut PlainWords) -> Result<(), Fault> {
-    let mut session = Session::new(shape()?, 0, seen(Phase::Rest, 1, 1), Serial(0));
+    let mut session = Session::new(shape()?, 0, seen(Phase::Rest, 1, 1), Serial(0), Addr(1));
     takes_effect(rt, plane, &mut session);
     has_one_serial(rt, &session);
     reads_find(rt, plane, &mut session);
@@ -140,7 +140,7 @@ fn finishes_its_update(rt: &impl Abort, plane: &mut PlainWords, session: &mut Se
 }
 
 fn who_has_no_room_opens_a_page(rt: &impl Abort, plane: &mut PlainWords) -> Result<(), Fault> {
-    let mut session = Session::new(shape()?, 0, seen(Phase::Rest, 4, 4), Serial(0));
+    let mut session = Session::new(shape()?, 0, seen(Phase::Rest, 4, 4), Serial(0), Addr(1));
     opens_a_page(rt, plane, &mut session);
     finishes_its_update(rt, plane, &mut session);
     Ok(())

@@ -154,7 +154,7 @@ fn play(rt: &impl Abort, alloc: Global, scene: &Scene) -> Result<(), Fault> {
     };
     let seen = seen(scene.phase, scene.head, scene.read_only);
     let serial = Serial(scene.serial.min(Serial::LAST));
-    let mut session = Session::new(shape, 0, seen, serial);
+    let mut session = Session::new(shape, 0, seen, serial, Addr(1));
     all_play(rt, &mut plane, &mut session, scene.steps);
     Ok(())
 }
@@ -305,6 +305,77 @@ const READS_BY_MAIL: Scene = Scene {
         Step::Tells(Call::Poll, Told::Polled(0)),
         Step::Finishes(&[Finished::Read(Ticket(1), Some(Value(10)))]),
         Step::Stands(&[(MAIL, 0)]),
+    ],
+};
+
+/// A poll that is told that the record of a read is gone: the log begins at 3. It finishes nothing.
+const IS_GONE: Step = Step::Asks(
+    Call::Poll,
+    &[
+        Ask::Load(MAIL),
+        Ask::Load(31),
+        Ask::Load(32),
+        Ask::Load(33),
+        Ask::Store(MAIL, 0),
+        Ask::Done(Told::Polled(1)),
+    ],
+);
+
+const GONE: &[(usize, u64)] = &[(31, 0), (32, 3), (33, 0), (MAIL, 2)];
+
+/// A read whose record is gone is tried from its entry again: that leads below the begin, so the key is absent. From then on the session knows it.
+const READ_GONE: Scene = Scene {
+    is_of_one: false,
+    phase: Phase::Rest,
+    head: 5,
+    read_only: 5,
+    serial: 0,
+    steps: &[
+        Step::Stores(&[(SLOT, FIRST)]),
+        Step::Tells(READ, Told::PendingRead(Ticket(1))),
+        Step::Stores(GONE),
+        IS_GONE,
+        Step::Finishes(&[]),
+        Step::Asks(Call::Poll, &[Ask::Load(SLOT), POLLED]),
+        Step::Finishes(&[Finished::Read(Ticket(1), None)]),
+        Step::Asks(READ, &[Ask::Load(SLOT), Ask::Done(Told::Absent)]),
+        Step::Tells(ADD, Told::Done(Serial(1), Reply::Number(Value(5)))),
+    ],
+};
+
+/// Its key was kept by a new record before the log began there.
+const READ_GONE_OF_A_KEPT_KEY: Scene = Scene {
+    is_of_one: false,
+    phase: Phase::Rest,
+    head: 5,
+    read_only: 5,
+    serial: 0,
+    steps: &[
+        Step::Stores(&[(SLOT, FIRST)]),
+        Step::Tells(READ, Told::PendingRead(Ticket(1))),
+        Step::Stores(&[(SLOT, FIFTH)]),
+        Step::Stores(GONE),
+        IS_GONE,
+        Step::Tells(Call::Poll, Told::Polled(0)),
+        Step::Finishes(&[Finished::Read(Ticket(1), Some(Value(20)))]),
+    ],
+};
+
+/// An update whose record is gone is tried from its entry at once. From then on the session knows the begin too.
+const UPDATE_GONE: Scene = Scene {
+    is_of_one: false,
+    phase: Phase::Rest,
+    head: 5,
+    read_only: 5,
+    serial: 0,
+    steps: &[
+        Step::Stores(&[(SLOT, FIRST)]),
+        Step::Tells(ADD, Told::Pending(Serial(1), Reason::Disk)),
+        Step::Stores(GONE),
+        Step::Tells(Call::Poll, Told::Polled(0)),
+        Step::Finishes(&[Finished::Update(Serial(1), Reply::Number(Value(5)))]),
+        Step::Stores(&[(SLOT, FIRST)]),
+        Step::Asks(READ, &[Ask::Load(SLOT), Ask::Done(Told::Absent)]),
     ],
 };
 
@@ -543,12 +614,15 @@ const ASLEEP: Scene = Scene {
     ],
 };
 
-const SCENES: [&Scene; 10] = [
+const SCENES: [&Scene; 13] = [
     &SLEEPS,
     &TWO_PHASES,
     &SHIFTS,
     &READS_BY_MAIL,
     &MAIL_FOR_NOBODY,
+    &READ_GONE,
+    &READ_GONE_OF_A_KEPT_KEY,
+    &UPDATE_GONE,
     &COUNTED,
     &TURNS_BEHIND_THE_TRIES,
     &ONE_TURN_FOR_TWO,
@@ -593,9 +667,9 @@ const COPIES: [Step; 3] = [
 #[test]
 fn poll_drops_latch(rt: HostRuntime) -> Result<(), Fail> {
     let mut plane = words(rt.alloc())?;
-    let mut session = Session::new(shape()?, 0, seen(Phase::Rest, 1, 5), Serial(0));
+    let mut session = Session::new(shape()?, 0, seen(Phase::Rest, 1, 5), Serial(0), Addr(1));
     all_play(&rt, &mut plane, &mut session, &WAITS);
-    let mut other = Session::new(shape()?, 1, seen(Phase::Prepare, 1, 5), Serial(0));
+    let mut other = Session::new(shape()?, 1, seen(Phase::Prepare, 1, 5), Serial(0), Addr(1));
     all_play(&rt, &mut plane, &mut other, &COPIES);
     Ok(())
 }
@@ -681,7 +755,13 @@ fn sleeps(rt: &impl Abort, plane: &mut PlainWords, session: &mut Session, row: P
 #[test]
 fn a_session_sleeps_in_each_phase(rt: HostRuntime) -> Result<(), Fail> {
     let mut plane = words_of_one(rt.alloc())?;
-    let mut session = Session::new(shape_of_one()?, 0, seen(Phase::Rest, 1, 1), Serial(0));
+    let mut session = Session::new(
+        shape_of_one()?,
+        0,
+        seen(Phase::Rest, 1, 1),
+        Serial(0),
+        Addr(1),
+    );
     for row in PHASES {
         sleeps(&rt, &mut plane, &mut session, row);
     }

@@ -271,7 +271,7 @@ fn starts_or_stops(rt: &impl Abort, alloc: Global, living: &Living) -> Result<()
 
 /// A log commit needs no copy.
 fn has_its_copy(rt: &impl Abort) {
-    let commit = Commit::begun(Version(1), CommitKind::Log, Addr(5));
+    let commit = Commit::begun(Version(1), CommitKind::Log, Addr(1), Addr(5));
     assert!(rt; commit.is_copied);
 }
 

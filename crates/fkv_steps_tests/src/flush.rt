@@ -71,9 +71,14 @@ fn flush<D: Device>(
     Ok(calls)
 }
 
-/// Serves the mailbox once.
-fn serve<D: Device>(plane: &mut PlainWords, shape: Shape, disk: &mut D) -> Result<(), Fault> {
-    let mut machine = Serve::new(shape);
+/// Serves the mailbox once, of a log that begins at this address.
+fn serve<D: Device>(
+    plane: &mut PlainWords,
+    shape: Shape,
+    begin: u64,
+    disk: &mut D,
+) -> Result<(), Fault> {
+    let mut machine = Serve::new(shape, Addr(begin));
     machine.start();
     for _ in 0..16 {
         match machine.ask() {
@@ -150,15 +155,33 @@ fn serves(
 ) -> Result<(), Fail> {
     for (state, mail) in [(0, [0; 4]), (1, [2, ONE, 5, 18446744073709551610])] {
         store(plane, &[(MAIL_STATE, state), (MAIL_ADDRESS, 5)]);
-        serve(plane, shape, disk)?;
-        let words = [
-            plane.word(MAIL_STATE),
-            plane.word(31),
-            plane.word(32),
-            plane.word(33),
-        ];
-        assert!(rt; words == mail);
+        serve(plane, shape, 1, disk)?;
+        assert!(rt; mail_words(plane) == mail);
     }
+    Ok(())
+}
+
+/// The state of the mailbox, and the three words in it.
+fn mail_words(plane: &PlainWords) -> [u64; 4] {
+    [
+        plane.word(MAIL_STATE),
+        plane.word(31),
+        plane.word(32),
+        plane.word(33),
+    ]
+}
+
+/// Below the begin nothing is read: the device would fail. A session is told that the record is gone, and where the log begins.
+fn tells_gone(rt: &impl Abort, alloc: Global, shape: Shape) -> Result<(), Fail> {
+    let mut plane = seven_records(alloc, &Places::of(&shape))?;
+    let mut disk = Fuse::new(MemDisk::new(alloc));
+    disk.arm(0);
+    store(&mut plane, &[(MAIL_STATE, 1), (MAIL_ADDRESS, 5)]);
+    serve(&mut plane, shape, 6, &mut disk)?;
+    assert!(rt; mail_words(&plane) == [2, 0, 6, 0]);
+    assert!(rt; disk.failures() == 0);
+    store(&mut plane, &[(MAIL_STATE, 1)]);
+    assert!(rt; serve(&mut plane, shape, 5, &mut disk) == Err(Fault::Device));
     Ok(())
 }
 
@@ -172,6 +195,7 @@ fn records_are_flushed_and_served(rt: HostRuntime) -> Result<(), Fail> {
     fails(&rt, rt.alloc(), &mut plane, &mut machine);
     flushes(&rt, shape, &mut plane, &mut machine, &mut disk)?;
     serves(&rt, shape, &mut plane, &mut disk)?;
+    tells_gone(&rt, rt.alloc(), shape)?;
     law_mail();
     Ok(())
 }

@@ -107,6 +107,8 @@ struct Case<'a> {
     phase: Phase,
     read_only: u64,
     head: u64,
+    /// An address of a chain below it counts as 0.
+    floor: u64,
     /// The words that are not as usual.
     words: &'a [(usize, u64)],
     /// Another try, of the same session's sight but for the phase, which is made before the ask of this number.
@@ -131,6 +133,7 @@ const USUAL: Case<'static> = Case {
     phase: Phase::Rest,
     read_only: 1,
     head: 1,
+    floor: 1,
     words: &[],
     rival: None,
     skips: 0,
@@ -140,11 +143,12 @@ const USUAL: Case<'static> = Case {
     spare: 0,
 };
 
-const CASES: [(&str, &[Case<'static>]); 16] = [
+const CASES: [(&str, &[Case<'static>]); 17] = [
     ("in place", cases::IN_PLACE),
     ("copied", cases::COPIED),
     ("made", cases::MADE),
     ("holding", cases::HOLDING),
+    ("below the floor", cases::BELOW),
     ("reads", cases::READS),
     ("late", cases::LATE),
     ("overflow", cases::OVERFLOW),
@@ -165,6 +169,7 @@ fn start(machine: &mut Try, case: &Case<'_>, op: Op, phase: Phase) -> Ask<TryAns
         version: Version(if case.is_behind { 1 } else { 2 }),
         has_latch: case.has_latch,
         held: case.held,
+        floor: Addr(case.floor),
     };
     let seen = Seen {
         phase,

@@ -36,12 +36,13 @@ const VALUE_WORD: usize = 49;
 const SLOT: usize = 56;
 
 const ENTRY: u64 = 4 + 3 * ONE;
-/// What a request waits for: the record of the device, whether it has asked for it, and the one that it holds meanwhile.
+/// What a request waits for: the record of the device, whether it has asked for it, the one that it holds meanwhile, and its floor.
 #[derive(Clone, Copy)]
 struct Wait {
-    sought: DiskRecord,
+    sought: Option<DiskRecord>,
     has_asked: bool,
     held: Option<HeldRecord>,
+    floor: Addr,
 }
 
 /// A request of version 2, and what it waits for.
@@ -56,8 +57,9 @@ fn request(op: Op, wait: Option<Wait>) -> PendingRequest {
             version: Version(2),
             has_latch: false,
             held: wait.and_then(|wait| wait.held),
+            floor: wait.map_or(Addr(1), |wait| wait.floor),
         },
-        sought: wait.map(|wait| wait.sought),
+        sought: wait.and_then(|wait| wait.sought),
         has_asked: wait.is_some_and(|wait| wait.has_asked),
     }
 }

@@ -37,23 +37,23 @@ read_caught_up m u l its alike ended = record {
 }
 
 -- the machine has taken the serial of an update
-taken_lasts : (m : SessionState) → lasting (record m { serial = m.serial + 1; step = Idle told.Slept }) ≡ record (lasting m) { serial = (lasting m).serial + 1 }
+taken_lasts : (m : SessionState) → lasting (record m { serial = m.serial + 1 }) ≡ record (lasting m) { serial = (lasting m).serial + 1 }
 unfolding lasting
 taken_lasts m = refl
 
-pub update_caught_up : (m n u : SessionState) (l : Lasting) (its : Told) → lasting m ≡ l → n ≡ record m { serial = m.serial + 1; step = Idle told.Slept } → IsEnded (record l { serial = l.serial + 1 }) its u → IsCaughtUp n u
+pub update_caught_up : (m n u : SessionState) (l : Lasting) (its : Told) → lasting m ≡ l → n ≡ record m { serial = m.serial + 1 } → IsEnded (record l { serial = l.serial + 1 }) its u → IsCaughtUp n u
 update_caught_up m n u l its alike e done =
     read_caught_up n u (record l { serial = l.serial + 1 }) its (ap (λ (s : SessionState). lasting s) e ∙ (taken_lasts m ∙ ap (λ (x : Lasting). record x { serial = x.serial + 1 }) alike)) done
 
 -- and that of one that waits
 waits_lasts : (m : SessionState) (op : Op) → is_read op ≡ false
-    → lasting (update_waiting m op) ≡ record (lasting m) { serial = (lasting m).serial + 1; requests = (lasting m).requests ++ record { name = next_name (lasting m) op; request = request_of op (lasting m).seen.version; sought = None; has_asked = false } ∷ [] }
+    → lasting (update_waiting m op) ≡ record (lasting m) { serial = (lasting m).serial + 1; requests = (lasting m).requests ++ record { name = next_name (lasting m) op; request = request_of op (lasting m).seen.version (lasting m).floor; sought = None; has_asked = false } ∷ [] }
 unfolding lasting
 waits_lasts m op updates = rw updates refl
 
 pub waiting_caught_up : (m n u : SessionState) (k : Seat) (s : SessionState) (op : Op) → is_read op ≡ false → lasting m ≡ lasting s → n ≡ update_waiting m op → IsWaiting (course_of k s op (call.Op op)) u → IsCaughtUp n u
 waiting_caught_up m n u k s op updates alike e waits =
-    let w : Lasting → Lasting = λ l. record l { serial = l.serial + 1; requests = l.requests ++ record { name = next_name l op; request = request_of op l.seen.version; sought = None; has_asked = false } ∷ [] } in
+    let w : Lasting → Lasting = λ l. record l { serial = l.serial + 1; requests = l.requests ++ record { name = next_name l op; request = request_of op l.seen.version l.floor; sought = None; has_asked = false } ∷ [] } in
     read_caught_up n u (w (lasting s)) _ (ap (λ (x : SessionState). lasting x) e ∙ (waits_lasts m op updates ∙ ap w alike)) waits
 
 serial_lasts : (m : SessionState) → m.serial ≡ (lasting m).serial
@@ -102,7 +102,7 @@ pub room_left : (requests : List PendingRequest) (its : PendingRequest) → leng
 room_left requests its few = let e : length (requests ++ its ∷ []) ≡ length requests + 1 = length_push requests its in grind (arith, nat_tests, e)
 
 waiting_by : (m n : Sitter) (op : Op) (g : Going) → length m.state.requests + 1 < max_pending → n ≡ record m { state = update_waiting m.state op } → GoesBy m.seat m.state g → GoesBy n.seat n.state g
-waiting_by m n op g few e by = goes_on_by m n (update_waiting m.state op) g e refl refl refl (room_left m.state.requests _ few) by
+waiting_by m n op g few e by = goes_on_by m n (update_waiting m.state op) g e refl refl refl refl (room_left m.state.requests _ few) refl by
 
 pub waiting_goes : (m n : Sitter) (op : Op) (g : Going) (r : Option Told)
     → IfSome r (λ (its : Told). (its ≡ told.Pending (record { 0 = m.state.serial + 1 }) reason.Contended) × (length m.state.requests + 1 < max_pending) × (n ≡ record m { state = update_waiting m.state op })) → IfNone r (n ≡ m) → GoesBy m.seat m.state g

@@ -18,9 +18,7 @@ use Rattle.fkv_ops.specs.declared.requests.Seen.{Seen}
 use Rattle.fkv_ops.specs.Requests.{is_read, is_blind}
 use Rattle.fkv_ops.specs.Trying.{is_prepare, is_moving_on, is_next_marked}
 use Rattle.fkv_session.specs.declared.answers.Told.{Told}
-use Rattle.fkv_session.specs.declared.answers.Told.TheVariants.{Slept}
-use Rattle.fkv_session.specs.declared.sessions.Sitting.TheVariants.{Idle}
-use Rattle.fkv_session.specs.Sessions.{Seat, SessionState, Sitter, is_full, version_within}
+use Rattle.fkv_session.specs.Sessions.{Seat, SessionState, Sitter, is_busy, is_full, version_within}
 use Rattle.fkv_straight.specs.declared.going.Going.{Going}
 use Rattle.fkv_straight.specs.Course.{Course, home_in, head_in, request_in, shares, Goes, GoesBy}
 use Rattle.fkv_straight.specs.Memory.{is_in_memory}
@@ -29,6 +27,7 @@ use Rattle.fkv_straight.specs.Standing.{asked, leads}
 use Rattle.fkv_straight.proofs.Tests.{and_false}
 use Rattle.fkv_log.specs.Reserving.{limit_within}
 use Rattle.fkv_ops.specs.Bounds.{bounds_at, tail_bound}
+use Rattle.fkv_base.specs.declared.numbers.Addr.{Addr}
 
 -- the seat of a line is that of the course
 pub asks_at : (c : Course) (q : Seat) (s : SessionState) (ask : Ask Told) → c.seat ≡ q → asked c.seat s ≡ ask → asked q s ≡ ask
@@ -67,6 +66,10 @@ key_at p addr at e = ap (λ (n : ℕ). n + 1) e ∙ key_after (frames_start p) (
 pub value_at : (c : Course) (k : Seat) (op : Op) (g : Going) (addr at : ℕ) → Goes c k op g → at ≡ record_place c.seat.places addr rec.Header → at + 2 ≡ record_place g.places addr rec.Value
 value_at c k op g addr at goes e =
     ap (λ (n : ℕ). n + 2) (e ∙ ap (λ (p : Places). record_place p addr rec.Header) goes.its_places) ∙ value_after (frames_start g.places) (addr % g.places.ring)
+
+-- each word of a record lies behind the shared words
+pub record_past : (p : Places) (addr at : ℕ) (word : RecordWord) → at ≡ record_place p addr word → 24 ≤ at
+record_past p addr at word e = subst (λ (n : ℕ). 24 ≤ n) (sym e) (omega arith)
 
 pub memory_is : (c : Course) (k : Seat) (op : Op) (g : Going) (addr : ℕ) (b : Bool) → Goes c k op g → b ≡ is_in_memory g.places.ring g.head addr → b ≡ true → IsInMemory c addr
 memory_is c k op g addr b goes e holds = ap (λ (p : Places). is_in_memory p.ring (head_in c) addr) goes.its_places ∙ (ap (λ (n : ℕ). is_in_memory g.places.ring n addr) goes.its_head ∙ (sym e ∙ holds))
@@ -134,13 +137,14 @@ pub version_same : (v : ℕ) → ¬ (v ≡ 0) → v ≤ last_version → version
 version_same v some fits = omega (arith, some, fits)
 
 -- a call of the machine changes nothing that the next call goes by, if it leaves the view, the spare bucket and room for a request
-pub goes_on_by : (m n : Sitter) (s : SessionState) (g : Going) → n ≡ record m { state = s } → s.seen ≡ m.state.seen → s.is_awake ≡ m.state.is_awake → s.spare ≡ m.state.spare → is_full s.requests ≡ false → GoesBy m.seat m.state g
+pub goes_on_by : (m n : Sitter) (s : SessionState) (g : Going) → n ≡ record m { state = s } → s.seen ≡ m.state.seen → s.is_awake ≡ m.state.is_awake → s.spare ≡ m.state.spare → s.floor ≡ m.state.floor → is_full s.requests ≡ false → is_busy s.step ≡ false → GoesBy m.seat m.state g
     → GoesBy n.seat n.state g
-goes_on_by m n s g e seen awake spare room by =
+goes_on_by m n s g e seen awake spare floor room idle by =
     subst (λ (x : Sitter). GoesBy x.seat x.state g) (sym e) record {
       places = by.places;
       bits = by.bits;
       head = ap (λ (x : Seen). x.offsets.head.0) seen ∙ by.head;
+      floor = ap (λ (x : Addr). x.0) floor ∙ by.floor;
       read_only = ap (λ (x : Seen). x.offsets.read_only.0) seen ∙ by.read_only;
       version = ap (λ (x : Seen). x.version.0) seen ∙ by.version;
       some_version = by.some_version;
@@ -152,11 +156,12 @@ goes_on_by m n s g e seen awake spare room by =
       awake = awake ∙ by.awake;
       room = room;
       spare_fits = subst (λ (x : ℕ). x ≤ g.places.overflow) (sym spare) by.spare_fits;
+      idle = idle;
     }
 
 -- the serial that the machine takes is none of what it goes by
-pub goes_by_still : (m n : Sitter) (g : Going) → n ≡ record m { state = record m.state { serial = m.state.serial + 1; step = Idle Slept } } → GoesBy m.seat m.state g → GoesBy n.seat n.state g
-goes_by_still m n g e by = goes_on_by m n (record m.state { serial = m.state.serial + 1; step = Idle Slept }) g e refl refl refl by.room by
+pub goes_by_still : (m n : Sitter) (g : Going) → n ≡ record m { state = record m.state { serial = m.state.serial + 1 } } → GoesBy m.seat m.state g → GoesBy n.seat n.state g
+goes_by_still m n g e by = goes_on_by m n (record m.state { serial = m.state.serial + 1 }) g e refl refl refl refl by.room by.idle by
 
 pub less_of : (serial shown : ℕ) → shown ≡ serial → nat_lt shown last_serial ≡ true → serial < last_serial
 less_of serial shown e h = subst (λ (n : ℕ). n < last_serial) e (grind (arith, nat_tests, h))

@@ -1,5 +1,5 @@
 -- How a read asks for a record of the device by the session's mailbox, and how a poll takes it from there.
-use Rattle.std.proofs.Common.{◌≡◌, ℕ, refl, sym, ap, ◌∙◌, subst, arith, true, false, ◌∷◌, []}
+use Rattle.std.proofs.Common.{◌≡◌, ℕ, refl, sym, ap, ◌∙◌, subst, arith, true, false, ◌∷◌, [], ◌≤◌}
 use Rattle.std.specs.Prelude.{◌==◌, nat_lt, Option, Some, None}
 use Rattle.std.proofs.lemmas.Bool.Decides.{nat_tests}
 use Rattle.fkv_base.specs.declared.numbers.Addr.{Addr}
@@ -19,7 +19,7 @@ use Rattle.fkv_ops.specs.declared.walking.Walking.{Walking}
 use Rattle.fkv_ops.specs.declared.walking.Walking.TheVariants as walk
 use Rattle.fkv_ops.specs.Appending.{append_rested}
 use Rattle.fkv_ops.specs.HeaderWords.{header_said}
-use Rattle.fkv_ops.specs.Requests.{is_read}
+use Rattle.fkv_ops.specs.Requests.{is_read, is_chain_end}
 use Rattle.fkv_ops.specs.Trying.{TryState, told_value, trying_ask, walk_ledto, ends, ends_so}
 use Rattle.fkv_ops.specs.Values.{value_of}
 use Rattle.fkv_ops.specs.Walking.{reached, walking_ask}
@@ -46,18 +46,20 @@ use Rattle.fkv_straight.specs.Course.{Course, head_in, shares}
 use Rattle.fkv_straight.specs.Mailbox.{HasTaken, IsAsking, IsSought, Looks, Puts, PutsOn, looking, polling, putting, putting_on}
 use Rattle.fkv_straight.specs.Met.{IsReached, Trail, judged, trying, walking}
 use Rattle.fkv_straight.specs.Standing.{IsEnded, IsLed, asked, begins, leads, led_attempt, resumed, sitting}
-use Rattle.fkv_straight.proofs.Tests.{and_false, differs}
+use Rattle.fkv_straight.proofs.Tests.{and_false, differs, max_low}
 use Rattle.fkv_ops.specs.Bounds.{bounds_at, has_bounds}
 use Rattle.fkv_ops.specs.declared.bounds.Bounds.{Bounds}
+use Rattle.fkv_ops.proofs.Shown.{ends_not}
+use Rattle.fkv_pending.proofs.Shown.{there_said}
 
 -- ---- the chain leaves memory: the try ends, and the attempt loads the state of the mailbox
 abbrev awaiting : Course → Trail → ℕ → ℕ → Loading → ℕ → TryState
 awaiting c trail place entry loading addr = trying c (walking c trail place entry loading (walk.Ended (walked.OnDisk (record { 0 = addr })))) append_rested (Ended (tried.AwaitsDisk (record { entry = entry; addr = record { 0 = addr } })))
 
-leaves_memory : (c : Course) (trail : Trail) (place entry addr : ℕ) (loading : Loading) (step : Walking) → (addr == 0) ≡ false → nat_lt addr (head_in c) ≡ true → shares c ≡ false → is_read c.op ≡ true
+leaves_memory : (c : Course) (trail : Trail) (place entry addr : ℕ) (loading : Loading) (step : Walking) → (addr == 0) ≡ false → nat_lt addr (head_in c) ≡ true → is_chain_end c.lasts.floor (record { 0 = addr }) ≡ false → shares c ≡ false → is_read c.op ≡ true
     → judged c (reached c.seat.places (walking c trail place entry loading step) addr) ≡ awaiting c trail place entry loading addr
 unfolding walk_ledto walking_ask ends ends_so
-leaves_memory c trail place entry addr loading step some low calm reads = rw (some, low, calm, reads, and_false (has_bounds (bounds_at c.occasion))) refl
+leaves_memory c trail place entry addr loading step some low on calm reads = rw (some, low, calm, reads, on, and_false (has_bounds (bounds_at c.occasion))) refl
 
 attempt_puts : (c : Course) (trail : Trail) (place entry addr : ℕ) (loading : Loading) → shares c ≡ false
     → led_attempt c (awaiting c trail place entry loading addr)
@@ -72,11 +74,12 @@ session_puts c asks t sought calls = rw calls refl
 pub sought_puts : {bounds : Option Bounds} (c : Course) (sought : DiskRecord) (s : SessionState) → c.occasion ≡ AtCall bounds → IsSought c sought s → shares c ≡ false → is_read c.op ≡ true → Puts c sought (LoadsState (Put sought.addr)) s
 unfolding IsReached IsLed Puts
 sought_puts c sought s calls at calm reads =
-    let way = at.3 in
+    let way = at.4 in
     let t = awaiting c way.0 at.0 sought.entry way.2 sought.addr.0 in
     let some = at.1 in
     let low = at.2 in
-    let led = subst (λ (x : TryState). IsLed c x s) (leaves_memory c way.0 at.0 sought.entry sought.addr.0 way.2 way.3 (grind (arith, nat_tests, some)) (grind (arith, nat_tests, low)) calm reads) way.4 in
+    let on = ends_not c.lasts.floor sought.addr at.1 at.3 in
+    let led = subst (λ (x : TryState). IsLed c x s) (leaves_memory c way.0 at.0 sought.entry sought.addr.0 way.2 way.3 (grind (arith, nat_tests, some)) (grind (arith, nat_tests, low)) on calm reads) way.4 in
     (t, led.0, led.1 ∙ (ap (λ (a : AttemptState). resumed c led.0 a) (attempt_puts c way.0 at.0 sought.entry sought.addr.0 way.2 calm) ∙ session_puts c led.0 t sought calls))
 
 -- ---- it puts the address there if the mailbox is empty, and waits
@@ -184,17 +187,18 @@ empty_stored k s u v its taken reply at e = (u, reply, at, e)
 abbrev pub lone : SessionState → PendingRequest → SessionState
 lone s its = record s { requests = its ∷ []; is_orphaned = false }
 
--- the request is a read that seeks this record
-pub record Seeks (its : PendingRequest) (sought : DiskRecord) : Type 0 where
+-- the request is a read that seeks this record, and its floor isn't above the session's
+pub record Seeks (its : PendingRequest) (sought : DiskRecord) (floor : Addr) : Type 0 where
   pub reads : is_read its.request.op ≡ true
   pub seeks : its.sought ≡ Some sought
+  pub low : its.request.floor.0 ≤ floor.0
 
-pub found_none : (k : Seat) (s u v : SessionState) (its : PendingRequest) (sought : DiskRecord) (found : ℕ) → Seeks its sought → Looks k s its (LoadsState Take) u → v ≡ leads k u found → ¬ (found ≡ 2)
+pub found_none : (k : Seat) (s u v : SessionState) (its : PendingRequest) (sought : DiskRecord) (found : ℕ) → Seeks its sought s.floor → Looks k s its (LoadsState Take) u → v ≡ leads k u found → ¬ (found ≡ 2)
     → IsEnded (lasting (nothing_polled (lone s its))) (told.Polled 1) v
 unfolding Looks leads sitting_next poll_ledto attempting_next look_ledto keeps_request polls_at attempting_ask mail_next mail_ask passed lasting
 found_none k s u v its sought found so at e other = let not : (found == 2) ≡ false = differs found 2 other in record {
   ended = rw (e, at.1, not, so.reads, so.seeks) refl;
-  lasts = rw (e, at.1, not, so.reads, so.seeks) refl;
+  lasts = rw (e, at.1, not, so.reads, so.seeks, max_low s.floor.0 its.request.floor.0 so.low) refl;
 }
 
 -- the same request with its name and its record spelled
@@ -213,53 +217,53 @@ taken_tells : (k : Seat) (s u : SessionState) (its : PendingRequest) (sought : D
     → (asks : ℕ) × (u ≡ poll_ledto k (answered k s (spelled its ticket sought) taken asks (told_value (value_of taken.value))) 0 (Done (told_value (value_of taken.value))))
 unfolding HasTaken Looks leads sitting_next attempting_next look_ledto attempting_ask mail_next mail_ask passed with_asked
 taken_tells k s u its sought taken previous version ticket reads (w, reply, at, e) said mine =
-    (polled k s (spelled its ticket sought) at.0 (looking k s (spelled its ticket sought) (StoresEmpty (Taken taken))), e ∙ rw (at.1, reads, said, mine) refl)
+    (polled k s (spelled its ticket sought) at.0 (looking k s (spelled its ticket sought) (StoresEmpty (Taken taken))), e ∙ rw (at.1, there_said taken previous version said, reads, said, mine) refl)
 
-found_ends : (k : Seat) (s : SessionState) (its : PendingRequest) (sought : DiskRecord) (taken : MailRecord) (ticket : Ticket) (asks : ℕ) (value : Value) → is_read its.request.op ≡ true
+found_ends : (k : Seat) (s : SessionState) (its : PendingRequest) (sought : DiskRecord) (taken : MailRecord) (ticket : Ticket) (asks : ℕ) (value : Value) → is_read its.request.op ≡ true → its.request.floor.0 ≤ s.floor.0
     → IsEnded (lasting (read_polled (lone s (spelled its ticket sought)) ticket (Some value))) (told.Polled 0) (poll_ledto k (answered k s (spelled its ticket sought) taken asks (tried.Found value)) 0 (Done (tried.Found value)))
 unfolding poll_ledto finishes_request polls_at lasting
-found_ends k s its sought taken ticket asks value reads = record { ended = rw reads refl; lasts = rw reads refl }
+found_ends k s its sought taken ticket asks value reads low = record { ended = rw reads refl; lasts = rw (reads, max_low s.floor.0 its.request.floor.0 low) refl }
 
-absent_ends : (k : Seat) (s : SessionState) (its : PendingRequest) (sought : DiskRecord) (taken : MailRecord) (ticket : Ticket) (asks : ℕ) → is_read its.request.op ≡ true
+absent_ends : (k : Seat) (s : SessionState) (its : PendingRequest) (sought : DiskRecord) (taken : MailRecord) (ticket : Ticket) (asks : ℕ) → is_read its.request.op ≡ true → its.request.floor.0 ≤ s.floor.0
     → IsEnded (lasting (read_polled (lone s (spelled its ticket sought)) ticket None)) (told.Polled 0) (poll_ledto k (answered k s (spelled its ticket sought) taken asks tried.Absent) 0 (Done tried.Absent))
 unfolding poll_ledto finishes_request polls_at lasting
-absent_ends k s its sought taken ticket asks reads = record { ended = rw reads refl; lasts = rw reads refl }
+absent_ends k s its sought taken ticket asks reads low = record { ended = rw reads refl; lasts = rw (reads, max_low s.floor.0 its.request.floor.0 low) refl }
 
-found_value : (k : Seat) (s u : SessionState) (its : PendingRequest) (sought : DiskRecord) (taken : MailRecord) (previous : Addr) (version : Version) (ticket : Ticket) (value : Option Value) → is_read its.request.op ≡ true → HasTaken k s (spelled its ticket sought) taken u
+found_value : (k : Seat) (s u : SessionState) (its : PendingRequest) (sought : DiskRecord) (taken : MailRecord) (previous : Addr) (version : Version) (ticket : Ticket) (value : Option Value) → is_read its.request.op ≡ true → its.request.floor.0 ≤ s.floor.0 → HasTaken k s (spelled its ticket sought) taken u
     → header_said taken.header ≡ Says previous version → (taken.key.0 == (key_of its.request.op).0) ≡ true → value_of taken.value ≡ as_number value → IsEnded (lasting (read_polled (lone s (spelled its ticket sought)) ticket value)) (told.Polled 0) u
-found_value k s u its sought taken previous version ticket (Some value) reads at said mine is =
+found_value k s u its sought taken previous version ticket (Some value) reads low at said mine is =
     let t = taken_tells k s u its sought taken previous version ticket reads at said mine in
     let so : told_value (value_of taken.value) ≡ tried.Found value = ap told_value is in
     subst (IsEnded (lasting (read_polled (lone s (spelled its ticket sought)) ticket (Some value))) (told.Polled 0))
-    (sym (t.1 ∙ ap (λ (a : TryAnswer). poll_ledto k (answered k s (spelled its ticket sought) taken t.0 a) 0 (Done a)) so)) (found_ends k s its sought taken ticket t.0 value reads)
-found_value k s u its sought taken previous version ticket None reads at said mine is =
+    (sym (t.1 ∙ ap (λ (a : TryAnswer). poll_ledto k (answered k s (spelled its ticket sought) taken t.0 a) 0 (Done a)) so)) (found_ends k s its sought taken ticket t.0 value reads low)
+found_value k s u its sought taken previous version ticket None reads low at said mine is =
     let t = taken_tells k s u its sought taken previous version ticket reads at said mine in
     let so : told_value (value_of taken.value) ≡ tried.Absent = ap told_value is in
     subst (IsEnded (lasting (read_polled (lone s (spelled its ticket sought)) ticket None)) (told.Polled 0))
-    (sym (t.1 ∙ ap (λ (a : TryAnswer). poll_ledto k (answered k s (spelled its ticket sought) taken t.0 a) 0 (Done a)) so)) (absent_ends k s its sought taken ticket t.0 reads)
+    (sym (t.1 ∙ ap (λ (a : TryAnswer). poll_ledto k (answered k s (spelled its ticket sought) taken t.0 a) 0 (Done a)) so)) (absent_ends k s its sought taken ticket t.0 reads low)
 
-pub mine_ends : (k : Seat) (s u : SessionState) (its : PendingRequest) (sought : DiskRecord) (taken : MailRecord) (previous : Addr) (version : Version) (ticket : Ticket) (value : Option Value) → Seeks its sought → its.name ≡ Read ticket → HasTaken k s its taken u
+pub mine_ends : (k : Seat) (s u : SessionState) (its : PendingRequest) (sought : DiskRecord) (taken : MailRecord) (previous : Addr) (version : Version) (ticket : Ticket) (value : Option Value) → Seeks its sought s.floor → its.name ≡ Read ticket → HasTaken k s its taken u
     → header_said taken.header ≡ Says previous version → taken.key.0 ≡ (key_of its.request.op).0 → as_number value ≡ value_of taken.value → IsEnded (lasting (read_polled (lone s its) ticket value)) (told.Polled 0) u
 mine_ends k s u its sought taken previous version ticket value so named at said mine is =
     let same = spelled_is its ticket sought named so.seeks in
     subst (λ (x : PendingRequest). IsEnded (lasting (read_polled (lone s x) ticket value)) (told.Polled 0) u) same
-    (found_value k s u its sought taken previous version ticket value so.reads (subst (λ (x : PendingRequest). HasTaken k s x taken u) (sym same) at) said (grind (arith, nat_tests, mine)) (sym is))
+    (found_value k s u its sought taken previous version ticket value so.reads so.low (subst (λ (x : PendingRequest). HasTaken k s x taken u) (sym same) at) said (grind (arith, nat_tests, mine)) (sym is))
 
 -- the chain ends, and has no record of its key
-found_last : (k : Seat) (s u : SessionState) (its : PendingRequest) (sought : DiskRecord) (taken : MailRecord) (previous : Addr) (version : Version) (ticket : Ticket) → is_read its.request.op ≡ true → HasTaken k s (spelled its ticket sought) taken u
-    → header_said taken.header ≡ Says previous version → (taken.key.0 == (key_of its.request.op).0) ≡ false → (previous.0 == 0) ≡ true → IsEnded (lasting (read_polled (lone s (spelled its ticket sought)) ticket None)) (told.Polled 0) u
+found_last : (k : Seat) (s u : SessionState) (its : PendingRequest) (sought : DiskRecord) (taken : MailRecord) (previous : Addr) (version : Version) (ticket : Ticket) → is_read its.request.op ≡ true → its.request.floor.0 ≤ s.floor.0 → HasTaken k s (spelled its ticket sought) taken u
+    → header_said taken.header ≡ Says previous version → (taken.key.0 == (key_of its.request.op).0) ≡ false → is_chain_end its.request.floor previous ≡ true → IsEnded (lasting (read_polled (lone s (spelled its ticket sought)) ticket None)) (told.Polled 0) u
 unfolding HasTaken Looks leads sitting_next poll_ledto attempting_next look_ledto finishes_request polls_at attempting_ask mail_next mail_ask passed with_asked lasting
-found_last k s u its sought taken previous version ticket reads (w, reply, at, e) said other last = record {
-  ended = rw (e, at.1, reads, said, other, last, reads) refl;
-  lasts = rw (e, at.1, reads, said, other, last, reads) refl;
+found_last k s u its sought taken previous version ticket reads low (w, reply, at, e) said other last = record {
+  ended = rw (e, at.1, there_said taken previous version said, reads, said, other, last, reads) refl;
+  lasts = rw (e, at.1, there_said taken previous version said, reads, said, other, last, reads, max_low s.floor.0 its.request.floor.0 low) refl;
 }
 
-pub last_ends : (k : Seat) (s u : SessionState) (its : PendingRequest) (sought : DiskRecord) (taken : MailRecord) (previous : Addr) (version : Version) (ticket : Ticket) → Seeks its sought → its.name ≡ Read ticket → HasTaken k s its taken u
-    → header_said taken.header ≡ Says previous version → ¬ (taken.key.0 ≡ (key_of its.request.op).0) → previous.0 ≡ 0 → IsEnded (lasting (read_polled (lone s its) ticket None)) (told.Polled 0) u
+pub last_ends : (k : Seat) (s u : SessionState) (its : PendingRequest) (sought : DiskRecord) (taken : MailRecord) (previous : Addr) (version : Version) (ticket : Ticket) → Seeks its sought s.floor → its.name ≡ Read ticket → HasTaken k s its taken u
+    → header_said taken.header ≡ Says previous version → ¬ (taken.key.0 ≡ (key_of its.request.op).0) → is_chain_end its.request.floor previous ≡ true → IsEnded (lasting (read_polled (lone s its) ticket None)) (told.Polled 0) u
 last_ends k s u its sought taken previous version ticket so named at said other last =
     let same = spelled_is its ticket sought named so.seeks in
     subst (λ (x : PendingRequest). IsEnded (lasting (read_polled (lone s x) ticket None)) (told.Polled 0) u) same
-    (found_last k s u its sought taken previous version ticket so.reads (subst (λ (x : PendingRequest). HasTaken k s x taken u) (sym same) at) said (differs taken.key.0 (key_of its.request.op).0 other) (grind (arith, nat_tests, last)))
+    (found_last k s u its sought taken previous version ticket so.reads so.low (subst (λ (x : PendingRequest). HasTaken k s x taken u) (sym same) at) said (differs taken.key.0 (key_of its.request.op).0 other) last)
 
 -- else it asks for the record before
 abbrev seeking : PendingRequest → DiskRecord → PendingRequest
@@ -269,17 +273,17 @@ seeking_is : (its : PendingRequest) (sought : DiskRecord) → its.sought ≡ Som
 seeking_is its sought seeks = λ i. record its { sought = sym seeks i }
 
 found_another : (k : Seat) (s u : SessionState) (its : PendingRequest) (sought : DiskRecord) (taken : MailRecord) (previous : Addr) (version : Version) → is_read its.request.op ≡ true → HasTaken k s (seeking its sought) taken u
-    → header_said taken.header ≡ Says previous version → (taken.key.0 == (key_of its.request.op).0) ≡ false → (previous.0 == 0) ≡ false → PutsOn k s (seeking its sought) (record sought { addr = previous }) (StoresAddress previous) u
+    → header_said taken.header ≡ Says previous version → (taken.key.0 == (key_of its.request.op).0) ≡ false → is_chain_end its.request.floor previous ≡ false → PutsOn k s (seeking its sought) (record sought { addr = previous }) (StoresAddress previous) u
 unfolding HasTaken Looks PutsOn leads sitting_next poll_ledto attempting_next look_ledto attempting_ask mail_next mail_ask passed with_asked with_sought
 found_another k s u its sought taken previous version reads (w, reply, at, e) said other more =
-    (polled k s (seeking its sought) at.0 (looking k s (seeking its sought) (StoresEmpty (Taken taken))), e ∙ rw (at.1, reads, said, other, more) refl)
+    (polled k s (seeking its sought) at.0 (looking k s (seeking its sought) (StoresEmpty (Taken taken))), e ∙ rw (at.1, there_said taken previous version said, reads, said, other, more) refl)
 
-pub goes_on : (k : Seat) (s u : SessionState) (its : PendingRequest) (sought : DiskRecord) (taken : MailRecord) (previous : Addr) (version : Version) → Seeks its sought → HasTaken k s its taken u → header_said taken.header ≡ Says previous version
-    → ¬ (taken.key.0 ≡ (key_of its.request.op).0) → ¬ (previous.0 ≡ 0) → PutsOn k s its (record sought { addr = previous }) (StoresAddress previous) u
+pub goes_on : (k : Seat) (s u : SessionState) (its : PendingRequest) (sought : DiskRecord) (taken : MailRecord) (previous : Addr) (version : Version) → Seeks its sought s.floor → HasTaken k s its taken u → header_said taken.header ≡ Says previous version
+    → ¬ (taken.key.0 ≡ (key_of its.request.op).0) → is_chain_end its.request.floor previous ≡ false → PutsOn k s its (record sought { addr = previous }) (StoresAddress previous) u
 goes_on k s u its sought taken previous version so at said other more =
     let same = seeking_is its sought so.seeks in
     subst (λ (x : PendingRequest). PutsOn k s x (record sought { addr = previous }) (StoresAddress previous) u) same
-    (found_another k s u its sought taken previous version so.reads (subst (λ (x : PendingRequest). HasTaken k s x taken u) (sym same) at) said (differs taken.key.0 (key_of its.request.op).0 other) (differs previous.0 0 more))
+    (found_another k s u its sought taken previous version so.reads (subst (λ (x : PendingRequest). HasTaken k s x taken u) (sym same) at) said (differs taken.key.0 (key_of its.request.op).0 other) more)
 
 put_on_asks : (k : Seat) (s u : SessionState) (its : PendingRequest) (sought : DiskRecord) (m : Mailing) → PutsOn k s its sought m u → asked k u ≡ passed (passed (mail_ask k.number m) tried.Shift) told.Slept
 unfolding PutsOn asked sitting_ask attempting_ask
@@ -297,10 +301,10 @@ pub address_on_stored : (k : Seat) (s u v : SessionState) (its : PendingRequest)
 unfolding PutsOn leads sitting_next poll_ledto attempting_next put_ledto attempting_ask mail_next mail_ask passed
 address_on_stored k s u v its sought reply at e = (polled k s its at.0 (putting_on k s its sought (StoresAddress sought.addr)), e ∙ rw at.1 refl)
 
-pub asked_on_stored : (k : Seat) (s u v : SessionState) (its : PendingRequest) (sought : DiskRecord) (reply : ℕ) → PutsOn k s its sought StoresAsked u → v ≡ leads k u reply
+pub asked_on_stored : (k : Seat) (s u v : SessionState) (its : PendingRequest) (sought : DiskRecord) (reply : ℕ) → its.request.floor.0 ≤ s.floor.0 → PutsOn k s its sought StoresAsked u → v ≡ leads k u reply
     → IsEnded (lasting (request_polled (lone s its) (record its { sought = Some sought; has_asked = true }))) (told.Polled 1) v
 unfolding PutsOn leads sitting_next poll_ledto attempting_next put_ledto keeps_request polls_at attempting_ask mail_next mail_ask passed with_asked lasting
-asked_on_stored k s u v its sought reply at e = record {
+asked_on_stored k s u v its sought reply low at e = record {
   ended = rw (e, at.1) refl;
-  lasts = rw (e, at.1) refl;
+  lasts = rw (e, at.1, max_low s.floor.0 its.request.floor.0 low) refl;
 }

@@ -31,6 +31,7 @@ goes_call k s op g by = record {
   its_places = by.places;
   its_bits = by.bits;
   its_head = by.head;
+  its_floor = by.floor;
   its_read_only = by.read_only;
   its_version = ap (λ (v : ℕ). version_within v) by.version ∙ version_same g.version by.some_version by.version_fits;
   its_mark = ap mark (ap (λ (v : ℕ). version_within v) by.version ∙ version_same g.version by.some_version by.version_fits) ∙ by.its_mark;

@@ -25,7 +25,7 @@ use Rattle.fkv_session.specs.Alike.{lasting}
 use Rattle.fkv_session.specs.Sessions.{Seat, SessionState, sitting_ask, sitting_next, session_ask, accepts, attempt_ledto, finishes_request, keeps_request, poll_ledto, polls_at, asks_after, entry_of, is_word_ask}
 use Rattle.fkv_straight.specs.Course.{Course, pending_in, request_in, IsLone, IsSettled}
 use Rattle.fkv_straight.specs.Standing.{asked, leads, attempt_leads, attempting, sitting, led_attempt, resumed, Tries, IsLed, next_try, IsEnded, IsDone, IsWaiting, waiting_lasts, waiting_told}
-use Rattle.fkv_straight.proofs.Tests.{or_false}
+use Rattle.fkv_straight.proofs.Tests.{or_false, max_same}
 use Rattle.fkv_ops.specs.declared.bounds.Bounds.{Bounds}
 
 -- ---- the session asks what its try asks
@@ -205,7 +205,7 @@ told_polled c asks t polls lone = rw (polls, lone.waits) refl
 
 lasts_polled : (c : Course) (asks : ℕ) (t : TryState) → c.occasion ≡ AtPoll → IsLone c → lasting (resumed c asks (waited c t)) ≡ record c.lasts { requests = c.lasts.requests }
 unfolding lasting poll_ledto keeps_request polls_at attempting_ask
-lasts_polled c asks t polls lone = rw (polls, lone.waits) refl
+lasts_polled c asks t polls lone = rw (polls, lone.waits, max_same c.lasts.floor.0) refl
 
 waits_when : (c : Course) (asks : ℕ) (t : TryState) (when : Occasion) → c.occasion ≡ when → IsSettled c → is_read c.op ≡ false → IsEnded (waiting_lasts when c) (waiting_told when c) (resumed c asks (waited c t))
 waits_when c asks t (AtCall bounds) calls settled updates = record { ended = told_waits c asks t calls updates; lasts = lasts_waiting c asks t calls updates }
@@ -233,7 +233,7 @@ done_poll : (c : Course) (t : TryState) (its : Reply) (s : SessionState) → c.o
 unfolding IsLed lasting trying_ask try_ledto poll_ledto finishes_request polls_at attempting_ask passed with_latch
 done_poll c t its s polls lone none_owed led ends spare updates = record {
   ended = rw led.1 (rw (polls, ends, lone.waits, lone.none_told, none_owed, updates) refl);
-  lasts = rw led.1 (rw (polls, ends, lone.waits, lone.none_told, none_owed, spare, updates, or_false c.lasts.is_orphaned) refl);
+  lasts = rw led.1 (rw (polls, ends, lone.waits, lone.none_told, none_owed, spare, updates, or_false c.lasts.is_orphaned, max_same c.lasts.floor.0) refl);
 }
 
 pub ends_done : (c : Course) (t : TryState) (its : Reply) (s : SessionState) → IsSettled c → IsLed c t s → t.step ≡ Ended (tried.Done its) → t.spare ≡ c.lasts.spare → is_read c.op ≡ false → IsDone c its s

@@ -31,13 +31,14 @@ use Rattle.fkv_straight.specs.Met.{Begins, MayPoll}
 use Rattle.fkv_straight.specs.Standing.{begins, IsDone, IsCaughtUp, IsWaiting}
 use Rattle.fkv_straight.proofs.Endings.{read_asks, read_caught_up}
 use Rattle.fkv_straight.proofs.Goings.{goes_on_by, spare_same, version_same}
+use Rattle.fkv_base.specs.declared.numbers.Addr.{Addr}
 
 -- what waits, as the request of a course
-as_request : (r : Request) (op : Op) (version : Version) → r.op ≡ op → r.version.0 ≡ version_within version.0 → r.has_latch ≡ false → r.held ≡ None → r ≡ request_of op version
-as_request r op version its same free none =
-    (λ i. record { op = its i; version = r.version; has_latch = free i; held = none i; some_version = r.some_version; version_fits = r.version_fits })
-    ∙ same_made {A = Version} {P = λ v. (0 < v.0) × (v.0 < 2 ^ 45)} (λ v h. record { op = op; version = v; has_latch = false; held = None; some_version = h.0; version_fits = h.1 }) (λ v. hlevel le_prop) r.version (request_of op version).version
-    (r.some_version, r.version_fits) ((request_of op version).some_version, (request_of op version).version_fits) (λ i. record { 0 = same i })
+as_request : (r : Request) (op : Op) (version : Version) (floor : Addr) → r.op ≡ op → r.version.0 ≡ version_within version.0 → r.has_latch ≡ false → r.held ≡ None → r.floor ≡ floor → r ≡ request_of op version floor
+as_request r op version floor its same free none low =
+    (λ i. record { op = its i; version = r.version; has_latch = free i; held = none i; floor = low i; some_version = r.some_version; version_fits = r.version_fits })
+    ∙ same_made {A = Version} {P = λ v. (0 < v.0) × (v.0 < 2 ^ 45)} (λ v h. record { op = op; version = v; has_latch = false; held = None; floor = floor; some_version = h.0; version_fits = h.1 }) (λ v. hlevel le_prop) r.version (request_of op version floor).version
+    (r.some_version, r.version_fits) ((request_of op version floor).some_version, (request_of op version floor).version_fits) (λ i. record { 0 = same i })
 
 pub none_of : {A : Type 0} (x : Option A) → is_some x ≡ false → x ≡ None
 none_of None h = refl
@@ -49,23 +50,24 @@ only_is (x ∷ []) its e = cc e
 only_is (x ∷ y ∷ l) its e = absurd (cc e)
 
 -- the request of an update that waits for nothing but the poll
-pub record IsPlain (its : PendingRequest) (l : Lone) (its_version : ℕ) : Type 0 where
+pub record IsPlain (its : PendingRequest) (l : Lone) (its_version : ℕ) (its_floor : Addr) : Type 0 where
   pub name : its.name ≡ Update l.serial
   pub op : its.request.op ≡ l.op
   pub version : its.request.version.0 ≡ its_version
+  pub floor : its.request.floor ≡ its_floor
   pub free : its.request.has_latch ≡ false
   pub none_held : its.request.held ≡ None
   pub none_sought : its.sought ≡ None
   pub none_asked : its.has_asked ≡ false
 
-lone_in : (k : Seat) (s : SessionState) (l : Lone) (g : Going) (its : PendingRequest) → GoesBy k s g → s.requests ≡ its ∷ [] → IsPlain its l g.version → its ≡ pending_in (course_of k s l.op call.Poll)
+lone_in : (k : Seat) (s : SessionState) (l : Lone) (g : Going) (its : PendingRequest) → GoesBy k s g → s.requests ≡ its ∷ [] → IsPlain its l g.version s.floor → its ≡ pending_in (course_of k s l.op call.Poll)
 unfolding lasting
 lone_in k s l g its by waits plain =
     let name : its.name ≡ first_name s.requests = sym (ap first_name waits) in
-    let request = as_request its.request l.op s.seen.version plain.op (plain.version ∙ (sym (version_same g.version by.some_version by.version_fits) ∙ ap (λ (v : ℕ). version_within v) (sym by.version))) plain.free plain.none_held in
+    let request = as_request its.request l.op s.seen.version s.floor plain.op (plain.version ∙ (sym (version_same g.version by.some_version by.version_fits) ∙ ap (λ (v : ℕ). version_within v) (sym by.version))) plain.free plain.none_held plain.floor in
     (λ i. record { name = name i; request = request i; sought = plain.none_sought i; has_asked = plain.none_asked i })
 
-pub may_poll : (k : Seat) (s : SessionState) (l : Lone) (g : Going) (its : PendingRequest) → GoesBy k s g → Some its ≡ only_of s.requests → IsPlain its l g.version → g.is_preparing ≡ false → s.is_orphaned ≡ false → is_read l.op ≡ false → MayPoll k s l g
+pub may_poll : (k : Seat) (s : SessionState) (l : Lone) (g : Going) (its : PendingRequest) → GoesBy k s g → Some its ≡ only_of s.requests → IsPlain its l g.version s.floor → g.is_preparing ≡ false → s.is_orphaned ≡ false → is_read l.op ≡ false → MayPoll k s l g
 unfolding lasting
 may_poll k s l g its by only plain calm none updates =
     let waits : s.requests ≡ its ∷ [] = only_is s.requests its (sym only) in
@@ -76,6 +78,7 @@ may_poll k s l g its by only plain calm none updates =
         its_places = by.places;
         its_bits = by.bits;
         its_head = by.head;
+        its_floor = by.floor;
         its_read_only = by.read_only;
         its_version = ap (λ (v : ℕ). version_within v) by.version ∙ version_same g.version by.some_version by.version_fits;
         its_mark = ap mark (ap (λ (v : ℕ). version_within v) by.version ∙ version_same g.version by.some_version by.version_fits) ∙ by.its_mark;
@@ -96,7 +99,7 @@ may_poll k s l g its by only plain calm none updates =
     }
 
 -- ---- a session of which the same lasts may make it too, and begins it so
-begins_at : (k : Seat) (s : SessionState) (op : Op) (name : RequestName) → s.is_awake ≡ true → s.is_orphaned ≡ false → s.requests ≡ record { name = name; request = request_of op s.seen.version; sought = None; has_asked = false } ∷ [] → is_read op ≡ false
+begins_at : (k : Seat) (s : SessionState) (op : Op) (name : RequestName) → s.is_awake ≡ true → s.is_orphaned ≡ false → s.requests ≡ record { name = name; request = request_of op s.seen.version s.floor; sought = None; has_asked = false } ∷ [] → is_read op ≡ false
     → is_prepare s.seen.phase ≡ false → spare_of k.places s.spare ≡ s.spare → Begins (course_of k s op call.Poll) call.Poll s
 unfolding begins poll_call polls_at lasting
 begins_at k s op name awake none waits updates calm spare = rw (awake, none, waits, updates, calm, spare) refl
@@ -118,6 +121,7 @@ goes_hand k l op one other g goes = record {
   its_places = goes.its_places;
   its_bits = goes.its_bits;
   its_head = goes.its_head;
+  its_floor = goes.its_floor;
   its_read_only = goes.its_read_only;
   its_version = goes.its_version;
   its_mark = goes.its_mark;
@@ -190,8 +194,8 @@ pub unpolled_asks : (k : Seat) (s u : SessionState) (op : Op) → IsWaiting (cou
 unpolled_asks k s u op waits = read_asks k u _ (told.Polled 1) waits
 
 pub unpolled_by : (m n : Sitter) (g : Going) → n ≡ record m { state = nothing_polled m.state } → GoesBy m.seat m.state g → GoesBy n.seat n.state g
-unpolled_by m n g e by = goes_on_by m n (nothing_polled m.state) g e refl refl refl by.room by
+unpolled_by m n g e by = goes_on_by m n (nothing_polled m.state) g e refl refl refl refl by.room refl by
 
 -- what the next call goes by stays
 pub polled_by : (m n : Sitter) (serial : Serial) (its : Reply) (waiting : PendingRequest) (g : Going) → m.state.requests ≡ waiting ∷ [] → n ≡ record m { state = update_polled m.state serial its } → GoesBy m.seat m.state g → GoesBy n.seat n.state g
-polled_by m n serial its waiting g waits e by = goes_on_by m n (update_polled m.state serial its) g e refl refl refl (rw waits refl) by
+polled_by m n serial its waiting g waits e by = goes_on_by m n (update_polled m.state serial its) g e refl refl refl refl (rw waits refl) refl by

@@ -1,5 +1,5 @@
 -- How a read ends.
-use Rattle.std.proofs.Common.{◌≡◌, ℕ, refl, subst, arith, Bool, true, false}
+use Rattle.std.proofs.Common.{◌≡◌, ℕ, refl, subst, arith, Bool, true, false, ◌<◌}
 use Rattle.std.specs.Prelude.{◌==◌, nat_lt, Option}
 use Rattle.std.proofs.lemmas.Bool.Decides.{nat_tests}
 use Rattle.fkv_map.specs.Keys.{key_of}
@@ -17,19 +17,20 @@ use Rattle.fkv_ops.specs.declared.requests.Occasion.TheVariants.{Call as AtCall}
 use Rattle.fkv_ops.specs.declared.trying.Trying.TheVariants.{LoadsAnswer, Ended}
 use Rattle.fkv_ops.specs.declared.walking.Walking.{Walking}
 use Rattle.fkv_ops.specs.HeaderWords.{header_said}
-use Rattle.fkv_ops.specs.Requests.{is_read}
+use Rattle.fkv_ops.specs.Requests.{is_read, is_chain_end}
 use Rattle.fkv_ops.specs.Trying.{TryState, trying_ask, trying_next, walk_ledto, answer_ledto, ends, ends_so}
 use Rattle.fkv_ops.specs.Walking.{reached, walking_ask, walking_next, load_ledto, value_ledto, walking_on}
 use Rattle.fkv_session.specs.declared.answers.Told.TheVariants as told
 use Rattle.fkv_session.specs.Sessions.{SessionState}
 use Rattle.fkv_straight.specs.declared.searching.Record.{Record}
-use Rattle.fkv_straight.specs.Course.{Course, shares}
+use Rattle.fkv_straight.specs.Course.{Course, shares, head_in, floor_in}
 use Rattle.fkv_straight.specs.Met.{Trail, meeting, holding, walking, judged, IsReached, HasKey, IsMet, IsAtAnswer}
 use Rattle.fkv_straight.specs.Standing.{asked, leads, IsLed, next_try, IsEnded}
 use Rattle.fkv_straight.proofs.Moves.{asks_load, led_on, stays, ends_found, ends_absent}
 use Rattle.fkv_straight.proofs.Tests.{same}
 use Rattle.fkv_straight.proofs.Walks.{past}
 use Rattle.fkv_ops.specs.declared.bounds.Bounds.{Bounds}
+use Rattle.fkv_ops.proofs.Shown.{ends_there}
 
 -- ---- the record was met: its value is loaded
 reads_on : (c : Course) (trail : Trail) (r : Record) → header_said r.header ≡ Says (record { 0 = r.previous }) (record { 0 = r.mark }) → nat_lt r.previous r.addr ≡ true → ((key_of c.op).0 == (key_of c.op).0) ≡ true
@@ -98,3 +99,23 @@ pub nowhere_ends : {bounds : Option Bounds} (c : Course) (place entry : ℕ) (s 
 unfolding IsReached
 nowhere_ends c place entry s calls at calm reads =
     ends_absent c (judged c (reached c.seat.places (walking c at.0 place entry at.2 at.3) 0)) s calls at.4 (ends_chain c at.0 place entry at.2 at.3 calm reads) (chain_spares c at.0 place entry at.2 at.3 calm reads)
+
+-- or leads below the floor
+ends_below : (c : Course) (trail : Trail) (place entry addr : ℕ) (loading : Loading) (step : Walking) → (addr == 0) ≡ false → nat_lt addr (head_in c) ≡ true → is_chain_end c.lasts.floor (record { 0 = addr }) ≡ true → shares c ≡ false → is_read c.op ≡ true
+    → (judged c (reached c.seat.places (walking c trail place entry loading step) addr)).step ≡ Ended tried.Absent
+unfolding walk_ledto walking_ask ends ends_so
+ends_below c trail place entry addr loading step some low below calm reads = rw (some, low, calm, reads, below) refl
+
+below_spares : (c : Course) (trail : Trail) (place entry addr : ℕ) (loading : Loading) (step : Walking) → (addr == 0) ≡ false → nat_lt addr (head_in c) ≡ true → is_chain_end c.lasts.floor (record { 0 = addr }) ≡ true → shares c ≡ false → is_read c.op ≡ true
+    → (judged c (reached c.seat.places (walking c trail place entry loading step) addr)).spare ≡ c.lasts.spare
+unfolding walk_ledto walking_ask ends ends_so
+below_spares c trail place entry addr loading step some low below calm reads = rw (some, low, calm, reads, below) refl
+
+pub below_ends : {bounds : Option Bounds} (c : Course) (place entry addr : ℕ) (s : SessionState) → c.occasion ≡ AtCall bounds → 0 < addr → addr < head_in c → addr < floor_in c → IsReached c place entry addr s → shares c ≡ false → is_read c.op ≡ true
+    → IsEnded c.lasts told.Absent s
+unfolding IsReached
+below_ends c place entry addr s calls some low below at calm reads =
+    let is_some : (addr == 0) ≡ false = grind (arith, nat_tests, some) in
+    let is_low : nat_lt addr (head_in c) ≡ true = grind (arith, nat_tests, low) in
+    let is_end = ends_there c.lasts.floor (record { 0 = addr }) below in
+    ends_absent c (judged c (reached c.seat.places (walking c at.0 place entry at.2 at.3) addr)) s calls at.4 (ends_below c at.0 place entry addr at.2 at.3 is_some is_low is_end calm reads) (below_spares c at.0 place entry addr at.2 at.3 is_some is_low is_end calm reads)

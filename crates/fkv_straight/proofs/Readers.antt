@@ -1,5 +1,5 @@
 -- When a read's call, and a poll of it, may go on straight by the mailbox, and how the machine has caught up behind.
-use Rattle.std.proofs.Common.{◌≡◌, ℕ, ◌+◌, ◌<◌, refl, sym, ap, ◌∙◌, subst, true, false, [], ◌∷◌, ◌++◌, length}
+use Rattle.std.proofs.Common.{◌≡◌, ℕ, ◌+◌, ◌<◌, refl, sym, ap, ◌∙◌, subst, true, false, [], ◌∷◌, ◌++◌, length, ◌≤◌}
 use Rattle.std.specs.Prelude.{Bool, Option, Some, slice_set}
 use Rattle.std.specs.List.{remove}
 use Rattle.fkv_base.specs.Limits.{max_pending}
@@ -27,6 +27,7 @@ use Rattle.fkv_straight.proofs.Endings.{read_asks, read_caught_up, room_left}
 use Rattle.fkv_straight.proofs.Goings.{goes_on_by}
 use Rattle.fkv_straight.proofs.Mailboxes.{Seeks, lone}
 use Rattle.fkv_straight.proofs.Tests.{and_false}
+use Rattle.fkv_base.specs.declared.numbers.Addr.{Addr}
 
 -- ---- a read that asks in its call
 pub reads_share_none : (c : Course) → is_read c.op ≡ true → shares c ≡ false
@@ -34,14 +35,14 @@ reads_share_none c reads = rw (reads, and_false (is_prepare c.lasts.seen.phase))
 
 asking_lasts : (m : SessionState) (op : Op) (sought : DiskRecord) (has_asked : Bool)
     → lasting (read_waiting m op sought has_asked)
-    ≡ record (lasting m) { ticket = ticket_after (lasting m).ticket; requests = (lasting m).requests ++ record { name = Read (record { 0 = ticket_after (lasting m).ticket }); request = request_of op (lasting m).seen.version; sought = Some sought; has_asked = has_asked } ∷ [] }
+    ≡ record (lasting m) { ticket = ticket_after (lasting m).ticket; requests = (lasting m).requests ++ record { name = Read (record { 0 = ticket_after (lasting m).ticket }); request = request_of op (lasting m).seen.version (lasting m).floor; sought = Some sought; has_asked = has_asked } ∷ [] }
 unfolding lasting
 asking_lasts m op sought has_asked = refl
 
 -- what lasts behind it of a session whose machine has that
 abbrev asking_on : Op → DiskRecord → Bool → Lasting → Lasting
 asking_on op sought has_asked l =
-    record l { ticket = ticket_after l.ticket; requests = l.requests ++ record { name = Read (record { 0 = ticket_after l.ticket }); request = request_of op l.seen.version; sought = Some sought; has_asked = has_asked } ∷ [] }
+    record l { ticket = ticket_after l.ticket; requests = l.requests ++ record { name = Read (record { 0 = ticket_after l.ticket }); request = request_of op l.seen.version l.floor; sought = Some sought; has_asked = has_asked } ∷ [] }
 
 asking_in : (k : Seat) (s u : SessionState) (op : Op) (sought : DiskRecord) (has_asked : Bool) → is_read op ≡ true → IsAsking (course_of k s op (call.Op op)) sought has_asked u → IsEnded (asking_on op sought has_asked (lasting s)) (told.PendingRead (record { 0 = ticket_after (lasting s).ticket })) u
 asking_in k s u op sought has_asked reads asks = record { ended = asks.ended; lasts = asks.lasts ∙ rw reads refl }
@@ -64,11 +65,11 @@ asking_asks k m s u op sought has_asked ticket reads alike e asks =
     ap (λ (t : Ticket). Done (told.PendingRead t)) (ticket_is ticket (ticket_after (lasting s).ticket) its) ∙ read_asks k u _ (told.PendingRead (record { 0 = ticket_after (lasting s).ticket })) (asking_in k s u op sought has_asked reads asks)
 
 pub asking_by : (m n : Sitter) (op : Op) (sought : DiskRecord) (has_asked : Bool) (g : Going) → length m.state.requests + 1 < max_pending → n ≡ record m { state = read_waiting m.state op sought has_asked } → GoesBy m.seat m.state g → GoesBy n.seat n.state g
-asking_by m n op sought has_asked g few e by = goes_on_by m n (read_waiting m.state op sought has_asked) g e refl refl refl (room_left m.state.requests _ few) by
+asking_by m n op sought has_asked g few e by = goes_on_by m n (read_waiting m.state op sought has_asked) g e refl refl refl refl (room_left m.state.requests _ few) refl by
 
 -- ---- a read that alone waits
-pub seeks_so : (s : SessionState) (its : Asker) → MayLook s its → Seeks its.pending its.sought
-seeks_so s its may = record { reads = may.reads; seeks = may.seeks }
+pub seeks_so : (s : SessionState) (its : Asker) → MayLook s its → Seeks its.pending its.sought s.floor
+seeks_so s its may = record { reads = may.reads; seeks = may.seeks; low = may.floor }
 
 requests_in : (s : SessionState) → (lasting s).requests ≡ s.requests
 unfolding lasting
@@ -82,6 +83,10 @@ is_orphaned_in : (s : SessionState) → (lasting s).is_orphaned ≡ s.is_orphane
 unfolding lasting
 is_orphaned_in s = refl
 
+floor_in : (s : SessionState) → (lasting s).floor ≡ s.floor
+unfolding lasting
+floor_in s = refl
+
 pub look_alike : (m s : SessionState) (its : Asker) → lasting m ≡ lasting s → MayLook m its → MayLook s its
 look_alike m s its alike may = record {
   waits = sym (requests_in s) ∙ (ap (λ (x : Lasting). x.requests) (sym alike) ∙ (requests_in m ∙ may.waits));
@@ -89,6 +94,7 @@ look_alike m s its alike may = record {
   reads = may.reads;
   seeks = may.seeks;
   has_asked = may.has_asked;
+  floor = subst (λ (x : Addr). its.pending.request.floor.0 ≤ x.0) (sym (floor_in m) ∙ (ap (λ (x : Lasting). x.floor) alike ∙ floor_in s)) may.floor;
   awake = sym (is_awake_in s) ∙ (ap (λ (x : Lasting). x.is_awake) (sym alike) ∙ (is_awake_in m ∙ may.awake));
   no_orphan = sym (is_orphaned_in s) ∙ (ap (λ (x : Lasting). x.is_orphaned) (sym alike) ∙ (is_orphaned_in m ∙ may.no_orphan));
 }
@@ -136,10 +142,10 @@ on_caught_up m n s u its before alike may e ended =
 
 -- what the next call goes by stays
 pub none_by : (m n : Sitter) (g : Going) → n ≡ record m { state = nothing_polled m.state } → GoesBy m.seat m.state g → GoesBy n.seat n.state g
-none_by m n g e by = goes_on_by m n (nothing_polled m.state) g e refl refl refl by.room by
+none_by m n g e by = goes_on_by m n (nothing_polled m.state) g e refl refl refl refl by.room refl by
 
 pub read_by : (m n : Sitter) (its : Asker) (value : Option Value) (g : Going) → MayLook m.state its → n ≡ record m { state = read_polled m.state its.ticket value } → GoesBy m.seat m.state g → GoesBy n.seat n.state g
-read_by m n its value g may e by = goes_on_by m n (read_polled m.state its.ticket value) g e refl refl refl (rw may.waits refl) by
+read_by m n its value g may e by = goes_on_by m n (read_polled m.state its.ticket value) g e refl refl refl refl (rw may.waits refl) refl by
 
 pub on_by : (m n : Sitter) (its : Asker) (waits : PendingRequest) (g : Going) → MayLook m.state its → n ≡ record m { state = request_polled m.state waits } → GoesBy m.seat m.state g → GoesBy n.seat n.state g
-on_by m n its waits g may e by = goes_on_by m n (request_polled m.state waits) g e refl refl refl (rw may.waits refl) by
+on_by m n its waits g may e by = goes_on_by m n (request_polled m.state waits) g e refl refl refl refl (rw may.waits refl) refl by

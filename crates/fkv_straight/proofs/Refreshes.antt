@@ -151,6 +151,7 @@ refreshed_lasts m s after alike free =
       seen = after;
       serial = (alike i).serial;
       ticket = (alike i).ticket;
+      floor = (alike i).floor;
       requests = free i;
       is_orphaned = (alike i).is_orphaned;
       spare = (alike i).spare;

@@ -1,6 +1,6 @@
 -- Tests as a call makes them and as the table does.
 use Rattle.std.proofs.Common.{◌≡◌, ℕ, ◌-◌, ◌/◌, ◌%◌, ◌^◌, ◌≤◌, refl, sym, ◌∙◌, arith, Bool, true, false}
-use Rattle.std.specs.Prelude.{◌==◌, ◌&&◌, ◌||◌, not, nat_lt}
+use Rattle.std.specs.Prelude.{◌==◌, ◌&&◌, ◌||◌, max, not, nat_lt}
 use Rattle.std.proofs.lemmas.Bool.Decides.{nat_tests}
 use Rattle.fkv_ops.specs.declared.header_words.HeaderSaid.TheVariants.{Says}
 use Rattle.fkv_ops.specs.HeaderWords.{header_said}
@@ -49,3 +49,9 @@ said_plainly word previous version some fits p v =
     let clear : (word / 2 ^ 61 % 2 == 0) ≡ true = (let h : word / 2 ^ 61 % 2 ≡ 0 = omega (arith, fits) in grind (arith, nat_tests, h)) in
     let top : (word / 2 ^ 63 == 0) ≡ true = (let h : word / 2 ^ 63 ≡ 0 = omega (arith, fits) in grind (arith, nat_tests, h)) in
     (λ i. Says (record { 0 = p i }) (record { 0 = (v ∙ sym whole) i })) ∙ sym (rw (has, clear, top) refl)
+
+pub max_same : (a : ℕ) → max a a ≡ a
+max_same a = omega arith
+
+pub max_low : (a b : ℕ) → b ≤ a → max a b ≡ a
+max_low a b low = omega (arith, low)

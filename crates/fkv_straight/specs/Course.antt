@@ -18,7 +18,7 @@ use Rattle.fkv_pending.specs.declared.pending_requests.PendingRequest.{PendingRe
 use Rattle.fkv_pending.specs.declared.pending_requests.RequestName.{RequestName}
 use Rattle.fkv_pending.specs.declared.pending_requests.RequestName.TheVariants.{Update, Read}
 use Rattle.fkv_session.specs.Alike.{Lasting, lasting}
-use Rattle.fkv_session.specs.Sessions.{Seat, SessionState, bits_of, request_of, is_full, ticket_after}
+use Rattle.fkv_session.specs.Sessions.{Seat, SessionState, bits_of, is_busy, request_of, is_full, ticket_after}
 use Rattle.fkv_straight.specs.declared.going.Going.{Going}
 
 -- whose call it is, what of the session lasts, which operation is tried and when, by which name it is told, and which the session has in hand
@@ -69,8 +69,11 @@ home_in c = home_of (bits_of c.seat) (key_of c.op)
 abbrev pub head_in : Course → ℕ
 head_in c = c.lasts.seen.offsets.head.0
 
+abbrev pub floor_in : Course → ℕ
+floor_in c = c.lasts.floor.0
+
 abbrev pub request_in : Course → Request
-request_in c = request_of c.op c.lasts.seen.version
+request_in c = request_of c.op c.lasts.seen.version c.lasts.floor
 
 -- the operation as a request
 abbrev pub pending_in : Course → PendingRequest
@@ -102,6 +105,7 @@ pub record Goes (c : Course) (k : Seat) (op : Op) (g : Going) : Type 0 where
   pub its_places : c.seat.places ≡ g.places
   pub its_bits : bits_of c.seat ≡ g.bits
   pub its_head : head_in c ≡ g.head
+  pub its_floor : floor_in c ≡ g.floor
   pub its_read_only : c.lasts.seen.offsets.read_only.0 ≡ g.read_only
   pub its_version : (request_in c).version.0 ≡ g.version
   pub its_mark : mark (request_in c).version.0 ≡ g.mark
@@ -111,12 +115,13 @@ pub record Goes (c : Course) (k : Seat) (op : Op) (g : Going) : Type 0 where
   pub spare_fits : c.lasts.spare ≤ c.seat.places.overflow
   pub settled : IsSettled c
 
--- The same but for the operation: what each straight call of a session goes by. The session is awake and has room for a request, and its version and its
--- spare bucket are ones that there are.
+-- The same but for the operation: what each straight call of a session goes by. The session is awake, no call of its machine is in hand, it has room for a
+-- request, and its version and its spare bucket are ones that there are.
 pub record GoesBy (k : Seat) (s : SessionState) (g : Going) : Type 0 where
   pub places : k.places ≡ g.places
   pub bits : bits_of k ≡ g.bits
   pub head : s.seen.offsets.head.0 ≡ g.head
+  pub floor : s.floor.0 ≡ g.floor
   pub read_only : s.seen.offsets.read_only.0 ≡ g.read_only
   pub version : s.seen.version.0 ≡ g.version
   pub some_version : ¬ (g.version ≡ 0)
@@ -128,3 +133,4 @@ pub record GoesBy (k : Seat) (s : SessionState) (g : Going) : Type 0 where
   pub awake : s.is_awake ≡ true
   pub room : is_full s.requests ≡ false
   pub spare_fits : s.spare ≤ g.places.overflow
+  pub idle : is_busy s.step ≡ false

@@ -9,15 +9,15 @@ use Rattle.fkv_session.specs.Sessions.{Seat, SessionState}
 use Rattle.fkv_straight.specs.declared.hot.Due.{Due}
 use Rattle.fkv_straight.specs.declared.hot.Due.TheVariants.{Met, OnDisk, Lost, Unusual}
 use Rattle.fkv_straight.specs.Course.{Course, course_of, shares}
-use Rattle.fkv_straight.specs.Mailbox.{IsSought}
+use Rattle.fkv_straight.specs.Mailbox.{IsAway}
 use Rattle.fkv_straight.specs.Met.{HasMet}
 use Rattle.fkv_straight.specs.Standing.{IsWaiting}
 
--- An update has met this, and no step was made since; a read goes on at this record of the device; an update has lost to another session, and waits if it has no bounds; or
+-- An update has met this, and no step was made since; a read's chain leaves memory at this record; an update has lost to another session, and waits if it has no bounds; or
 -- nothing is said.
 abbrev pub IsDue : Course → Due → SessionState → Type 0
 IsDue c (Met its) s = (is_read c.op ≡ false) × (shares c ≡ false) × HasMet c its s
-IsDue c (OnDisk sought) s = (is_read c.op ≡ true) × IsSought c sought s
+IsDue c (OnDisk sought) s = (is_read c.op ≡ true) × IsAway c sought s
 IsDue c Lost s = (is_read c.op ≡ false) × (bounds_at c.occasion ≡ None → IsWaiting c s)
 IsDue c Unusual s = ⊤
 

@@ -1,5 +1,5 @@
 -- Where a read stands that waits for a record of the device, by the session's mailbox: in its call, and in a poll in which it alone waits.
-use Rattle.std.specs.Prelude.{◌≡◌, ◌<◌, ℕ, Bool, true, false, Some, None, [], ◌∷◌, ◌++◌}
+use Rattle.std.specs.Prelude.{◌≡◌, ◌<◌, ◌≤◌, ℕ, Bool, true, false, Some, None, [], ◌∷◌, ◌++◌}
 use Rattle.fkv_ops.specs.declared.answers.DiskRecord.{DiskRecord}
 use Rattle.fkv_ops.specs.declared.requests.Occasion.TheVariants.{Poll as AtPoll}
 use Rattle.fkv_ops.specs.Requests.{is_read}
@@ -17,14 +17,18 @@ use Rattle.fkv_session.specs.declared.sessions.Sitting.TheVariants.{Polls}
 use Rattle.fkv_session.specs.Alike.{Lasting}
 use Rattle.fkv_session.specs.Sessions.{Seat, SessionState, bits_of, ticket_after}
 use Rattle.fkv_straight.specs.declared.mailbox.Asker.{Asker}
-use Rattle.fkv_straight.specs.Course.{Course, head_in, pending_in}
+use Rattle.fkv_straight.specs.Course.{Course, head_in, floor_in, pending_in}
 use Rattle.fkv_straight.specs.Met.{IsReached}
 use Rattle.fkv_straight.specs.Standing.{IsEnded, attempting, leads, sitting}
 
 -- ---- in its call
 -- its chain leaves memory at this record
+abbrev pub IsAway : Course → DiskRecord → SessionState → Type 0
+IsAway c sought s = (place : ℕ) × (0 < sought.addr.0) × (sought.addr.0 < head_in c) × IsReached c place sought.entry sought.addr.0 s
+
+-- and it doesn't lie below the session's floor, so the read asks for it
 abbrev pub IsSought : Course → DiskRecord → SessionState → Type 0
-IsSought c sought s = (place : ℕ) × (0 < sought.addr.0) × (sought.addr.0 < head_in c) × IsReached c place sought.entry sought.addr.0 s
+IsSought c sought s = (place : ℕ) × (0 < sought.addr.0) × (sought.addr.0 < head_in c) × (floor_in c ≤ sought.addr.0) × IsReached c place sought.entry sought.addr.0 s
 
 -- the read as a request that waits for this record, whose address is in the mailbox or isn't
 abbrev pub seeking_in : Course → DiskRecord → Bool → PendingRequest
@@ -45,13 +49,15 @@ abbrev pub IsAsking : Course → DiskRecord → Bool → SessionState → Type 0
 IsAsking c sought has_asked s = IsEnded (lasts_asking c sought has_asked) (PendingRead (record { 0 = ticket_after c.lasts.ticket })) s
 
 -- ---- in a poll in which it alone waits
--- A poll may look into the mailbox for it straight: it has asked there, and the session is awake, and has no record on its way that nobody waits for.
+-- A poll may look into the mailbox for it straight: it has asked there, and the session is awake, and has no record on its way that nobody waits for. Its floor isn't
+-- above the session's.
 pub record MayLook (s : SessionState) (its : Asker) : Type 0 where
   pub waits : s.requests ≡ its.pending ∷ []
   pub named : its.pending.name ≡ Read its.ticket
   pub reads : is_read its.pending.request.op ≡ true
   pub seeks : its.pending.sought ≡ Some its.sought
   pub has_asked : its.pending.has_asked ≡ true
+  pub floor : its.pending.request.floor.0 ≤ s.floor.0
   pub awake : s.is_awake ≡ true
   pub no_orphan : s.is_orphaned ≡ false
 

@@ -66,6 +66,7 @@ sitting c asks a =
       seen = l.seen;
       serial = l.serial;
       ticket = l.ticket;
+      floor = l.floor;
       requests = l.requests;
       is_orphaned = l.is_orphaned;
       spare = l.spare;

@@ -53,6 +53,7 @@ pub(crate) fn go_by<L: Line>(
     requires seat { machine.old.seat ≡ L.seat line.old }
     requires alike { lasting machine.old.state ≡ lasting (L.stands line.old) }
     requires may { MayGo machine.old.seat machine.old.state op going.now }
+    requires rests { is_busy machine.old.state.step ≡ false }
     ensures seat { L.seat line.new ≡ L.seat line.old }
     ensures led { L.led line.old (call.Op op) line.new }
     ensures machine { machine.new.seat ≡ machine.old.seat }

@@ -35,7 +35,7 @@ fn swap_value<L: Line>(line: &mut L, going: &Going, op: Op, its: Record) -> Repl
     let place = its.at + 2;
     let made = op.value_applied(None);
     let new = word_of_value(made);
-    let _ = line.swap(place, new);
+    let _ = line.swap_past(place, new);
     op.reply_from(None)
 }
 
@@ -57,12 +57,12 @@ fn change_value<L: Line>(line: &mut L, going: &Going, op: Op, its: Record) -> Op
     ensures lost { (c : Course) → Goes c (L.seat line.old) op going.now → IsMet c its (L.stands line.old) → IfNone result (HasLost c (L.stands line.new)) }
 {
     let place = its.at + 2;
-    let old = line.load(place);
+    let old = line.load_past(place);
     let value = value_of_word(old);
     let made = op.value_applied(value);
     let new = word_of_value(made);
     let reply = op.reply_from(value);
-    let found = line.cas(place, old, new);
+    let found = line.cas_past(place, old, new);
     if found == old { Some(reply) } else { None }
 }
 

@@ -26,6 +26,8 @@ pub struct Going {
     /// Their count less one: a key masked by it is its bucket.
     pub bucket_mask: u64,
     pub head: u64,
+    /// An address of a chain below it counts as 0.
+    pub floor: u64,
     pub read_only: u64,
     /// The session's version.
     pub version: u64,
@@ -71,13 +73,13 @@ impl Going {
     ghost use Rattle.fkv_straight.specs.Course.{Course, Goes, GoesBy};
     ghost use Rattle.fkv_straight.specs.Memory.{is_in_memory};
 
-    /// What the straight calls of the session go by, if it may make any: it is awake and has room for a request, and version and spare
+    /// What the straight calls of the session go by, if it may make any: no call is in hand, it is awake and has room for a request, and version and spare
     /// bucket are ones that there are.
     #[inline(never)]
     pub fn look(machine: &Session) -> Option<Going>
         ensures { IfSome result (λ its. GoesBy machine.now.seat machine.now.state its) }
     {
-        if !machine.is_awake() || machine.is_full() {
+        if machine.busy() || !machine.is_awake() || machine.is_full() {
             return None;
         }
         let places = machine.places();
@@ -99,6 +101,7 @@ impl Going {
         let moves_on = is_moving_on(seen.phase);
         let prepares = is_preparing(seen.phase);
         let bound = bound_of(&shape);
+        let floor = machine.floor();
         let first_bucket = places.bucket(0, 0);
         let frames = places.record(Addr(0), RecordWord::Header);
         Some(Going {
@@ -108,6 +111,7 @@ impl Going {
             bits: shape.bucket_bits,
             bucket_mask: places.buckets as u64 - 1,
             head,
+            floor: floor.0,
             read_only: seen.offsets.read_only.0,
             version,
             mark: own.0,
@@ -146,7 +150,7 @@ impl Going {
     }
 
     /// The update that a poll may try straight, if there is one: it alone waits, needs no record of the device, holds no latch, and is one of the
-    /// session's version, which isn't in prepare.
+    /// session's version and floor. The session isn't in prepare.
     pub(crate) fn lone(&self, machine: &Session) -> Option<Lone>
         ensures { IfSome result (λ its. GoesBy machine.now.seat machine.now.state self.now → MayPoll machine.now.seat machine.now.state its self.now) }
     {
@@ -163,6 +167,10 @@ impl Going {
             return None;
         }
         if request.has_latch || request.held.is_some() {
+            return None;
+        }
+        let floor = machine.floor();
+        if request.floor.0 != floor.0 {
             return None;
         }
         if request.version.0 != self.version || self.is_preparing {

@@ -18,9 +18,8 @@ use crate::calls::wait;
 use crate::changing::{change, update_met};
 use crate::going::Going;
 use crate::lines::Line;
-use crate::mailbox::ask_for;
 use crate::outcomes::Outcome;
-use crate::reading::tell;
+use crate::reading::{go_below, tell};
 use crate::searching::{Met, search};
 use fkv_map::{Call, Op};
 use fkv_ops::DiskRecord;
@@ -50,6 +49,7 @@ fn update_hot<L: Line>(
 ) -> Result<Told, Due>
     requires seat { machine.old.seat ≡ L.seat line.old }
     requires may { MayGo machine.old.seat machine.old.state op going.now }
+    requires rests { is_busy machine.old.state.step ≡ false }
     requires calm { going.now.is_preparing ≡ false }
     requires left { HasLeft (L.seat line.old) machine.old.state op (HasMetThis met) (L.kept line.old) (L.stands line.old) }
     ensures seat { L.seat line.new ≡ L.seat line.old }
@@ -89,6 +89,7 @@ pub(crate) fn go_hot<L: Line>(
     requires seat { machine.old.seat ≡ L.seat line.old }
     requires alike { lasting machine.old.state ≡ lasting (L.stands line.old) }
     requires may { MayGo machine.old.seat machine.old.state op going.now }
+    requires rests { is_busy machine.old.state.step ≡ false }
     requires calm { going.now.is_preparing ≡ false }
     ensures seat { L.seat line.new ≡ L.seat line.old }
     ensures led { L.led line.old (call.Op op) line.new }
@@ -125,6 +126,7 @@ pub(crate) fn go_due<L: Line>(
 ) -> Option<Told>
     requires seat { machine.old.seat ≡ L.seat line.old }
     requires may { MayGo machine.old.seat machine.old.state op going.now }
+    requires rests { is_busy machine.old.state.step ≡ false }
     requires left { HasLeft (L.seat line.old) machine.old.state op due (L.kept line.old) (L.stands line.old) }
     ensures seat { L.seat line.new ≡ L.seat line.old }
     ensures led { (start : L) (call : Call) → L.led start call line.old → L.led start call line.new }
@@ -145,7 +147,7 @@ pub(crate) fn go_due<L: Line>(
                 Outcome::Unusual => None,
             }
         }
-        Due::OnDisk(sought) => ask_for(line, machine, op, sought),
+        Due::OnDisk(sought) => go_below(line, machine, going, op, sought),
         Due::Lost => wait(machine, going, op),
         Due::Unusual => None,
     }

@@ -1,5 +1,5 @@
 //! The words of a store, as one session steps at them.
-ghost use Rattle.std.specs.Prelude.{◌≡◌, ◌<◌, ◌+◌, ◌^◌, ℕ, false};
+ghost use Rattle.std.specs.Prelude.{◌≡◌, ◌<◌, ◌≤◌, ◌+◌, ◌^◌, ℕ, false};
 ghost use Rattle.fkv_map.specs.declared.operations.Call.{Call};
 ghost use Rattle.fkv_plane.specs.declared.asks.Ask.TheVariants.{Load, Store, Swap, Cas, Add};
 ghost use Rattle.fkv_session.specs.Sessions.{Seat, SessionState, is_busy};
@@ -31,6 +31,19 @@ pub trait Line {
         ensures kept { kept self.new ≡ 1 }
         ensures seat { seat self.new ≡ seat self.old };
 
+    /// Begins a call as `first` does, at a place behind those of the shared words: nobody asks there which of the two it is.
+    fn first_past(&mut self, call: Call, place: usize) -> u64
+        requires idle { is_busy (stands self.old).step ≡ false }
+        requires asked { asked (seat self.old) (begins (seat self.old) (stands self.old) call) ≡ Load place }
+        requires past { 24 ≤ place }
+        ensures next { stands self.new ≡ leads (seat self.old) (begins (seat self.old) (stands self.old) call) result }
+        ensures led { led self.old call self.new }
+        ensures kept { kept self.new ≡ 1 }
+        ensures seat { seat self.new ≡ seat self.old }
+    {
+        self.first(call, place)
+    }
+
     /// Begins a call whose first step adds to a word, as `add` does. The replies of the call before are kept no more.
     fn first_add(&mut self, call: Call, place: usize, number: u64) -> u64
         requires idle { is_busy (stands self.old).step ≡ false }
@@ -48,6 +61,19 @@ pub trait Line {
         ensures led { (start : Self) (call : Call) → led start call self.old → led start call self.new }
         ensures kept { kept self.new ≡ kept self.old + 1 }
         ensures seat { seat self.new ≡ seat self.old };
+
+    /// The same, at a place behind those of the shared words.
+    fn load_past(&mut self, place: usize) -> u64
+        requires asked { asked (seat self.old) (stands self.old) ≡ Load place }
+        requires room { kept self.old < 64 }
+        requires past { 24 ≤ place }
+        ensures next { stands self.new ≡ leads (seat self.old) (stands self.old) result }
+        ensures led { (start : Self) (call : Call) → led start call self.old → led start call self.new }
+        ensures kept { kept self.new ≡ kept self.old + 1 }
+        ensures seat { seat self.new ≡ seat self.old }
+    {
+        self.load(place)
+    }
 
     /// The word becomes the number; gives the word as it was, as `swap` and `cas` do.
     fn store(&mut self, place: usize, new: u64) -> u64
@@ -67,6 +93,19 @@ pub trait Line {
         ensures kept { kept self.new ≡ kept self.old + 1 }
         ensures seat { seat self.new ≡ seat self.old };
 
+    /// The same, at a place behind those of the shared words.
+    fn swap_past(&mut self, place: usize, new: u64) -> u64
+        requires asked { asked (seat self.old) (stands self.old) ≡ Swap place new }
+        requires room { kept self.old < 64 }
+        requires past { 24 ≤ place }
+        ensures next { stands self.new ≡ leads (seat self.old) (stands self.old) result }
+        ensures led { (start : Self) (call : Call) → led start call self.old → led start call self.new }
+        ensures kept { kept self.new ≡ kept self.old + 1 }
+        ensures seat { seat self.new ≡ seat self.old }
+    {
+        self.swap(place, new)
+    }
+
     /// Where the word is the expected one it becomes the new one.
     fn cas(&mut self, place: usize, expected: u64, new: u64) -> u64
         requires asked { asked (seat self.old) (stands self.old) ≡ Cas place expected new }
@@ -75,6 +114,19 @@ pub trait Line {
         ensures led { (start : Self) (call : Call) → led start call self.old → led start call self.new }
         ensures kept { kept self.new ≡ kept self.old + 1 }
         ensures seat { seat self.new ≡ seat self.old };
+
+    /// The same, at a place behind those of the shared words.
+    fn cas_past(&mut self, place: usize, expected: u64, new: u64) -> u64
+        requires asked { asked (seat self.old) (stands self.old) ≡ Cas place expected new }
+        requires room { kept self.old < 64 }
+        requires past { 24 ≤ place }
+        ensures next { stands self.new ≡ leads (seat self.old) (stands self.old) result }
+        ensures led { (start : Self) (call : Call) → led start call self.old → led start call self.new }
+        ensures kept { kept self.new ≡ kept self.old + 1 }
+        ensures seat { seat self.new ≡ seat self.old }
+    {
+        self.cas(place, expected, new)
+    }
 
     /// The number is added to the word, modulo 2^64; gives the word as it was.
     fn add(&mut self, place: usize, number: u64) -> u64

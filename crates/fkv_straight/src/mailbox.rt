@@ -107,6 +107,10 @@ pub(crate) fn asking_read(machine: &Session) -> Option<Asker>
     if !reads || !pending.has_asked {
         return None;
     }
+    let floor = machine.floor();
+    if pending.request.floor.0 > floor.0 {
+        return None;
+    }
     let awake = machine.is_awake();
     let orphaned = machine.is_orphaned();
     if !awake || orphaned {
@@ -174,7 +178,7 @@ fn ask_on<L: Line>(line: &mut L, machine: &mut Session, its: Asker, before: Disk
 }
 
 /// Goes on with a poll that has taken this record: the read is finished if the record is its key's, or the last of the chain. Else it asks for the record
-/// before. None if the header is spoiled: the machine has to catch up with the line then.
+/// before. None if the header is spoiled, as that of a record that is gone: the machine has to catch up with the line then.
 #[inline(always)]
 fn judge<L: Line>(
     line: &mut L,
@@ -203,7 +207,8 @@ fn judge<L: Line>(
         machine.take_polled_read(its.ticket, value);
         return Some(Told::Polled(0));
     }
-    if previous.0 == 0 {
+    let ends = its.pending.request.is_chain_end(previous);
+    if ends {
         machine.take_polled_read(its.ticket, None);
         return Some(Told::Polled(0));
     }

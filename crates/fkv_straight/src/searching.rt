@@ -128,6 +128,7 @@ fn seek_in<L: Line>(
 ) -> Sought
     requires at { (c : Course) × Goes c (L.seat line.old) op going.now × HasSlot c base (going.now.places.overflow - passed) 0 first (L.stands line.old) }
     requires tag { tag ≡ (home_of going.now.bits (key_of op)).tag }
+    requires past { 24 ≤ base }
     requires fits { base + 8 ≤ 2 ^ 62 }
     requires room { L.kept line.old ≤ 57 }
     ensures seat { L.seat line.new ≡ L.seat line.old }
@@ -157,7 +158,7 @@ fn seek_in<L: Line>(
             Judged::Spoiled => return Sought::Unusual,
             Judged::Other => {}
         }
-        word = line.load(base + slot + 1);
+        word = line.load_past(base + slot + 1);
     }
     let judged = judge(word, tag);
     match judged {
@@ -217,6 +218,7 @@ fn seek_on<L: Line>(line: &mut L, going: &Going, op: Op, tag: u64, first: usize)
 #[inline(always)]
 fn seek<L: Line>(line: &mut L, going: &Going, op: Op, first: usize, found: u64) -> Option<Slot>
     requires at { (c : Course) × Goes c (L.seat line.old) op going.now × HasSlot c first going.now.places.overflow 0 found (L.stands line.old) }
+    requires past { 24 ≤ first }
     requires fits { first + 8 ≤ 2 ^ 62 }
     requires room { L.kept line.old ≤ 2 }
     ensures seat { L.seat line.new ≡ L.seat line.old }
@@ -259,8 +261,8 @@ fn visit<L: Line>(line: &mut L, going: &Going, op: Op, slot: Slot, addr: u64) ->
 {
     let key = op.key();
     let at = going.record(Addr(addr), RecordWord::Header);
-    let header = line.load(at);
-    let found = line.load(at + 1);
+    let header = line.load_past(at);
+    let found = line.load_past(at + 1);
     let said = header_said(header);
     let HeaderSaid::Says(previous, version) = said else {
         return Visited::Spoiled;
@@ -356,6 +358,7 @@ fn walk<L: Line>(line: &mut L, going: &Going, op: Op, slot: Slot) -> Option<Met>
 #[inline(always)]
 fn first_slot_of(going: &Going, op: Op) -> usize
     ensures place { result ≡ bucket_place going.now.places (home_of going.now.bits (key_of op)).bucket 0 }
+    ensures past { 24 ≤ result }
     ensures fits { result + 8 ≤ 2 ^ 62 }
 {
     let start = going.start(op.key());
@@ -375,7 +378,7 @@ pub(crate) fn search<L: Line>(line: &mut L, going: &Going, op: Op, call: Call) -
     ensures met { IfSome result (λ its. HasMet (course_of (L.seat line.old) (L.stands line.old) op call) its (L.stands line.new)) }
 {
     let first = first_slot_of(going, op);
-    let word = line.first(call, first);
+    let word = line.first_past(call, first);
     let slot = seek(line, going, op, first, word);
     match slot {
         Some(its) => walk(line, going, op, its),

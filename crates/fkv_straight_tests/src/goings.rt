@@ -25,7 +25,7 @@ fn session(phase: Phase) -> Result<Session, Fault> {
             read_only: Addr(3),
         },
     };
-    Ok(Session::new(shape()?, 0, seen, Serial(0)))
+    Ok(Session::new(shape()?, 0, seen, Serial(0), Addr(1)))
 }
 
 #[test]

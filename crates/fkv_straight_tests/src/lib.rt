@@ -8,6 +8,8 @@ mod aged;
 #[cfg(test)]
 mod bodies;
 #[cfg(test)]
+mod floors;
+#[cfg(test)]
 mod goings;
 #[cfg(test)]
 mod margins;

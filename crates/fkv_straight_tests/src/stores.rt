@@ -7,7 +7,7 @@ use fkv_creating::create;
 use fkv_disk::{Device, MemDisk};
 use fkv_keeper::{Keeper, KeeperTold};
 use fkv_opening::recover;
-use fkv_plane::{Ask, Places, PlainWords, RecordWord, SharedWord};
+use fkv_plane::{Ask, Places, PlainWords, RecordWord, SessionWord, SharedWord};
 use fkv_session::Session;
 use std::alloc::Global;
 
@@ -18,6 +18,11 @@ pub(crate) struct Store {
     keeper: Keeper,
     device: MemDisk,
 }
+
+/// The states of a mailbox that has asked, and of one that is answered.
+const ASKED: u64 = 1;
+
+const READY: u64 = 2;
 
 /// Where the first slot of a new store tells its commit, and that of its checkpoint.
 const NUMBER_PLACES: [u64; 2] = [520, 824];
@@ -59,6 +64,32 @@ impl Store {
             let _ = self.words.perform(&aged);
         }
         Addr(end)
+    }
+
+    /// Answers each mailbox that asks for a record below this begin of the log: it is gone. While a call of the keeper is in hand it answers none. Gives
+    /// how many it has answered.
+    pub(crate) fn lose_below(&mut self, places: &Places, begin: u64) -> u64 {
+        if self.is_busy() {
+            return 0;
+        }
+        let mut gone = 0_u64;
+        for session in 0..places.sessions {
+            let state = SessionWord::MailState.place(session);
+            let asked = self.words.word(SessionWord::MailAddress.place(session));
+            if self.words.word(state) == ASKED && asked < begin {
+                self.put(SessionWord::MailHeader.place(session), 0);
+                self.put(SessionWord::MailKey.place(session), begin);
+                self.put(SessionWord::MailValue.place(session), 0);
+                self.put(state, READY);
+                gone = gone.wrapping_add(1);
+            }
+        }
+        gone
+    }
+
+    fn put(&mut self, place: usize, word: u64) {
+        let stores: Ask<KeeperTold> = Ask::Store(place, word);
+        let _ = self.words.perform(&stores);
     }
 
     /// Whether a call of the keeper is in hand.

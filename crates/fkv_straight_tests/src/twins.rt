@@ -8,7 +8,7 @@ use crate::wrongs::Wrong;
 use fkv_base::{Addr, Phase, Shape, Value, Version};
 use fkv_map::{Call, Op};
 use fkv_ops::{Bounds, Seen};
-use fkv_plane::{Places, PlainWords};
+use fkv_plane::{Places, PlainWords, SharedWord};
 use fkv_session::{Session, Told};
 use fkv_straight::StraightSession;
 use std::alloc::Global;
@@ -98,6 +98,9 @@ pub(crate) struct Twins {
     bounds: Option<Bounds>,
     /// Records below it were aged, where they were in memory.
     aged: Addr,
+    /// Records below it are gone, and so many were asked for.
+    begin: u64,
+    gone: u64,
     /// Whether an operation begins by its hot part now: at each second call it does.
     is_hot: bool,
 }
@@ -115,6 +118,8 @@ impl Twins {
             places: Places::of(&shape),
             bounds: Bounds::of(&shape),
             aged: Addr(0),
+            begin: 0,
+            gone: 0,
             is_hot: false,
         })
     }
@@ -134,6 +139,16 @@ impl Twins {
         let mark = mark_of(version);
         let _ = self.straight.age(&self.places, mark);
         self.aged = self.machine.age(&self.places, mark);
+    }
+
+    /// From now on the records are gone that aren't in memory.
+    pub(crate) fn rise(&mut self) {
+        self.begin = self.straight.word(SharedWord::Head);
+    }
+
+    /// How many records were gone that mailboxes had asked for.
+    pub(crate) fn gone(&self) -> u64 {
+        self.gone
     }
 
     /// The session of this number makes a call in both. A rival leaves the value in both, if there is one.
@@ -195,6 +210,9 @@ impl Twins {
         event: Event,
         ways: &mut Ways,
     ) -> Result<(), Wrong> {
+        let gone = self.straight.lose_below(&self.places, self.begin);
+        let _ = self.machine.lose_below(&self.places, self.begin);
+        self.gone = self.gone.wrapping_add(gone);
         match event {
             Event::Call(number, call, value) => {
                 self.is_hot = !self.is_hot;

@@ -124,7 +124,7 @@ replied_at shape p s Flushes reply e works =
     flush_led (record s { bytes = bytes_next s.flushing s.bytes reply; flushing = flush_next shape.page s.flushing reply }) (flush_ask p (flush_next shape.page s.flushing reply)) e
 replied_at shape p s Shifts reply e works = shift_led (record s { shift = shift_next shape s.shift reply }) (shift_next_ask shape s.shift reply) e
 replied_at shape p s Turns reply e works = turn_led shape (record s { turn = turn_next shape s.turn reply }) (turn_next_ask shape s.turn reply) e
-replied_at shape p s Serves reply e works = serve_led (record s { serving = serve_next shape.sessions s.serving reply }) (serve_ask (serve_next shape.sessions s.serving reply)) e
+replied_at shape p s Serves reply e works = serve_led (record s { serving = serve_next shape.sessions s.begin.0 s.serving reply }) (serve_ask (serve_next shape.sessions s.begin.0 s.serving reply)) e
 replied_at shape p s Broken reply e works = absurd works
 replied_at shape p s Through reply e works = still s Through e tt
 replied_at shape p s Spent reply e works = still s Spent e tt

@@ -43,5 +43,6 @@ pub use Rattle.fkv_table.specs.Starts.{EachAt, HasSeat, IsFresh, rest_view}
 pub use Rattle.fkv_table.specs.Turns.{IsCounted, IsTurnAsked, asks_device, ended_by_device, over_by_device, told_by_device}
 pub use Rattle.fkv_table.specs.declared.happenings.Happening.{Happening}
 pub use Rattle.fkv_table.specs.declared.happenings.Happening.TheVariants.{Calls, Commits, KeeperMoves, Turns}
+pub use Rattle.fkv_table.specs.declared.positions.Part.TheVariants.{Past}
 pub use Rattle.law_world.specs.Below.fkv_world.Opened.{IsOpenedWorld}
 pub use Rattle.std.specs.declared.snapshot.Snapshot.{Snapshot}

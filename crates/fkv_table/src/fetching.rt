@@ -3,7 +3,7 @@
 //! Such a load is no step of the table: it needs no pass, adds no event, and nothing is told of what it finds.
 ghost use Rattle.std.specs.Prelude.{◌<◌, ◌^◌};
 
-use crate::positions::position;
+use crate::positions::{Part, position};
 use crate::rule::Table;
 use crate::sessions::Session;
 use fkv_base::Key;
@@ -17,7 +17,7 @@ pub(crate) const SLOTS: usize = 7;
 pub(crate) fn glance<D: Device>(table: &Table<D>, place: usize) -> u64
     requires { place < 2 ^ 62 }
 {
-    let at = position(place);
+    let at = position(place, Part::Any);
     if at < table.table.word_count() {
         table.table.shared.peek(at)
     } else {

@@ -3,6 +3,7 @@ ghost use Rattle.std.specs.Prelude.{◌≡◌, ◌<◌, ◌≤◌, ◌↔◌, �
 ghost use Rattle.fkv_table.specs.Said as said;
 
 use crate::performing::perform;
+use crate::positions::Part;
 use crate::rule::{Knows, Place, Slot, Table, Words};
 use atomic_table::Play;
 use fkv_base::{CommitKind, Fault, Version};
@@ -173,7 +174,7 @@ fn ask_word<D: Device, E: OfKeeper>(
         seat.new.me machine.new }
     ensures ask { result ≡ said.keeper_ask machine.new.shape machine.new.places machine.new.state }
 {
-    let reply = perform::<D, Adding<E>, KeeperTold>(words, seat, ask);
+    let reply = perform::<D, Adding<E>, KeeperTold>(words, seat, ask, Part::Any);
     machine.go_on_with(reply, room, goes_on)
 }
 
@@ -292,7 +293,7 @@ fn load_word<D: Device>(
     ensures beginning { said.IsBeginning machine.old.state.step → said.IsBeginning machine.new.state.step }
 {
     let ask: Ask<KeeperTold> = Ask::Load(place);
-    let word = perform::<D, Adding<Ungranted>, KeeperTold>(words, seat, &ask);
+    let word = perform::<D, Adding<Ungranted>, KeeperTold>(words, seat, &ask, Part::Any);
     machine.keep(word);
 }
 

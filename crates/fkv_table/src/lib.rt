@@ -2,6 +2,7 @@
 //! Before many calls `Session::fetch_bucket` and `Session::fetch_record` load the cache lines that these will read.
 #![tactic(auto)]
 
+mod aside;
 mod closing;
 mod crossing;
 mod desks;

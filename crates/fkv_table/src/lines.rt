@@ -3,11 +3,11 @@ ghost use Rattle.std.specs.Prelude.{◌≡◌, ◌+◌, ◌<◌, ◌≤◌, ◌+
 ghost use Rattle.fkv_session.specs.Sessions.{is_busy};
 ghost use Rattle.fkv_table.specs.Said as said;
 
-use crate::guessing::TailGuess;
+use crate::aside::{Aside, Room};
 use crate::happenings::law_start_stands;
 use crate::performing::{perform, perform_first};
 use crate::plays::{Next, Raises, Turn};
-use crate::positions::position;
+use crate::positions::{Part, position};
 use crate::rule::{Place, Words};
 use fkv_disk::Device;
 use fkv_map::Call;
@@ -27,10 +27,9 @@ pub(crate) struct SeatLine<'t, D: Device> {
     desk: usize,
     /// The session's number.
     number: usize,
-    /// The replies of the call in hand, so many of them, and what was there before. An array of the call's own would have to be cleared first.
-    replies: &'t mut Room,
+    /// Where the replies of the call in hand are, so many of them, and what was there before.
+    aside: &'t mut Aside,
     kept: usize,
-    tail: &'t mut TailGuess,
     /// The machine, as the line began.
     machine: Snapshot<StraightSession>,
 }
@@ -39,13 +38,9 @@ pub(crate) struct SeatLine<'t, D: Device> {
 #[derive(Drop)]
 pub(crate) struct Parts<'t, D: Device> {
     pub(crate) seat: Place<D>,
-    pub(crate) replies: &'t mut Room,
-    pub(crate) tail: &'t mut TailGuess,
+    pub(crate) aside: &'t mut Aside,
     pub(crate) kept: usize,
 }
-
-/// Room for the replies of a call.
-pub(crate) type Room = [u64; 64];
 
 /// Puts a reply behind those that are kept.
 #[inline]
@@ -83,11 +78,11 @@ impl<'t, D: Device> Model for SeatLine<'t, D> {
 
     ghost Value = { said.LineModel (said.Snapshot (said.WorldModel D)) };
 
-    ghost view = { λ l. said.line_of l.words.now.key l.words.now.table_id l.seat.me l.machine.value l.desk (take l.kept l.replies.now) };
+    ghost view = { λ l. said.line_of l.words.now.key l.words.now.table_id l.seat.me l.machine.value l.desk (take l.kept l.aside.now.replies) };
 
     ghost invariant = { λ l. (l.seat.table_id ≡ l.words.now.table_id) × (l.number ≡ l.machine.value.seat.number) × (l.kept ≤ 64)
-        × (length l.replies.now ≡ 64) × said.IsAlong (said.opening_of D.seen)
-        (said.line_of l.words.now.key l.words.now.table_id l.seat.me l.machine.value l.desk (take l.kept l.replies.now)) };
+        × (length l.aside.now.replies ≡ 64) × said.IsAlong (said.opening_of D.seen)
+        (said.line_of l.words.now.key l.words.now.table_id l.seat.me l.machine.value l.desk (take l.kept l.aside.now.replies)) };
 }
 
 impl<'t, D: Device> SeatLine<'t, D> {
@@ -98,8 +93,7 @@ impl<'t, D: Device> SeatLine<'t, D> {
         seat: Place<D>,
         machine: &StraightSession,
         desk: usize,
-        replies: &'t mut Room,
-        tail: &'t mut TailGuess,
+        aside: &'t mut Aside,
     ) -> SeatLine<'t, D>
         requires ready { said.IsReady (said.opening_of D.seen) words.now.key words.now.table_id seat.table_id seat.me machine.now desk }
         ensures value { result ≡ record { key = words.now.key; table = words.now.table_id; me = seat.me; machine = machine.now; desk = desk; replies = [] } }
@@ -111,9 +105,8 @@ impl<'t, D: Device> SeatLine<'t, D> {
             seat,
             desk,
             number: own,
-            replies,
+            aside,
             kept: 0,
-            tail,
             machine: from,
         }
     }
@@ -125,15 +118,14 @@ impl<'t, D: Device> SeatLine<'t, D> {
         seat: Place<D>,
         machine: &StraightSession,
         desk: usize,
-        replies: &'t mut Room,
-        tail: &'t mut TailGuess,
+        aside: &'t mut Aside,
         kept: usize,
     ) -> SeatLine<'t, D>
         requires table { seat.table_id ≡ words.now.table_id }
-        requires room { (kept ≤ 64) × (length replies.old ≡ 64) }
+        requires room { (kept ≤ 64) × (length aside.old.replies ≡ 64) }
         requires along { said.IsAlong (said.opening_of D.seen) (said.line_of words.now.key words.now.table_id seat.me machine.now desk (take kept
-            replies.old)) }
-        ensures value { result ≡ said.line_of words.now.key words.now.table_id seat.me machine.now desk (take kept replies.old) }
+            aside.old.replies)) }
+        ensures value { result ≡ said.line_of words.now.key words.now.table_id seat.me machine.now desk (take kept aside.old.replies) }
     {
         let own = machine.number();
         let from = Snapshot::of(machine);
@@ -142,9 +134,8 @@ impl<'t, D: Device> SeatLine<'t, D> {
             seat,
             desk,
             number: own,
-            replies,
+            aside,
             kept,
-            tail,
             machine: from,
         }
     }
@@ -154,23 +145,17 @@ impl<'t, D: Device> SeatLine<'t, D> {
     pub(crate) fn into_parts(self) -> Parts<'t, D>
         ensures table { result.seat.table_id ≡ self.entry.table }
         ensures me { result.seat.me ≡ self.entry.me }
-        ensures room { (result.kept ≤ 64) × (length result.replies.now ≡ 64) }
-        ensures replies { take result.kept result.replies.now ≡ self.entry.replies }
+        ensures room { (result.kept ≤ 64) × (length result.aside.now.replies ≡ 64) }
+        ensures replies { take result.kept result.aside.now.replies ≡ self.entry.replies }
         ensures along { said.IsAlong (said.opening_of D.seen) self.entry }
     {
         let SeatLine {
             seat,
-            replies,
-            tail,
+            aside,
             kept,
             ..
         } = self;
-        Parts {
-            seat,
-            replies,
-            tail,
-            kept,
-        }
+        Parts { seat, aside, kept }
     }
 
     /// The seat, with what is known of it.
@@ -186,10 +171,11 @@ impl<'t, D: Device> SeatLine<'t, D> {
 
     /// Begins a call, makes its first step, and keeps the reply. Those of the call before are kept no more.
     #[inline(always)]
-    fn start(&mut self, call: Call, ask: &Ask<Told>) -> u64
+    fn start(&mut self, call: Call, ask: &Ask<Told>, part: Part) -> u64
         requires idle { is_busy (said.stands (said.opening_of D.seen) self.old).step ≡ false }
         requires asked { said.asked self.old.machine.seat (said.begins self.old.machine.seat (said.stands (said.opening_of D.seen) self.old) call) ≡ ask.now }
         requires word { (place : ℕ) × (said.asked_place ask.now ≡ Some place) }
+        requires past { part ≡ said.Past → (place : ℕ) → said.asked_place ask.now ≡ Some place → 24 ≤ place }
         ensures next { said.stands (said.opening_of D.seen) self.new
             ≡ said.leads self.old.machine.seat (said.begins self.old.machine.seat (said.stands (said.opening_of D.seen) self.old) call) result }
         ensures led { said.HasLed (said.opening_of D.seen) self.old call self.new }
@@ -197,17 +183,25 @@ impl<'t, D: Device> SeatLine<'t, D> {
         ensures machine { self.new.machine ≡ self.old.machine }
     {
         law_start_stands(call);
-        let reply = perform_first::<D, Brand>(self.words, &mut self.seat, ask, self.number, call);
-        keep(self.replies, 0, reply);
+        let reply = perform_first::<D, Brand>(
+            self.words,
+            &mut self.seat,
+            ask,
+            part,
+            self.number,
+            call,
+        );
+        keep(&mut self.aside.replies, 0, reply);
         self.kept = 1;
         reply
     }
 
     /// Makes a step of the call, and keeps its reply.
     #[inline(always)]
-    fn step(&mut self, ask: &Ask<Told>) -> u64
+    fn step(&mut self, ask: &Ask<Told>, part: Part) -> u64
         requires asked { said.asked self.old.machine.seat (said.stands (said.opening_of D.seen) self.old) ≡ ask.now }
         requires word { (place : ℕ) × (said.asked_place ask.now ≡ Some place) }
+        requires past { part ≡ said.Past → (place : ℕ) → said.asked_place ask.now ≡ Some place → 24 ≤ place }
         requires room { length self.old.replies < 64 }
         ensures next { said.stands (said.opening_of D.seen) self.new ≡ said.leads self.old.machine.seat (said.stands (said.opening_of D.seen) self.old) result }
         ensures led { (start : said.LineModel (said.Snapshot (said.WorldModel D))) (call : said.Call)
@@ -215,8 +209,8 @@ impl<'t, D: Device> SeatLine<'t, D> {
         ensures replies { self.new.replies ≡ self.old.replies ++ result ∷ [] }
         ensures machine { self.new.machine ≡ self.old.machine }
     {
-        let reply = perform::<D, Turn<Next>, Told>(self.words, &mut self.seat, ask);
-        keep(self.replies, self.kept, reply);
+        let reply = perform::<D, Turn<Next>, Told>(self.words, &mut self.seat, ask, part);
+        keep(&mut self.aside.replies, self.kept, reply);
         self.kept += 1;
         reply
     }
@@ -236,60 +230,83 @@ impl<'t, D: Device> Line for SeatLine<'t, D> {
 
     #[inline]
     fn first(&mut self, call: Call, place: usize) -> u64 {
-        self.start(call, &Ask::Load(place))
+        self.start(call, &Ask::Load(place), Part::Any)
+    }
+
+    #[inline]
+    fn first_past(&mut self, call: Call, place: usize) -> u64 {
+        self.start(call, &Ask::Load(place), Part::Past)
     }
 
     #[inline]
     fn first_add(&mut self, call: Call, place: usize, number: u64) -> u64 {
-        self.start(call, &Ask::Add(place, number))
+        self.start(call, &Ask::Add(place, number), Part::Any)
     }
 
     #[inline]
     fn load(&mut self, place: usize) -> u64 {
-        self.step(&Ask::Load(place))
+        self.step(&Ask::Load(place), Part::Any)
+    }
+
+    #[inline]
+    fn load_past(&mut self, place: usize) -> u64 {
+        self.step(&Ask::Load(place), Part::Past)
     }
 
     #[inline]
     fn store(&mut self, place: usize, new: u64) -> u64 {
-        self.step(&Ask::Store(place, new))
+        self.step(&Ask::Store(place, new), Part::Any)
     }
 
     #[inline]
     fn swap(&mut self, place: usize, new: u64) -> u64 {
-        self.step(&Ask::Swap(place, new))
+        self.step(&Ask::Swap(place, new), Part::Any)
+    }
+
+    #[inline]
+    fn swap_past(&mut self, place: usize, new: u64) -> u64 {
+        self.step(&Ask::Swap(place, new), Part::Past)
     }
 
     #[inline]
     fn cas(&mut self, place: usize, expected: u64, new: u64) -> u64 {
-        self.step(&Ask::Cas(place, expected, new))
+        self.step(&Ask::Cas(place, expected, new), Part::Any)
+    }
+
+    #[inline]
+    fn cas_past(&mut self, place: usize, expected: u64, new: u64) -> u64 {
+        self.step(&Ask::Cas(place, expected, new), Part::Past)
     }
 
     #[inline]
     fn add(&mut self, place: usize, number: u64) -> u64 {
-        self.step(&Ask::Add(place, number))
+        self.step(&Ask::Add(place, number), Part::Any)
     }
 
     /// One Cas of the table. It stands for the load that the machine asks for, and for the Cas behind that.
     #[inline(always)]
     fn raise(&mut self, place: usize, expected: u64) -> u64 {
-        let found = self
-            .words
-            .compare_exchange::<Raises>(&mut self.seat, position(place), expected, expected + 1);
+        let found = self.words.compare_exchange::<Raises>(
+            &mut self.seat,
+            position(place, Part::Any),
+            expected,
+            expected + 1,
+        );
         if found == expected {
-            keep_twice(self.replies, self.kept, expected);
+            keep_twice(&mut self.aside.replies, self.kept, expected);
             self.kept += 2;
-            self.tail.add(expected);
+            self.aside.tail.add(expected);
         }
         found
     }
 
     #[inline(always)]
     fn guess(&self) -> u64 {
-        self.tail.next()
+        self.aside.tail.next()
     }
 
     #[inline(always)]
     fn replies(&self) -> &[u64] {
-        kept_in(self.replies, self.kept)
+        kept_in(&self.aside.replies, self.kept)
     }
 }

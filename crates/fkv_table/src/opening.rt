@@ -2,9 +2,8 @@
 ghost use Rattle.std.specs.Prelude.{◌≡◌, ◌<◌, ◌≤◌, ◌+◌, ◌^◌, ℕ, [], length, map, replicate, IfOk, OnOk, OnErr, Err, None};
 ghost use Rattle.fkv_table.specs.Said as said;
 
+use crate::aside::Aside;
 use crate::desks::{desk_slot, sit_down};
-use crate::guessing::TailGuess;
-use crate::hot::Handover;
 use crate::joining::Meeting;
 use crate::keepers::{Keeper, KeeperPass};
 use crate::rule::{Engine, Knows, Opening, Pass, Place, Slot, Table, Words};
@@ -189,9 +188,7 @@ fn seat_sessions<D: Device>(
         let session = Session {
             machine: StraightSession::new(machine),
             desk,
-            replies: [0; 64],
-            tail: TailGuess::none(),
-            over: Handover::none(),
+            aside: Aside::none(),
         };
         seated.push((session, Pass { seat }))?;
     }

@@ -3,12 +3,13 @@ ghost use Rattle.std.specs.Prelude.{◌≡◌, ◌<◌, ◌≤◌, ℕ, List, So
 ghost use Rattle.fkv_map.specs.declared.operations.Call.TheVariants as call;
 ghost use Rattle.fkv_table.specs.Said as said;
 
-use crate::guessing::TailGuess;
+use crate::aside::Aside;
 use crate::happenings::{Happening, law_start_stands};
-use crate::hot::{Handover, run_hot};
-use crate::lines::{Room, SeatLine};
+use crate::hot::{run_cold, run_due};
+use crate::lines::{Parts, SeatLine};
 use crate::performing::perform;
 use crate::plays::{Adds, First, Next, Notes, Turn};
+use crate::positions::Part;
 use crate::rule::{Pass, Place, Table, Words};
 use crate::taking::take_seat;
 use fkv_base::Serial;
@@ -17,7 +18,7 @@ use fkv_map::{Call, Op};
 use fkv_plane::Ask;
 use fkv_seats::Held;
 use fkv_session::{Answer, Finished, Told, answer_of, law_of_standing};
-use fkv_straight::{StraightSession, Went as Way};
+use fkv_straight::{Hot, StraightSession, Went as Way};
 
 /// A session of a store that threads share.
 #[derive(Drop)]
@@ -25,10 +26,8 @@ pub struct Session {
     pub(crate) machine: StraightSession,
     /// The slot that is its seat's desk.
     pub(crate) desk: usize,
-    /// Where a straight call keeps its replies.
-    pub(crate) replies: Room,
-    pub(crate) tail: TailGuess,
-    pub(crate) over: Handover,
+    /// What its straight calls keep.
+    pub(crate) aside: Aside,
 }
 
 /// Makes the ask of a word that the machine stands at, and goes on with the reply.
@@ -47,7 +46,7 @@ fn ask_word<D: Device, O: Adds>(
     ensures ask { result ≡ said.session_ask machine.new.seat machine.new.state }
 {
     law_of_standing();
-    let reply = perform::<D, Turn<O>, Told>(words, seat, ask);
+    let reply = perform::<D, Turn<O>, Told>(words, seat, ask, Part::Any);
     machine.go_on(reply)
 }
 
@@ -240,8 +239,7 @@ pub(crate) fn run_call<D: Device>(
     seat: Place<D>,
     machine: &mut StraightSession,
     desk: usize,
-    replies: &mut Room,
-    tail: &mut TailGuess,
+    aside: &mut Aside,
     call: Call,
 ) -> (Place<D>, Told)
     requires ready { said.IsReady (said.opening_of D.seen) words.now.key words.now.table_id seat.table_id seat.me machine.old desk }
@@ -251,7 +249,7 @@ pub(crate) fn run_call<D: Device>(
     ensures told { said.IsToldLast (said.led (said.plane (said.opening_of D.seen)) (said.opening_of D.seen words.now.key) result.0.me.0.seen)
         machine.new.seat.number (said.telling result.1 machine.new.state.finished) }
 {
-    let mut line = SeatLine::new(words, seat, machine, desk, replies, tail);
+    let mut line = SeatLine::new(words, seat, machine, desk, aside);
     let went = machine.run(&mut line, call);
     // What the machine tells is bound first: else both ways would tell it in one place of memory, and a straight call would read it back from there.
     match went {
@@ -311,15 +309,15 @@ impl Session {
             seat,
             &mut self.machine,
             self.desk,
-            &mut self.replies,
-            &mut self.tail,
+            &mut self.aside,
             call,
         );
         pass.seat = seat;
         told
     }
 
-    /// Runs an operation to its end, as `call` does. It is inlined: a caller whose operation is always of one kind has none of the others' steps.
+    /// Runs an operation to its end, as `call` does: its hot part here, and what is left of it apart. It is inlined: a caller whose operation is always of one
+    /// kind has none of the others' steps.
     #[inline(always)]
     pub fn op<D: Device>(&mut self, table: &Table<D>, pass: &mut Pass<D>, op: Op) -> Told
         requires ready { said.IsReady (said.opening_of D.seen) table.now.table.shared.key table.now.table.shared.table_id pass.old.seat.table_id
@@ -333,18 +331,26 @@ impl Session {
     {
         let words = &table.table.shared;
         let seat = take_seat(words, &mut pass.seat);
-        let (seat, told) = run_hot(
-            words,
-            seat,
-            &mut self.machine,
-            self.desk,
-            &mut self.replies,
-            &mut self.tail,
-            &mut self.over,
-            op,
-        );
-        pass.seat = seat;
-        told
+        let mut line = SeatLine::new(words, seat, &self.machine, self.desk, &mut self.aside);
+        let went = self.machine.run_hot(&mut line, op);
+        let Parts { seat, aside, kept } = line.into_parts();
+        match went {
+            Hot::Ended(told) => {
+                pass.seat = seat;
+                told
+            }
+            Hot::Left(due) => {
+                aside.over.op = op;
+                aside.over.due = due;
+                pass.seat = run_due(words, seat, &mut self.machine, self.desk, aside, kept);
+                aside.over.told
+            }
+            Hot::Stayed => {
+                aside.over.op = op;
+                pass.seat = run_cold(words, seat, &mut self.machine, self.desk, aside);
+                aside.over.told
+            }
+        }
     }
 
     /// What the last poll has finished, in the order of acceptance.

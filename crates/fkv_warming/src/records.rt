@@ -9,7 +9,7 @@ ghost use Rattle.fkv_warming.specs.Records.{record_words, records_from};
 
 use fkv_base::{Addr, Fault, Shape, Version};
 use fkv_disk::Device;
-use fkv_record::record_place;
+use fkv_record::{from_or_none, record_place};
 use std::alloc::Global;
 
 /// The number whose eight bytes begin at a place.
@@ -44,15 +44,21 @@ fn record_bytes<D: Device>(d: &mut D, shape: Shape, addr: Addr) -> Result<[u8; 2
 }
 
 /// Pushes the words that memory is to have of a record: what it leads to and this version, its key, and its value.
-fn push_record(frames: &mut Vec<u64>, bytes: &[u8], number: Version) -> Result<(), Fault>
+fn push_record(
+    frames: &mut Vec<u64>,
+    bytes: &[u8],
+    begin: Addr,
+    number: Version,
+) -> Result<(), Fault>
     requires whole { length bytes.now ≡ 24 }
     requires few { number.0 < 2 ^ 13 }
-    ensures ok { OnOk result (frames.new.items ≡ frames.old.items ++ record_words bytes.now number.0) }
+    ensures ok { OnOk result (frames.new.items ≡ frames.old.items ++ record_words bytes.now begin.0 number.0) }
     ensures err { OnErr result (result ≡ Err Memory) }
 {
-    let previous = number_at(bytes, 0) % (1 << 48);
+    let named = number_at(bytes, 0) % (1 << 48);
+    let previous = from_or_none(begin, Addr(named));
     let words = [
-        previous + (number.0 << 48),
+        previous.0 + (number.0 << 48),
         number_at(bytes, 8),
         number_at(bytes, 16),
     ];
@@ -60,10 +66,12 @@ fn push_record(frames: &mut Vec<u64>, bytes: &[u8], number: Version) -> Result<(
     Ok(())
 }
 
-/// The words that memory is to have of the records from one address up to another, as of this version. It reads them one after another.
+/// The words that memory is to have of the records from one address up to another, as of this version, in a log with this begin. It reads them one after
+/// another.
 pub(crate) fn records_from<D: Device>(
     alloc: Global,
     shape: Shape,
+    begin: Addr,
     number: Version,
     first: Addr,
     end: Addr,
@@ -72,7 +80,7 @@ pub(crate) fn records_from<D: Device>(
     requires upwards { first.0 ≤ end.0 }
     requires end { end.0 < 2 ^ 48 }
     requires few { number.0 < 2 ^ 13 }
-    ensures ok { D.honest d.old → IfOk result (λ words. words.items ≡ records_from (D.seen d.old) shape number.0 first.0 (end.0 - first.0)) }
+    ensures ok { D.honest d.old → IfOk result (λ words. words.items ≡ records_from (D.seen d.old) shape begin.0 number.0 first.0 (end.0 - first.0)) }
     ensures many { IfOk result (λ words. length words.items ≡ 3 * (end.0 - first.0)) }
     ensures err { IfErr result (IsHindrance (D.failed d.old) (D.failed d.new)) }
     ensures quiet { IsQuiet D.honest D.seen D.may_leave D.moment D.left_since D.failed d.old d.new }
@@ -81,7 +89,7 @@ pub(crate) fn records_from<D: Device>(
     let mut words = Vec::new(alloc);
     for addr in first.0..end.0 {
         let bytes = record_bytes(d, shape, Addr(addr))?;
-        push_record(&mut words, &bytes, number)?;
+        push_record(&mut words, &bytes, begin, number)?;
     }
     Ok(words)
 }

@@ -14,7 +14,8 @@ use fkv_opening::Opened;
 use fkv_plane::Places;
 use std::alloc::Global;
 
-/// From where on memory is to have the records: the newest ones, at most so many, and as many as fit beside the room that is open to new ones.
+/// From where on memory is to have the records: the newest ones from the log's begin on, at most so many, and as many as fit beside the room that is open to
+/// new ones.
 fn first_warm(opened: &Opened, most: u64) -> Addr
     ensures { result.0 ≡ warm_from opened.now most }
 {
@@ -22,7 +23,7 @@ fn first_warm(opened: &Opened, most: u64) -> Addr
     let ring = Places::of(&opened.shape).ring as u64;
     let fits = limit.saturating_sub(ring);
     let wanted = opened.tail.0.saturating_sub(most);
-    Addr(fits.max(wanted).max(1))
+    Addr(fits.max(wanted).max(opened.begin.0))
 }
 
 /// Gives memory of an opened store its newest records, at most so many, and as many as its frames have room for. All else stays as it was opened.
@@ -40,10 +41,19 @@ pub fn warm<D: Device>(alloc: Global, opened: Opened, most: u64, d: &mut D) -> R
 {
     let first = first_warm(&opened, most);
     let version = mark(opened.number);
-    let words = records_from(alloc, opened.shape, version, first, opened.tail, d)?;
+    let words = records_from(
+        alloc,
+        opened.shape,
+        opened.begin,
+        version,
+        first,
+        opened.tail,
+        d,
+    )?;
     let Opened {
         shape,
         number,
+        begin,
         tail,
         points,
         gates,
@@ -55,6 +65,7 @@ pub fn warm<D: Device>(alloc: Global, opened: Opened, most: u64, d: &mut D) -> R
     Ok(Opened {
         shape,
         number,
+        begin,
         tail,
         points,
         gates,

@@ -127,6 +127,7 @@ held_on begun s a sealed kept its = record {
   its = its.its;
   number = its.number;
   kind = its.kind;
+  begin = its.begin;
   first = its.first;
   end = its.end;
   triples = its.triples ∙ ap (λ (x : CommitWriter). x.triples) (sym kept.writes);
@@ -273,7 +274,7 @@ gate_stands begun s gate.Opens (Some c) awake e at here found its =
     shown_begun begun s gate.Opens here
     (subst (λ (x : Option Commit). Stands (with_opening s x begun) (writes_called s true)) (sym found)
     (made_on (commit_opening s c ∷ begun) s c e found (rw (at, here) refl)
-    (rw (at, here) (record { commit = c; in_hand = found; newest = commit_opening s c; older = begun; its = refl; number = refl; kind = refl; first = refl; end = refl; triples = refl; points = refl; checkpoint = refl; lost = refl; unfinished = refl; is_so = refl; others = its }))))
+    (rw (at, here) (record { commit = c; in_hand = found; newest = commit_opening s c; older = begun; its = refl; number = refl; kind = refl; begin = refl; first = refl; end = refl; triples = refl; points = refl; checkpoint = refl; lost = refl; unfinished = refl; is_so = refl; others = its }))))
 gate_stands begun s gate.SyncsOpen None awake e at here none its = absurd (none_found none its.in_hand)
   where
     none_found : s.commit ≡ None → s.commit ≡ Some its.commit → ⊥
@@ -288,6 +289,7 @@ gate_stands begun s gate.SyncsOpen (Some c) awake e at here found its =
       its = refl;
       number = its.number;
       kind = its.kind;
+      begin = its.begin;
       first = its.first;
       end = its.end;
       triples = its.triples;
@@ -385,7 +387,12 @@ finished_stands begun s (Some c) found its =
       older = its.older;
       its = refl;
       finished = (its.is_so, refl, its.others.finished);
-      last = record { number = its.number ∙ ap (λ (x : Commit). x.number) (sym same); points = its.points; checkpoint = its.checkpoint };
+      last = record {
+        number = its.number ∙ ap (λ (x : Commit). x.number) (sym same);
+        begin = its.begin ∙ ap (λ (x : Commit). x.begin) (sym same);
+        points = its.points;
+        checkpoint = its.checkpoint;
+      };
     }))
 
 finish_stands : (begun : List BegunCommit) (s : KeeperState) (ask : Ask FinishAnswer) → s.step ≡ Finishes → IsInHand begun s true → StandsThere (begun_at_end (finish_ledto s ask).step begun) (finish_ledto s ask)

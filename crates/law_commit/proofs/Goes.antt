@@ -31,7 +31,7 @@ use Rattle.law_refine.specs.Below.fkv_session.Sitting.{Sitting}
 use Rattle.law_refine.specs.Below.fkv_session.Sitting.TheVariants.{Idle, Attempts, CatchesUp, ClearsMail, Polls, StoresOwing, Turns, StoresCut, Leaves, LoadsDurable}
 use Rattle.law_refine.specs.Below.fkv_session.CatchingUp.{CatchState}
 use Rattle.law_refine.specs.Below.fkv_session.OwnTurns.{own_turn_given}
-use Rattle.law_refine.specs.Below.fkv_session.Sessions.{SessionState, Seat, answers, answers_after_turn, ticket_after, attempts, polls_request, polls_at, refusal_of, op_begun, refresh_call, poll_begun, poll_call, sleep_call, wake_call, call_begun, attempt_left, serial_taken, update_done, is_no_room, with_request, accepts, shifts, attempted, attempt_ledto, clear_ledto, is_finished, is_owed, request_finished, lacks_room, finishes_request, keeps_request, poll_ledto, turn_ledto, leave_ledto, attempt_moved, own_turn_moved, sitting_next, sitting_given, refuses}
+use Rattle.law_refine.specs.Below.fkv_session.Sessions.{SessionState, Seat, answers, answers_after_turn, ticket_after, attempts, polls_request, polls_at, refusal_of, op_begun, refresh_call, poll_begun, poll_call, sleep_call, wake_call, call_begun, attempt_left, poll_left, serial_taken, update_done, is_no_room, with_request, accepts, shifts, attempted, attempt_ledto, clear_ledto, is_finished, is_owed, request_finished, lacks_room, finishes_request, keeps_request, poll_ledto, turn_ledto, leave_ledto, attempt_moved, own_turn_moved, sitting_next, sitting_given, refuses}
 
 -- where it begins to catch up, it goes by what the session goes by, and loads the epoch first; it knows whether it refreshes
 abbrev pub HasBegun : Seen → CatchState → Catching → Type 0
@@ -131,7 +131,7 @@ keeps_calm k s i its = polls_calm k (record s { requests = slice_set s.requests 
 poll_calm : (k : Seat) (s : SessionState) (i : ℕ) (ask : Ask TryAnswer) → s.step ≡ Polls i → Calm s.seen s.serial (poll_ledto k s i ask)
 unfolding poll_ledto
 poll_calm k s i (Done its) e =
-    either_calm (is_finished its) (finishes_request k (attempt_left s) i its) (keeps_request k (attempt_left s) i its) (finishes_calm k (attempt_left s) i its) (keeps_calm k (attempt_left s) i its)
+    either_calm (is_finished its) (finishes_request k (poll_left s) i its) (keeps_request k (poll_left s) i its) (finishes_calm k (poll_left s) i its) (keeps_calm k (poll_left s) i its)
 poll_calm k s i ask e = still s (Polls i) e tt
 
 turned_calm : (s : SessionState) (its : Told) (ask : Ask (Unit {0})) → s.step ≡ Turns its → Calm s.seen s.serial (turn_ledto s its ask)

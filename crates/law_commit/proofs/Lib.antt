@@ -1,4 +1,5 @@
 mod AllBegun
+mod Begins
 mod BegunStands
 mod Catches
 mod Counted

@@ -21,7 +21,7 @@ opening_finished opening = record {
   older = [];
   its = refl;
   finished = (refl, refl, tt);
-  last = record { number = refl; points = refl; checkpoint = refl };
+  last = record { number = refl; begin = refl; points = refl; checkpoint = refl };
 }
 
 -- in a life writes rest at such steps alone

@@ -199,9 +199,9 @@ run_same shape p opening (event ∷ before) opened =
 
 -- ---- what is said of the newest
 -- it says what the commit in hand says
-named_so : (shape : Shape) (s : KeeperState) (c : Commit) (newest : BegunCommit) → newest.number ≡ c.number → newest.parts.end ≡ c.end → newest.parts.checkpoint ≡ s.used → newest.points ≡ s.seek.points → newest.parts.lost ≡ lost_left c.kind s.lost
-    → slot_written shape.sessions c.number c.end s.used s.seek.points (lost_left c.kind s.lost) ≡ slot_written shape.sessions newest.number newest.parts.end newest.parts.checkpoint newest.points newest.parts.lost
-named_so shape s c newest number end checkpoint points lost = rw (number, end, checkpoint, points, lost) refl
+named_so : (shape : Shape) (s : KeeperState) (c : Commit) (newest : BegunCommit) → newest.number ≡ c.number → newest.parts.begin ≡ c.begin → newest.parts.end ≡ c.end → newest.parts.checkpoint ≡ s.used → newest.points ≡ s.seek.points → newest.parts.lost ≡ lost_left c.kind s.lost
+    → slot_written shape.sessions c.number c.begin c.end s.used s.seek.points (lost_left c.kind s.lost) ≡ slot_written shape.sessions newest.number newest.parts.begin newest.parts.end newest.parts.checkpoint newest.points newest.parts.lost
+named_so shape s c newest number begin end checkpoint points lost = rw (number, begin, end, checkpoint, points, lost) refl
 
 started_so : (told : Option BegunWith) (c : Commit) (newest : BegunCommit) → newest.parts.kind ≡ c.kind → newest.number ≡ c.number → newest.parts.first ≡ c.first → told ≡ Some (record { kind = c.kind; number = c.number; first = c.first })
     → told ≡ Some (record { kind = newest.parts.kind; number = newest.number; first = newest.parts.first })
@@ -223,7 +223,7 @@ said_so shape p replies told w s begun c its one written two used three same = r
   its = its.its;
   started = started_so told used.commit its.newest (its.kind ∙ ap (λ (x : Commit). x.kind) both) (its.number ∙ ap (λ (x : Commit). x.number) both) (its.first ∙ ap (λ (x : Commit). x.first) both) used.begun;
   triples = triples;
-  slot = ap (λ x. x.slot) written.writes.gate ∙ named_so shape s written.commit its.newest (its.number ∙ ap (λ (x : Commit). x.number) other) (its.end ∙ ap (λ (x : Commit). x.end) other) its.checkpoint its.points
+  slot = ap (λ x. x.slot) written.writes.gate ∙ named_so shape s written.commit its.newest (its.number ∙ ap (λ (x : Commit). x.number) other) (its.begin ∙ ap (λ (x : Commit). x.begin) other) (its.end ∙ ap (λ (x : Commit). x.end) other) its.checkpoint its.points
       (its.lost ∙ ap (λ (x : Commit). lost_left x.kind s.lost) other);
   checkpoint = subst (λ (k : CommitKind). UsesAsKind k its.newest s.last) (sym (its.kind ∙ ap (λ (x : Commit). x.kind) both))
       (uses_so used.commit.kind p replies w s used.commit its.newest (its.number ∙ ap (λ (x : Commit). x.number) both) (its.first ∙ ap (λ (x : Commit). x.first) both) its.checkpoint triples used.uses);

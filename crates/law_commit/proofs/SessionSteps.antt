@@ -26,7 +26,7 @@ use Rattle.law_refine.specs.Below.fkv_session.Sitting.{Sitting}
 use Rattle.law_refine.specs.Below.fkv_session.Sitting.TheVariants.{Idle, Attempts, CatchesUp, ClearsMail, Polls, StoresOwing, Turns, StoresCut, Leaves, LoadsDurable}
 use Rattle.law_refine.specs.Below.fkv_session.CatchingUp.{refresh_begun, wake_begun}
 use Rattle.law_refine.specs.Below.fkv_session.OwnTurns.{own_turn_begun}
-use Rattle.law_refine.specs.Below.fkv_session.Sessions.{SessionState, Seat, answers, refuses, answers_after_turn, attempts, polls_request, polls_at, refusal_of, op_begun, refresh_call, poll_begun, poll_call, sleep_call, wake_call, call_begun, ticket_after, attempt_left, serial_taken, update_done, is_no_room, lacks_room, with_request, accepts, shifts, attempted, attempt_ledto, caught_up, catch_ledto, clear_ledto, is_finished, is_owed, request_finished, finishes_request, keeps_request, poll_ledto, turn_ledto, leave_ledto, session_begun}
+use Rattle.law_refine.specs.Below.fkv_session.Sessions.{SessionState, Seat, answers, refuses, answers_after_turn, attempts, polls_request, polls_at, refusal_of, op_begun, refresh_call, poll_begun, poll_call, sleep_call, wake_call, call_begun, ticket_after, attempt_left, poll_left, serial_taken, update_done, is_no_room, lacks_room, with_request, accepts, shifts, attempted, attempt_ledto, caught_up, catch_ledto, clear_ledto, is_finished, is_owed, request_finished, finishes_request, keeps_request, poll_ledto, turn_ledto, leave_ledto, session_begun}
 
 -- what isn't told of durable words
 abbrev pub IsOther : Told → Type 0
@@ -132,7 +132,7 @@ module _ (k : Seat) (At : SessionState → Sitting → Type 0) (begun : HoldsBeg
 
   pub poll_holds : (s : SessionState) (index : ℕ) (ask : Ask TryAnswer) → s.step ≡ Polls index → At s (Polls index) → Holds (poll_ledto k s index ask)
   unfolding poll_ledto
-  poll_holds s index (Done its) at held = either_holds (is_finished its) (finishes_request k (attempt_left s) index its) (keeps_request k (attempt_left s) index its) (finishes_holds (attempt_left s) index its) (keeps_holds (attempt_left s) index its)
+  poll_holds s index (Done its) at held = either_holds (is_finished its) (finishes_request k (poll_left s) index its) (keeps_request k (poll_left s) index its) (finishes_holds (poll_left s) index its) (keeps_holds (poll_left s) index its)
   poll_holds s index ask at held = stays s (Polls index) at held
 
   pub turned_holds : (s : SessionState) (its : Told) (ask : Ask (Unit {0})) → s.step ≡ Turns its → IsOther its → At s (Turns its) → Holds (turn_ledto s its ask)

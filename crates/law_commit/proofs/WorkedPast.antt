@@ -65,7 +65,15 @@ each_opened one other (suc (suc more)) its found = cc
 
 world_opened : (its : KeeperState) (one other : SessionState) → IsOpenedWorld (worked_world shape places its one other)
 unfolding places shape
-world_opened its one other = record { goes_on = refl; no_history = refl; no_trace = refl; no_calls = refl; seats = refl; keeper = record { none_in_hand = refl; no_commit = refl; none_rest = refl; works = refl }; sessions = each_opened one other }
+world_opened its one other = record {
+  goes_on = refl;
+  no_history = refl;
+  no_trace = refl;
+  no_calls = refl;
+  seats = refl;
+  keeper = record { none_in_hand = refl; no_commit = refl; none_rest = refl; works = refl; turns_rest = refl; serves_from = refl };
+  sessions = each_opened one other;
+}
 
 pub worked_past : (its : KeeperState) (one other : SessionState) → IsWorkedPast its one other
 unfolding places shape phase_said passed arm_ask arm_next raise_ask raise_next raise_next_ask raise_on free_after refresh_ask refresh_next refresh_finish find_step_ask find_led publish_ask publish_next publish_next_ask slot_word reserve_ask reserve_next reserve_next_ask fill_ask fill_next load_ask load_next load_next_ask load_on invalidate_ask invalidate_next trying_ask ends ends_so shared_ledto appends copies_from mark copies held_used walk_ledto current_ledto answer_ledto exclusive_ledto old_ledto append_ledto exclusive_dropped shared_dropped trying_next walking_ask find_ledto load_ledto value_ledto walking_next walking_on appending_ask reserve_ledto fill_ledto publish_ledto invalidate_ledto appending_next header_said attempting_ask look_ledto try_ledto put_ledto attempting_next with_sought with_held with_latch with_asked mail_ask mail_next defer.deferring_ask defer.seek_ledto defer.raise_ledto defer.arm_ledto defer.deferring_next defer.deferring_on start.starting_ask start.seek_led start.defer_led start.starting_next keeper_happens keeper_run keeping_ask start_ledto keeping_next catch.catching_ask catch.refresh_ledto catch.finish_ledto catch.latch_marked catch.catching_requests catch.catching_next op_called session_happens session_run sitting_ask attempts polls_at op_begun refresh_call poll_call sleep_call wake_call accepts shifts attempt_ledto catch_ledto clear_ledto finishes_request keeps_request poll_ledto turn_ledto leave_ledto sitting_next sitting_given versions_taken begun_by ended_by session_settled session_asks keeper_settled keeper_asks session_slots session_steps session_part session_events keeper_slots keeper_steps keeper_part keeper_events history_after life_past run life_goes serials_asked raises sight_through sight_in

@@ -15,6 +15,8 @@ use Rattle.law_refine.specs.Below.fkv_world.World.{Now}
 
 pub record CommitParts : Type 0 where
   pub kind : CommitKind
+  -- the address at which its log begins
+  pub begin : Addr
   -- the tail as it was in prepare, as its own start has told it. The slot of a full commit says it; that of a log commit says the first address of the
   -- checkpoint that it uses
   pub first : Addr
@@ -28,7 +30,15 @@ pub record CommitParts : Type 0 where
 
 -- as its gate is opened
 abbrev pub parts_opening : KeeperState → Commit → CommitParts
-parts_opening s c = record { kind = c.kind; first = c.first; end = c.end; triples = s.writes.triples; checkpoint = s.used; lost = lost_left c.kind s.lost }
+parts_opening s c = record {
+  kind = c.kind;
+  begin = c.begin;
+  first = c.first;
+  end = c.end;
+  triples = s.writes.triples;
+  checkpoint = s.used;
+  lost = lost_left c.kind s.lost;
+}
 
 -- The commit with which a store opens: its log ends at the tail, and it is a full one where it has made its own checkpoint. Where it is a log commit
 -- the first address is its checkpoint's, since nothing tells its own.
@@ -42,6 +52,7 @@ triples_opened Log triples = []
 abbrev pub parts_opened : Now → List ℕ → CommitParts
 parts_opened n opened = record {
   kind = kind_opened n.keeper.last;
+  begin = n.keeper.last.begin;
   first = n.keeper.last.checkpoint.first;
   end = record { 0 = word_at n.words (shared_place one.Tail) };
   triples = triples_opened (kind_opened n.keeper.last) (standing_opened n.shape opened n.keeper.last).triples;

@@ -14,6 +14,7 @@ AreFinished (c ∷ before) = (c.is_sealed ≡ true) × (c.is_finished ≡ true) 
 -- this commit says what the newest finished one says
 pub record IsAsLast (last : Finality) (c : BegunCommit) : Type 0 where
   pub number : c.number ≡ last.number
+  pub begin : c.parts.begin ≡ last.begin
   pub points : c.points ≡ last.points
   pub checkpoint : c.parts.checkpoint ≡ last.checkpoint
 
@@ -44,6 +45,7 @@ pub record IsInHand (begun : List BegunCommit) (s : KeeperState) (sealed : Bool)
   pub its : begun ≡ newest ∷ older
   pub number : newest.number ≡ commit.number
   pub kind : newest.parts.kind ≡ commit.kind
+  pub begin : newest.parts.begin ≡ commit.begin
   pub first : newest.parts.first ≡ commit.first
   pub end : newest.parts.end ≡ commit.end
   pub triples : newest.parts.triples ≡ s.writes.triples

@@ -6,7 +6,7 @@ pub use Rattle.law_commit.specs.Decided.Laws.{ChainsKeepTheOld, ChainsLieBelowTa
 pub use Rattle.law_commit.specs.Floor.OnPaper.{LivesAreOnPaper}
 pub use Rattle.law_commit.specs.Floor.Stands.{FloorAlwaysStands, ViewsAreNear}
 pub use Rattle.law_commit.specs.Laws.Linked.{LinkersHaveMetEmptyChains, LinksMeetEmptyChains}
-pub use Rattle.law_commit.specs.Laws.Pasts.{BegunAreAsKept, BegunAreInTurn, FinishedAreTold, GoesByItsView, ItsVersionIsNotAhead, ItsVersionNeverFalls, KeeperStoresItsPhase, NewestIsAsWritten, NumbersAreInTurn, PastIsWorked, SerialIsThePoint, SerialsCountUpdates, SessionsStoreClaimedPhases, TakesUpWhatIsComing, VersionsNeverFall, ViewsAreStamped}
+pub use Rattle.law_commit.specs.Laws.Pasts.{BegunAreAsKept, BegunAreInTurn, BegunBeginAsOpened, FinishedAreTold, GoesByItsView, ItsVersionIsNotAhead, ItsVersionNeverFalls, KeeperStoresItsPhase, NewestIsAsWritten, NumbersAreInTurn, PastIsWorked, SerialIsThePoint, SerialsCountUpdates, SessionsStoreClaimedPhases, TakesUpWhatIsComing, VersionsNeverFall, ViewsAreStamped}
 pub use Rattle.law_commit.specs.Laws.Phases.{ComingIsAboveSafe, CommitsGoByStages, LiveIsAwake, OpeningShowsSessions, PhaseVersionNeverFalls, RestIsOfTheNextVersion, SafeIsBelowComing, SafeIsBelowViews, StampsAreLoads, ViewsAreAboveSafe}
 pub use Rattle.law_commit.specs.Phases.Projected.{EventsAreShown, OpeningsAreSound, QuietEventsAreShown, RepliesAreShown, SafeIsEnabled}
 pub use Rattle.law_commit.specs.Phases.Running.{KeeperRunsSafely, SessionsRunSafely}

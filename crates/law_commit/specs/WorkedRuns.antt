@@ -18,6 +18,7 @@ use Rattle.law_refine.specs.Below.fkv_commit.TheDeferring.TheVariants.{Raises as
 use Rattle.law_refine.specs.Below.fkv_commit.TheEntering.TheVariants as entering
 use Rattle.law_refine.specs.Below.fkv_commit.TheSeeking.TheVariants as seeking
 use Rattle.law_refine.specs.Below.fkv_commit.Deferring.{DeferState}
+use Rattle.law_refine.specs.Below.fkv_maintain.TheMaintaining.TheVariants.{Through}
 use Rattle.law_refine.specs.Below.fkv_keeper.KeeperTold.TheVariants.{Turned}
 use Rattle.law_refine.specs.Below.fkv_keeper.TheKeeping.TheVariants.{Ended, Enters, Seeks}
 use Rattle.law_refine.specs.Below.fkv_keeper.Keeping.{KeeperState}
@@ -36,7 +37,15 @@ use Rattle.law_refine.specs.Events.Worked.{first_world}
 -- The keeper of a specified store as that was opened begins a commit. The phase is rest in version 1, the epoch is 7, slot 0 is free, prepare is stored over the phase, and
 -- the tail is 5. Then the epoch is raised, from 9 by now.
 abbrev pub resting_keeper : KeeperState → KeeperState
-resting_keeper s = record s { start = record s.start { asked = record s.start.asked { class = Specified } }; commit = None; is_broken = false; rests = false; lost = []; step = Ended (Turned false false) }
+resting_keeper s = record s {
+  start = record s.start { asked = record s.start.asked { class = Specified } };
+  commit = None;
+  is_broken = false;
+  rests = false;
+  lost = [];
+  maintain = record s.maintain { begin = s.last.begin; step = Through };
+  step = Ended (Turned false false);
+}
 
 abbrev pub events_before_raise : List KeeperEvent
 events_before_raise = Replies 5 true ∷ Replies 1 true ∷ Replies 0 true ∷ Replies 0 true ∷ Replies 7 true ∷ Replies 1 true ∷ BeginsCommit Full ∷ []

@@ -19,14 +19,15 @@ UsesAsKind Full c last = (c.parts.checkpoint.number ≡ c.number) × (c.parts.ch
 UsesAsKind Log c last = (c.parts.checkpoint ≡ last.checkpoint) × (c.parts.triples ≡ [])
 
 -- The newest that has begun is of the kind that was asked for, with the number and the first address that its start has told. Its triples are those that
--- are written, and the slot that is written names its number, its end and its points, the checkpoint that it uses, and its lost ranges.
+-- are written. The slot that is written names its number, its begin, its end and its points, the checkpoint that it uses, and its lost ranges.
 pub record NewestIsWritten (shape : Shape) (told : Option BegunWith) (w : Writing) (last : Finality) (begun : List BegunCommit) : Type 0 where
   pub newest : BegunCommit
   pub older : List BegunCommit
   pub its : begun ≡ newest ∷ older
   pub started : told ≡ Some (record { kind = newest.parts.kind; number = newest.number; first = newest.parts.first })
   pub triples : w.first.triples ≡ newest.parts.triples
-  pub slot : w.first.gate.slot ≡ slot_written shape.sessions newest.number newest.parts.end newest.parts.checkpoint newest.points newest.parts.lost
+  pub slot : w.first.gate.slot
+      ≡ slot_written shape.sessions newest.number newest.parts.begin newest.parts.end newest.parts.checkpoint newest.points newest.parts.lost
   pub checkpoint : UsesAsKind newest.parts.kind newest last
 
 -- in a life: what the start of the newest commit has told

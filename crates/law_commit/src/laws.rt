@@ -23,16 +23,17 @@ pub fn law_view_is_seen()
 {}
 
 /// In every life of a store that was opened, whatever the sessions do, all commits that have begun are sealed and finished but at most the newest, and the
-/// newest that is finished says the number, the points and the checkpoint that the keeper has as the newest finished commit's. The newest may be open
-/// only while a commit is written, also where its writes rest, or its words are stored, and for good where a call of the device has failed. It isn't
-/// sealed before its words are stored. Where a commit's words are stored it is the commit in hand, and sealed: it is of the kind that was asked for, with
-/// the number and the first address that its start has told; its triples were written, and its slot, which names its number, end, points, checkpoint and
-/// lost ranges. If the store opened at rest, as each does, each commit that begins has the number behind the newest finished one's. So their numbers come
-/// one behind the other, from the opening's on. Those that are finished are the opening's and those that callers were told as finished, in their order,
-/// each with its number and points.
+/// newest that is finished says the number, the begin, the points and the checkpoint that the keeper has as the newest finished commit's. The newest may be
+/// open only while a commit is written, also where its writes rest, or its words are stored, and for good where a call of the device has failed. It isn't
+/// sealed before its words are stored. Where a commit's words are stored it is the commit in hand, and sealed: it is of the kind that was asked for, with the
+/// number and the first address that its start has told; its triples were written, and its slot, which names its number, begin, end, points, checkpoint and
+/// lost ranges. The log of each begins where that of the opening's does. If the store opened at rest, as each does, each commit that begins has the number
+/// behind the newest finished one's. So their numbers come one behind the other, from the opening's on. Those that are finished are the opening's and those
+/// that callers were told as finished, in their order, each with its number and points.
 pub fn law_begun()
     ensures begun { said.BegunAreAsKept }
     ensures written { said.NewestIsAsWritten }
+    ensures begins { said.BegunBeginAsOpened }
     ensures in_turn { said.BegunAreInTurn }
     ensures numbers { said.NumbersAreInTurn }
     ensures finished { said.FinishedAreTold }

@@ -44,7 +44,8 @@ pub use law_paper::{
 pub use law_refine::{
     law_copied, law_device_shows_log, law_gates, law_heads, law_latched_in_tries, law_mail,
     law_of_kept_slots, law_of_the_past, law_records_published, law_stands_show_log,
-    law_world_effects, law_world_flushed, law_world_flushed_is_synced, law_world_is_guarded,
-    law_world_latched, law_world_once, law_world_one_commit_stands, law_world_one_entry,
-    law_world_replies, law_world_requests, law_world_sessions,
+    law_world_begin, law_world_effects, law_world_floors, law_world_flushed,
+    law_world_flushed_is_synced, law_world_is_guarded, law_world_latched, law_world_once,
+    law_world_one_commit_stands, law_world_one_entry, law_world_replies, law_world_requests,
+    law_world_sessions,
 };

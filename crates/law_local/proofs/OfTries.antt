@@ -2,6 +2,7 @@ pub mod AttemptGrows
 pub mod AttemptSteps
 pub mod AttemptTells
 pub mod Changes
+pub mod Floors
 mod HeldSteps
 pub mod Keeping
 mod Lows
@@ -19,6 +20,7 @@ mod TryEnds
 pub mod TryGrows
 pub mod TrySteps
 mod TryWalks
+pub mod WalkBegins
 mod WalkKept
 pub mod WalkRows
 pub mod Words

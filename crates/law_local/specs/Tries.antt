@@ -1,6 +1,8 @@
 pub mod AttemptLaws
 pub mod AttemptRows
 pub mod Changes
+pub mod FloorLaws
+pub mod Floors
 pub mod HeldRows
 pub mod Kept
 pub mod Laws

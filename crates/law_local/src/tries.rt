@@ -1,6 +1,7 @@
 //! What walks and tries know of the log. These functions do nothing: what they promise holds of every log and every reply.
 ghost use Rattle.law_local.specs.Tries.Laws.{WalkRowsStay, WalksLeadOn, WalksTell, WalksBeginAtHead, RequestsKnowLater, TriesBegin, TryRowsStay, TriesLeadOn, ReservesAreEnabled, SwapsAreEnabled, CasesAreEnabled, ReadsTell, TriesSeek, TriesGoFrom};
 ghost use Rattle.law_local.specs.Tries.AttemptLaws.{PendingRowsStay, PendingsKnowLater, AttemptsBegin, AttemptRowsStay, AttemptRowsStayAtRest, AttemptsLeadOn, OwnChangesKeep, AttemptsTell, TriesAreToldTruly, AttemptsAreToldTruly, ReadsBegin, ReadsGoAlong};
+ghost use Rattle.law_local.specs.Tries.FloorLaws.{AbsentStays, EndsByFloor, GoesOnSo, WalksBeginByFloor, WaysStayLive};
 
 /// What a walk knows of the log stays, whatever others do there that keeps to the log's rules; each reply that is true of the log leads it on to what
 /// it has to know then; and what it tells at its end is so. It goes down from where its chain began as its search ended.
@@ -69,4 +70,14 @@ pub fn law_replies_true()
 pub fn law_reads_go_along()
     ensures begins { ReadsBegin }
     ensures goes { ReadsGoAlong }
+{}
+
+/// A request goes by a floor: the log does without its records below that, and all there is fixed. Then a walk from the head of its chain does without them. If
+/// its way comes below the floor, or a header says that it goes on there, the key reads as absent, and a new record is made of that. So it stays.
+pub fn law_of_floors()
+    ensures begins { WalksBeginByFloor }
+    ensures ends { EndsByFloor }
+    ensures goes { GoesOnSo }
+    ensures absent { AbsentStays }
+    ensures live { WaysStayLive }
 {}

@@ -1,3 +1,4 @@
+mod Begins
 mod Calls
 mod Chains
 mod Changed

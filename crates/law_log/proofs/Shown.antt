@@ -8,3 +8,4 @@ pub use Rattle.law_log.proofs.LogSteps.{Steps, log_steps, run_on, enabled_before
 pub use Rattle.law_log.proofs.Readings.{IsBegun, HasSeen, HadValue, KnowsRead, KnowsWalk, read_steps, read_told}
 pub use Rattle.law_log.proofs.Sound.{IsSound, event_sound, run_sound}
 pub use Rattle.law_log.proofs.Walks.{BeginsAt, begins_at, first_from_head, first_from_none, first_from_own, LeadsOn, leads_on}
+pub use Rattle.law_log.proofs.Begins.{above_live, live_at_rest, walk_begins, walk_along, absent_below}

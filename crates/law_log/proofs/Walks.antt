@@ -7,7 +7,7 @@ use Rattle.law_log.specs.Enabled.{AreChains, IsLinked, previous_of}
 use Rattle.law_log.proofs.Chains.{own_number, from_head, from_else, head_within, first_else, first_there}
 
 -- all addresses of a chain lie below what leads to it
-all_below : (cells : ℕ → Logged) (b : ℕ) (chain : List ℕ) → head_of chain < b → IsLinked cells chain → (a : ℕ) → IsIn a chain → a < b
+pub all_below : (cells : ℕ → Logged) (b : ℕ) (chain : List ℕ) → head_of chain < b → IsLinked cells chain → (a : ℕ) → IsIn a chain → a < b
 all_below cells b [] low linked a is_in = absurd is_in
 all_below cells b (c ∷ older) low linked a (inl same) = subst (λ i. i < b) same low
 all_below cells b (c ∷ older) low linked a (inr is_in) = all_below cells b older (lower (head_of older) c b linked.1 low) linked.2 a is_in

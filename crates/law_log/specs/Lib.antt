@@ -1,3 +1,4 @@
+pub mod Begins
 pub mod Chains
 pub mod Ghosts
 pub mod Laws

@@ -1,4 +1,5 @@
 //! The laws of a log of cells and chains. These functions do nothing: what they promise holds of every list of events.
+ghost use Rattle.law_log.specs.Begins.{AboveIsLive, EachVersionStaysLive, Live, LiveAtRest, ReadsAbsentBelow, StaysFromThere, WalksBeginLive, WalksStayLive};
 ghost use Rattle.law_log.specs.Worked.{IsKept, ChangesWhatIsFixed, CopiesWhatMayChange, GivesOpeningState};
 ghost use Rattle.law_log.specs.Laws.{AtEachMoment, HistoryIsLegal, ChainsShowContent, VersionsAreLegal, VersionsInOrder, ChainsFall, MutableIsNewest, NewestShowsContent, CallsAreOrdered, ReadsGiveContent};
 
@@ -33,6 +34,23 @@ pub fn law_chains_fall()
 pub fn law_calls_in_order()
     ensures orders { AtEachMoment CallsAreOrdered }
     ensures fresh { AtEachMoment ReadsGiveContent }
+{}
+
+/// A log that does without its records below an address goes on so. It does so from a moment on at which all below the address is over, if no address below it is taken
+/// later. So it is of each version by itself. A log without such records does without them. At rest a log does without them up to the version at rest.
+pub fn law_live_stays()
+    ensures stays { StaysFromThere Live }
+    ensures versions { EachVersionStaysLive }
+    ensures above { AboveIsLive }
+    ensures rest { LiveAtRest }
+{}
+
+/// A walk down the chain of a key may do without the records below its floor, if the log does as it begins. It goes on so, whatever comes, if all below the
+/// floor is fixed. And where it has come below its floor, its key reads as absent: no record below is read.
+pub fn law_walks_do_without()
+    ensures begin { WalksBeginLive }
+    ensures stays { WalksStayLive }
+    ensures below { ReadsAbsentBelow }
 {}
 
 /// A run in which a record is changed in place while a read goes down to it, and one of another key is published over it, is

@@ -4,6 +4,6 @@
 mod laws;
 
 pub use laws::{
-    law_calls_in_order, law_chains_fall, law_chains_show_content, law_of_worked_runs,
-    law_versions_show_content,
+    law_calls_in_order, law_chains_fall, law_chains_show_content, law_live_stays,
+    law_of_worked_runs, law_versions_show_content, law_walks_do_without,
 };

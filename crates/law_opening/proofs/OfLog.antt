@@ -5,6 +5,6 @@ mod Mapping
 pub mod Opens
 mod Pairing
 mod Reaching
+pub mod SameMaps
 mod Walking
 mod Words
-pub mod WorldOpens

@@ -3,6 +3,7 @@ ghost use Rattle.law_opening.specs.Lives.Laws as lives;
 
 use fkv_disk::Device;
 use fkv_record::law_spellings_apart;
+use law_paper::law_forgotten_agree;
 
 /// The world of an opened store is one with which the guard begins, its log's records ending at the opened tail: its words and places are
 /// as the guard has them then, the drain slots are empty, each session and the keeper begin as their store was opened, and nothing has
@@ -43,12 +44,15 @@ pub fn law_told_opens()
     ensures { lives.KeeperIsToldTheBytes }
 {}
 
-/// The bytes end so if they reach far: at or above the end of all that their newest slot names. Those of a new store do, as `create` leaves them.
+/// The bytes end so if they reach far: at or above the end of all that their newest slot names. Those of a new store do, as `create` leaves them. And so do bytes that
+/// agree with such ones but at those that count for nothing.
 pub fn law_long_opens()
     ensures behind { lives.FarBytesEndBehind }
     ensures created { lives.CreatedReachesFar }
+    ensures forgotten { lives.ForgottenReachFar }
 {
     law_spellings_apart();
+    law_forgotten_agree();
 }
 
 /// So `law_world_one_commit_stands` speaks of each life of an opened store, as long as each commit that begins has the number behind the newest finished

@@ -4,13 +4,21 @@ ghost use Rattle.law_opening.specs.Log.Laws as logs;
 use crate::lives::{law_guard_opens, law_index_opens};
 use fkv_record::law_spellings_apart;
 use law_log::{law_calls_in_order, law_chains_show_content, law_versions_show_content};
-use law_paper::law_chain_of_entry;
+use law_paper::{law_chain_of_entry, law_values_alike};
 use law_refine::{law_ghost_fixed, law_ghost_reserved, law_ghost_trace, law_ghost_unborn};
 
 /// The log of an opened store has the records of its image that count, each at its address, with its key, its value and the address that it leads
 /// to, and no others. They are in the version of the store's commit, and each stands in the chain of its key's home.
 pub fn law_log_counted()
     ensures { logs.HasTheRecordsThatCount }
+{
+    law_spellings_apart();
+    law_chain_of_entry();
+}
+
+/// None of its records lies below the store's begin. So it does without the records below that: no address of the log leads there.
+pub fn law_log_above()
+    ensures { logs.LogIsAbove }
 {
     law_spellings_apart();
     law_chain_of_entry();
@@ -26,6 +34,14 @@ pub fn law_log_opened()
 {
     law_spellings_apart();
     law_chain_of_entry();
+}
+
+/// Bytes that recovery doesn't read make no difference to the map with which a life begins. So those below the store's begin don't.
+pub fn law_maps_alike()
+    ensures { logs.MapsAlike }
+{
+    law_log_opened();
+    law_values_alike();
 }
 
 /// And it is one with which the life of the store's world begins: what is below the safe read-only offset is fixed, nothing is told, has taken effect or

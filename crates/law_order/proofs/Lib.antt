@@ -8,7 +8,7 @@ mod OfKnown
 mod OfLooks
 pub mod OfOneHistory
 mod OfOrdered
-mod OfPrefix
+pub mod OfPrefix
 pub mod OfReads
 mod OfRecovered
 mod OfRows

@@ -1,7 +1,7 @@
 mod Asking
 mod LifeAsks
 mod LifeMails
-mod Looks
-mod Ready
+pub mod Looks
+pub mod Ready
 mod There
 pub mod Truth

@@ -1,3 +1,4 @@
+pub mod Floors
 pub mod Ordered
 pub mod Met
 pub mod Tries

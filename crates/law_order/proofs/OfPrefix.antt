@@ -1,3 +1,4 @@
+pub mod Forgotten
 pub mod Join
 pub mod Lives
 pub mod Slots

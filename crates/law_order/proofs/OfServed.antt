@@ -1,3 +1,4 @@
 pub mod Device
+pub mod Floors
 pub mod Later
 pub mod Served

@@ -1,6 +1,7 @@
 pub mod Answered
 pub mod Begins
 pub mod Enabled
+pub mod Floors
 pub mod Knows
 pub mod Lines
 pub mod Looks

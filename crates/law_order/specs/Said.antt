@@ -7,13 +7,13 @@ pub use Rattle.law_order.specs.Decided.Old.{IsLaterAbove, KeepsWhatCounted, Lose
 pub use Rattle.law_order.specs.InTurn.Laws.{HasFloorInItsLife, KeepsItsViewsNear, KeepsSafeBelowItsComing, KeepsSafeBelowItsViews, NumbersItsCommitsInTurn, OneCommitAlwaysStands, OpensItsStoreAtRest, TellsOfItsLife}
 pub use Rattle.law_order.specs.OneHistory.Beside.{HasItsHistory}
 pub use Rattle.law_order.specs.OneHistory.Committed.{CommittedLife, CrashedLife}
-pub use Rattle.law_order.specs.OneHistory.EachLife.{InEachLife}
+pub use Rattle.law_order.specs.OneHistory.EachLife.{InEachLife, IsLive}
 pub use Rattle.law_order.specs.OneHistory.NewLives.{ShapesHaveLives, StoresHaveLives, WorkedLife}
 pub use Rattle.law_order.specs.Opened.{OfItsLives, OfItsSessions}
 pub use Rattle.law_order.specs.Ordered.Keeps.{KeepsItsOrder}
 pub use Rattle.law_order.specs.Ordered.Met.{SeeksItsReads}
 pub use Rattle.law_order.specs.Prefix.Durable.{ToldNeverFalls}
-pub use Rattle.law_order.specs.Prefix.Law.{HasCommitsInTurn, HasFairPoints, HasRisingPoints, LivesFollow, LivesReachFar, PrefixLaw, RecoversPrefix, TellsDurable, TellsFinished}
+pub use Rattle.law_order.specs.Prefix.Law.{ForgottenHolds, HasCommitsInTurn, HasFairPoints, HasRisingPoints, LivesFollow, LivesReachFar, PrefixLaw, RecoversPrefix, TellsDurable, TellsFinished}
 pub use Rattle.law_order.specs.Prefix.Slots.{HomesHaveSlots}
 pub use Rattle.law_order.specs.Prefix.Stores.{JoinsValuesAndPoints, KeepsLegally, OfEachCommit, ReplaysKept}
 pub use Rattle.law_order.specs.Recovered.Holds.{HoldsItsCommit, HoldsTheNamed}

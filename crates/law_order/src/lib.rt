@@ -44,7 +44,8 @@ pub use known::law_sessions_begin;
 pub use looks::law_looks_true;
 pub use new_lives::law_life_exists;
 pub use one_history::{
-    law_history_beside, law_lives_keep_order, law_lives_keep_rules, law_order, law_waiting_reads,
+    law_history_beside, law_live, law_lives_keep_order, law_lives_keep_rules, law_order,
+    law_waiting_reads,
 };
 pub use opened::{
     law_copies_open, law_links_open, law_marks_open, law_serials_open, law_stages_open,
@@ -56,9 +57,10 @@ pub use prefix::{
 };
 pub use reads::law_world_reads;
 pub use recovered::{
-    law_crash_keeps_first, law_images_hold, law_images_keep_checkpoint, law_images_recovered,
-    law_images_show_life, law_images_use_checkpoints, law_life_after_crash, law_log_in_order,
-    law_named_hold, law_opened_log_stands, law_points_keep, law_prefix, law_scans_start_above,
+    law_crash_keeps_first, law_forgotten, law_images_hold, law_images_keep_checkpoint,
+    law_images_recovered, law_images_show_life, law_images_use_checkpoints, law_life_after_crash,
+    law_log_in_order, law_named_hold, law_opened_log_stands, law_points_keep, law_prefix,
+    law_scans_start_above,
 };
 pub use rows::{law_requests_asked, law_rows_go_on, law_waits_stay};
 pub use rules::{law_cuts_open, law_life_begins, law_order_of_rules};

@@ -10,7 +10,8 @@ use law_commit::{
     law_phases_are_seen, law_shares_not_missed, law_versions_counted, law_versions_end,
     law_views_see_tails,
 };
-use law_opening::law_latches_open;
+use law_log::law_live_stays;
+use law_opening::{law_latches_open, law_lives_are_above};
 
 /// What the induction is given of each life: of phases, of latches, and of how versions and commits end.
 fn law_given()
@@ -60,6 +61,17 @@ pub fn law_lives_keep_rules()
     ensures { said.InEachLife said.KeepsRules }
 {
     law_lives_keep_order();
+}
+
+/// In each life each key's newest record lies at or above the begin that the store was opened with, or the key reads as absent. So it is in the versions up to each
+/// one. So what lies below that begin may be forgotten.
+pub fn law_live()
+    ensures { said.InEachLife said.IsLive }
+{
+    law_life_begins();
+    law_lives_keep_rules();
+    law_lives_are_above();
+    law_live_stays();
 }
 
 /// And that log has the history of the life, each effect in its version. For a record that is published has the version of its update's request, and so has one

@@ -6,7 +6,7 @@ use law_commit::{law_mail, law_world_flushed_is_synced};
 /// Every life that begins as a store was opened, calls with numbers below 2^64, and gives no ticket again while a request waits that has it, keeps order, with
 /// commits too: each event of the log beside it is enabled, what a session is about to change in place is published, and at each moment sessions know what
 /// they have to of the log, and reads have come as far in it as control states say. And sessions keep their updates apart from those of other versions, and no
-/// attempt ends as a shift and isn't made again.
+/// attempt ends as a shift and isn't made again. The log does without what lies below its begin, and no request goes by a floor above that.
 pub fn law_world_ordered()
     ensures { orders.KeepsOrderInLives }
 {
@@ -25,7 +25,7 @@ pub fn law_rules_kept()
 
 /// In each such life no try of a read is turned away. At its end it tells its key's value, or that there is none, or it seeks a record of the device: it never ends
 /// as contended, as a shift, or because the index or the log is full.
-/// So each read that waits seeks a record of the device, but for the one that is polled just then.
+/// So each read that waits seeks a record of the device, but for the one that is polled just then. For none is told that its record is gone.
 /// No poll tries it again: it waits for the mailbox alone.
 pub fn law_reads_met()
     ensures met { orders.MeetsReadsInLives }

@@ -10,6 +10,7 @@ use law_commit::{
 };
 use law_opening::{
     law_guard_opens, law_lives_change_published, law_log_begins, law_log_beside, law_log_opened,
+    law_long_opens,
 };
 
 /// In each life the commits that are finished are the opening's and those that the keeper has told as finished, in their order. Each has the number and the
@@ -66,6 +67,7 @@ pub fn law_lives()
     ensures follow { said.InEachLife said.RecoversPrefix → said.LivesFollow }
 {
     law_images_read_back();
+    law_long_opens();
 }
 
 /// The map of an image's store is the content of what its points keep, if two things hold. Its values are those that a log shows of versions up to a

@@ -10,7 +10,7 @@ mod uses;
 pub use crashed::{law_crash_keeps_first, law_life_after_crash};
 pub use holds::{law_images_hold, law_named_hold};
 pub use points::law_points_keep;
-pub use prefix::{law_images_recovered, law_prefix};
+pub use prefix::{law_forgotten, law_images_recovered, law_prefix};
 pub use shows::{
     law_images_show_life, law_log_in_order, law_opened_log_stands, law_scans_start_above,
 };

@@ -13,7 +13,8 @@ pub fn law_waits_stay()
 {}
 
 /// In every life of a store that was opened what sessions know of the log goes on by each event: where all events of the log until then, and those of the event too, were enabled, and each
-/// session knew what it has to at each moment and was told truly before the event, each knows it behind the event. Of sessions this needs that their updates keep apart from those of other versions.
+/// session knew what it has to at each moment and was told truly before the event, each knows it behind the event. Of sessions this needs that their updates keep apart from those of other versions,
+/// and that they go by floors below which the log does without its records.
 pub fn law_rows_go_on()
     ensures { rows.GoesOnToKnow }
 {}

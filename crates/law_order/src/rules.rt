@@ -4,13 +4,13 @@ ghost use Rattle.law_order.specs.Said as said;
 
 use law_commit::{law_world_is_guarded, law_world_once};
 use law_opening::{
-    law_guard_opens, law_index_opens, law_log_begins, law_log_beside, law_log_counted,
-    law_log_heads, law_log_opened, law_words_open,
+    law_guard_opens, law_index_opens, law_log_above, law_log_begins, law_log_beside,
+    law_log_counted, law_log_heads, law_log_opened, law_words_open,
 };
 
 /// The life of an opened store begins with the log of its image, from the store's map and in the version of its commit, and at rest in the version behind
 /// that: the engine, the guard, the index and each mailbox are as such a store has them, the chains begin where the entries of the index lead, and the
-/// image has each record of the log.
+/// image has each record of the log. None of them lies below the address at which the log begins, which is each session's floor.
 pub fn law_life_begins()
     ensures { said.BeginsItsLife }
 {
@@ -18,6 +18,7 @@ pub fn law_life_begins()
     law_index_opens();
     law_words_open();
     law_log_counted();
+    law_log_above();
     law_log_opened();
     law_log_begins();
     law_log_heads();

@@ -1,3 +1,4 @@
+pub mod Forgotten
 pub mod Images
 pub mod Named
 pub mod Old

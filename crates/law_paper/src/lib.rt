@@ -9,10 +9,11 @@ mod phases;
 pub use apart::law_apart;
 pub use kept::law_kept;
 pub use paper::{
-    law_kept_paper_is_sound, law_old_paper_is_sound, law_opened_paper_is_sound, law_paper_is_sound,
-    law_sound_is_store,
+    law_forgotten_agree, law_kept_paper_is_sound, law_old_paper_is_sound,
+    law_opened_paper_is_sound, law_paper_is_sound, law_sound_is_store, law_values_alike,
 };
 pub use phases::law_phases_are_seen;
 
 // What crates above name of the laws below, beside what `specs/Below.antt` shows.
+pub use fkv_opening::law_opens_alike;
 pub use fkv_pairs::law_chain_of_entry;

@@ -1,5 +1,6 @@
 mod AttemptSits
 pub mod Changes
+pub mod GoneTold
 pub mod Permitted
 mod KeeperKeeps
 mod KeeperParts

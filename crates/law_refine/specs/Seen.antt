@@ -1,2 +1,3 @@
+pub mod Floors
 pub mod Laws
 pub mod Ops

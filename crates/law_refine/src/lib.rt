@@ -25,12 +25,12 @@ pub use records::{
     law_stands_show_log,
 };
 pub use results::law_world_results;
-pub use seen::{law_calls_in_hand, law_world_seen_rises};
+pub use seen::{law_calls_in_hand, law_world_floors, law_world_seen_rises};
 
 // What crates above name of the laws below, beside what `specs/Below.antt` shows.
 pub use law_world::{
-    law_copied, law_gates, law_mail, law_of_kept_slots, law_of_the_past, law_seen, law_world_cuts,
-    law_world_effects, law_world_ends, law_world_flushed, law_world_flushed_is_synced,
-    law_world_is_guarded, law_world_once, law_world_one_commit_stands, law_world_replies,
-    law_world_requests, law_world_sessions, law_world_slots,
+    law_copied, law_gates, law_mail, law_of_kept_slots, law_of_the_past, law_seen, law_world_begin,
+    law_world_cuts, law_world_effects, law_world_ends, law_world_flushed,
+    law_world_flushed_is_synced, law_world_is_guarded, law_world_once, law_world_one_commit_stands,
+    law_world_replies, law_world_requests, law_world_sessions, law_world_slots,
 };

@@ -26,7 +26,7 @@ use Rattle.law_order.proofs.Below.law_world.OfRuns.Added.{trace_so}
 use Rattle.law_order.specs.Below.law_opening.Lives.Reaching.{ReachesFar}
 use Rattle.law_order.specs.OneHistory.EachLife.{InEachLife, IsLife}
 use Rattle.law_order.specs.Prefix.Durable.{ToldNeverFalls}
-use Rattle.law_order.specs.Prefix.Law.{HoldsPrefix, IsKeptOf, PrefixLaw, RecoversPrefix, TellsDurable, calls_so_far, past_so_far, trace_so_far}
+use Rattle.law_order.specs.Prefix.Law.{HoldsPrefix, IsKeptOf, MayBeFound, PrefixLaw, RecoversPrefix, TellsDurable, calls_so_far, past_so_far, trace_so_far}
 use Rattle.law_order.proofs.Below.law_refine.OfCalls.Called.{is_other}
 use Rattle.law_order.proofs.Below.law_refine.OfCalls.InHand.{WasOpened, was_opened}
 use Rattle.fkv_table.specs.declared.happenings.Happening.{Happening}
@@ -178,11 +178,11 @@ module _ {K : Type 0} (at : K → World) (key : K) (o : Opened) (n : Now) (bytes
       older_at_most _ x (record { point = serial.0; finished = finishes_at_call number called_so }) (points_told number called_so) (points_told number (trace_at its.behind)) (law number is_session)
       (ap (points_told number) so ∙ own_points number its_telling.effects serial its_telling.finished called_so) there
 
-  pub recovered_at : (later : List Happening) → RecoversPrefix o n bytes (events_of later ++ events_of its.behind) → ReachesFar bytes → (image : List ℕ) (r : Opened) → MayLeave bytes (calls_so_far n bytes (events_of (later ++ its.behind))) image → IsStoreOf image r
+  pub recovered_at : (later : List Happening) → RecoversPrefix o n bytes (events_of later ++ events_of its.behind) → ReachesFar bytes → (image : List ℕ) (r : Opened) → MayBeFound bytes (calls_so_far n bytes (events_of (later ++ its.behind))) image → IsStoreOf image r
       → serial.0 ≤ point_of r.points.items number
   recovered_at later law far image r left store =
       let both : events_of (later ++ its.behind) ≡ events_of later ++ events_of its.behind = events_both later its.behind in
-      let held : HoldsPrefix o n bytes (events_of later ++ events_of its.behind) image = law far image (subst (λ (es : List Event). MayLeave bytes (calls_so_far n bytes es) image) both left) in
+      let held : HoldsPrefix o n bytes (events_of later ++ events_of its.behind) image = law far image (subst (λ (es : List Event). MayBeFound bytes (calls_so_far n bytes es) image) both left) in
       let kept : IsKeptOf o n bytes (events_of later ++ events_of its.behind) held.commit image r = held.each r store in
       let behind = trace_behind opening later (events_of its.behind) in
       let there : IsIn point (points_told number (run opening (events_of later ++ events_of its.behind)).past.trace) = subst (λ (x : List Traced). IsIn point (points_told number x)) (sym behind.whole) (points_more number point behind.later _ is_there) in

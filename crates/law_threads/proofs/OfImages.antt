@@ -50,10 +50,10 @@ module _ {K : Type 0} (at : K → World) (key : K) (o : Opened) (n : Now) (bytes
       subst (λ (opened : List ℕ). MayLeave opened (calls_so_far n bytes (events_of es)) image) (opened_stays (beginning n bytes) (events_of es)) here
 
 pub recovers_within : {K : Type 0} (at : K → World) (key : K) (seen seen' : List Happening) → PrefixLaw → AreAllowed (plane at) seen' → RecoversWithin at key seen seen'
-recovers_within at key seen seen' prefix may o n bytes over within far image its =
+recovers_within at key seen seen' prefix may o n bytes over within far image found its agrees =
     let both : events_of seen' ≡ events_of its.to.0 ++ events_of its.now = ap events_of its.to.1 ∙ events_both its.to.0 its.now in
     let here : IsWithin o n bytes (events_of its.now) = within_before o n bytes (events_of its.to.0) (events_of its.now) (subst (λ (es : List Event). IsWithin o n bytes es) both within) in
     let life : Life = record { bytes = bytes; opened = o; world = n; events = events_of its.now } in
     let may_now : AreAllowed (plane at) its.now = allowed_last (plane at) its.to.0 its.now (subst (AreAllowed (plane at)) its.to.1 may) in
     let is : IsLife life = record { store = over.store; begins = over.begins; fits = calls_fit at its.now may_now; few = here } in
-    record { now = its.now; from = its.from; to = its.to; holds = prefix.recovered life is far image (left_so at key o n bytes over its.now image its.left) }
+    record { now = its.now; from = its.from; to = its.to; holds = prefix.recovered life is far found (record { image = image; left = left_so at key o n bytes over its.now image its.left; agrees = agrees }) }

@@ -1,7 +1,6 @@
 -- What a session was told as durable.
 use Rattle.std.specs.Prelude.{◌≡◌, ◌≤◌, ℕ, List, ◌++◌}
 use Rattle.fkv_base.specs.declared.numbers.Serial.{Serial}
-use Rattle.fkv_disk.specs.Calls.{MayLeave}
 use Rattle.fkv_map.specs.History.{point_of}
 use Rattle.law_order.specs.Below.fkv_opening.Opened.{IsStoreOf}
 use Rattle.law_order.specs.Below.fkv_opening.TheOpened.{Opened}
@@ -12,7 +11,7 @@ use Rattle.law_order.specs.Below.fkv_world.World.{Now}
 use Rattle.law_order.specs.Below.law_commit.ToldPoints.{ToldPoint, finishes_told}
 use Rattle.law_log.specs.Trace.{IsIn}
 use Rattle.law_order.specs.Below.law_opening.Lives.Reaching.{ReachesFar}
-use Rattle.law_order.specs.Prefix.Law.{IsToldDurable, calls_so_far, past_so_far, trace_so_far}
+use Rattle.law_order.specs.Prefix.Law.{IsToldDurable, MayBeFound, calls_so_far, past_so_far, trace_so_far}
 use Rattle.fkv_table.specs.declared.happenings.Happening.{Happening}
 use Rattle.fkv_table.specs.Planes.{plane}
 use Rattle.law_threads.specs.Calls.{CallRun, events_of}
@@ -33,9 +32,9 @@ abbrev pub ItsDurableNeverFalls : Opened → Now → List ℕ → CallRun → Ty
 ItsDurableNeverFalls o n bytes its = (serial : Serial) → its.answer ≡ Durable serial
     → (told : ToldPoint) → IsIn told ((past_so_far n bytes (events_of its.before)).told its.number) → told.point ≤ serial.0
 
--- Each image that a crash may leave then or later recovers a point of the session at or above it, if the life began with an image that reaches far and keeps to
+-- Each image that may be found behind a crash then or later recovers a point of the session at or above it, if the life began with an image that reaches far and keeps to
 -- the premise of the law of prefixes. Later the list has more events that may stand there.
 abbrev pub RecoversItsDurable : {K : Type 0} → (K → World) → Opened → Now → List ℕ → CallRun → Type 0
 RecoversItsDurable at o n bytes its = (serial : Serial) → its.answer ≡ Durable serial → ReachesFar bytes
-    → (later : List Happening) (image : List ℕ) (r : Opened) → AreAllowed (plane at) later → IsWithin o n bytes (events_of (later ++ its.behind)) → MayLeave bytes (calls_so_far n bytes (events_of (later ++ its.behind))) image → IsStoreOf image r
+    → (later : List Happening) (image : List ℕ) (r : Opened) → AreAllowed (plane at) later → IsWithin o n bytes (events_of (later ++ its.behind)) → MayBeFound bytes (calls_so_far n bytes (events_of (later ++ its.behind))) image → IsStoreOf image r
     → serial.0 ≤ point_of r.points.items its.number

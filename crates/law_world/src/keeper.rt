@@ -7,6 +7,7 @@ ghost use Rattle.fkv_keeper.specs.KeeperLaws.{CopiesAgain, IsBrokenForGood, IsFi
 ghost use Rattle.fkv_keeper.specs.KeeperRun.{KeeperEvent, has_failed, is_calling, number_open};
 ghost use Rattle.fkv_keeper.specs.Keeping.{come_to};
 ghost use Rattle.fkv_keeper.specs.LastCommits.{slot_place};
+ghost use Rattle.fkv_keeper.specs.SlotLaws.{BeginsAt};
 ghost use Rattle.fkv_keeper.specs.declared.answers.KeeperTold.TheVariants.{TurnRefused, Turned};
 ghost use Rattle.fkv_keeper.specs.declared.keepers.Keeping.TheVariants.{Ended, Finishes, Waits, Writes};
 ghost use Rattle.fkv_manifest.specs.Kept.{Begins, NewStands};
@@ -69,6 +70,12 @@ pub fn law_world_checkpoints()
         → ChangesItsWords opening.now.shape opening.now.places (run opening events).now.keeper }
     ensures durable { (opening : World) (events : List Event) → IsOpenedWorld opening
         → SparesDurable opening.now.shape opening.now.places (run opening events).now.keeper }
+{}
+
+/// Nothing moves the log's begin. At each moment of a life it is the opening's: for the newest finished commit, for the one in hand, and where mailboxes
+/// are served. No read for a mailbox is below it.
+pub fn law_world_begin()
+    ensures { (opening : World) (events : List Event) → IsOpenedWorld opening → BeginsAt opening.now.keeper.last.begin (run opening events).now.keeper }
 {}
 
 /// Over every life of a store of which the keeper was told the truth, as long as each commit that begins has the number behind the newest finished

@@ -19,7 +19,9 @@ pub use guarded::{
     law_world_once, law_world_permitted, law_world_places, law_world_seen, law_world_sleepers,
     law_world_slots,
 };
-pub use keeper::{law_world_checkpoints, law_world_keeper, law_world_one_commit_stands};
+pub use keeper::{
+    law_world_begin, law_world_checkpoints, law_world_keeper, law_world_one_commit_stands,
+};
 pub use runs::{
     law_of_a_crash, law_of_ends, law_of_lives, law_of_nothing_to_do, law_of_one_word,
     law_of_others, law_of_own_events, law_of_own_runs, law_of_slots, law_of_starts,

@@ -212,7 +212,7 @@ pub fn law_world_told()
         → session_events opening session events ≡ event ∷ before
         → Ends (seat_at opening.now session) first event before told
         → op_called (seat_at opening.now session) first (event ∷ before) ≡ Some op
-        → IsTrueOf (trial_of (seat_at opening.now session) buckets its.seen op) (told_in (asked_in_call (seat_at opening.now session) first (event ∷ before))) told }
+        → IsTrueOf (trial_of (seat_at opening.now session) buckets its.seen its.floor op) (told_in (asked_in_call (seat_at opening.now session) first (event ∷ before))) told }
     ensures kinds { (opening : World) (events : List Event) (session : ℕ) (first its : SessionState) (event : SessionEvent) (before : List SessionEvent) (told : Told) → HasBecome opening events session first its
         → session_events opening session events ≡ event ∷ before
         → HasItsBuckets (seat_at opening.now session)

@@ -77,7 +77,15 @@ each_opened one other (suc (suc more)) its found = cc
 
 pub world_opened : (its : KeeperState) (one other : SessionState) → IsOpenedWorld (opened_world shape places its one other)
 unfolding places shape
-world_opened its one other = record { goes_on = refl; no_history = refl; no_trace = refl; no_calls = refl; seats = refl; keeper = record { none_in_hand = refl; no_commit = refl; none_rest = refl; works = refl }; sessions = each_opened one other }
+world_opened its one other = record {
+  goes_on = refl;
+  no_history = refl;
+  no_trace = refl;
+  no_calls = refl;
+  seats = refl;
+  keeper = record { none_in_hand = refl; no_commit = refl; none_rest = refl; works = refl; turns_rest = refl; serves_from = refl };
+  sessions = each_opened one other;
+}
 
 under_two : (one other : SessionState) (number : ℕ) (its : SessionState) → slice_get (first_session one ∷ first_session other ∷ []) number ≡ Some its → number < 2
 under_two one other zero its found = omega arith
@@ -114,7 +122,7 @@ guard_opened its one other = record {
   seats = under_two one other;
   sessions = each_opened one other;
   seen = each_saw one other;
-  keeper = record { none_in_hand = refl; no_commit = refl; none_rest = refl; works = refl };
+  keeper = record { none_in_hand = refl; no_commit = refl; none_rest = refl; works = refl; turns_rest = refl; serves_from = refl };
   finishes = refl;
 }
 

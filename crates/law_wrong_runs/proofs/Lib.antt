@@ -2,6 +2,7 @@ mod Computed
 mod OfGuard
 mod Lives
 mod OfCommits
+mod OfGone
 mod OfPrefixes
 mod NewBytes
 mod Gated

@@ -4,6 +4,7 @@ use Rattle.law_order.specs.Below.fkv_session.Sessions.{SessionState}
 use Rattle.law_wrong_runs.specs.WrongLives.{AreWrongLives}
 use Rattle.law_order.proofs.OfOneHistory.WorkedShape.{places, shape}
 use Rattle.law_wrong_runs.proofs.Computed.{guard_opened, is_fixed, is_fuzzy, places_fit, right_copied, right_in_place, world_opened, wrong_copied, wrong_in_place, wrong_stale}
+use Rattle.law_wrong_runs.proofs.OfGone.{right_gone, wrong_gone}
 use Rattle.law_wrong_runs.proofs.OfGuard.{right_refused, slot_armed, slot_claimed, wrong_change, wrong_early, wrong_refused, wrong_unclosed, wrong_untold, wrong_woken}
 
 pub wrong_lives : (its : KeeperState) (one other : SessionState) → AreWrongLives its one other
@@ -26,6 +27,8 @@ wrong_lives its one other = record {
   unclosed = wrong_unclosed its one other;
   woken = wrong_woken its one other;
   woken_changes = wrong_change its one other;
+  gone = wrong_gone its one other;
+  gone_right = right_gone its one other;
   armed = slot_armed its one other;
   claimed = slot_claimed its one other;
   early = wrong_early its one other;

@@ -91,7 +91,17 @@ abbrev pub no_points : List Serial
 no_points = record { 0 = 0 } ∷ record { 0 = 0 } ∷ []
 
 abbrev pub said : SlotSaid
-said = record { number = 1; first = record { 0 = 2 }; end = record { 0 = 2 }; triples = 0; area = 1; points = no_points; checkpoint = 1; lost = [] }
+said = record {
+  number = 1;
+  first = record { 0 = 2 };
+  end = record { 0 = 2 };
+  triples = 0;
+  area = 1;
+  points = no_points;
+  checkpoint = 1;
+  lost = [];
+  begin = record { 0 = 1 };
+}
 
 -- a commit by its number and its points
 abbrev pub said_of : BegunCommit → ℕ × List Serial

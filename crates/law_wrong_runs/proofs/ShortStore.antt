@@ -17,7 +17,8 @@ use Rattle.fkv_opening.specs.Lost.{AreInHand}
 use Rattle.fkv_opening.specs.Opened.{IsStoreOf, Tells}
 use Rattle.fkv_opening.specs.declared.opened_store.Opened.{Opened}
 use Rattle.fkv_opening.proofs.Shown.{Apart, nothing_warm, one_log, room_in_ring, same_shape, same_slot}
-use Rattle.fkv_record.specs.Manifest.{manifest_bytes, newest_bytes, third_numbers}
+use Rattle.fkv_record.proofs.Shown.{third_spelled}
+use Rattle.fkv_record.specs.Manifest.{manifest_bytes, newest_bytes}
 use Rattle.fkv_record.specs.Places.{open_number}
 use Rattle.fkv_record.specs.Points.{serial_numbers}
 use Rattle.fkv_record.specs.declared.formats.Format.TheVariants as format
@@ -52,17 +53,18 @@ its_slot = record {
   points = its_points;
   checkpoint = 1;
   lost = record { ranges = record { items = [] }; few_ranges = omega arith };
+  begin = record { 0 = 1 };
   number_fits = omega arith;
   first_fits = omega arith;
   end_fits = omega arith;
   triples_fit = omega arith;
   area_fits = omega arith;
   checkpoint_fits = omega arith;
+  begin_fits = omega arith;
 }
 
 spelled : manifest_bytes (format.Third, its_slot) ≡ Some (newest_bytes said)
-unfolding manifest_bytes newest_bytes third_numbers
-spelled = refl
+spelled = sym (third_spelled its_slot refl)
 
 third_only : format.Third ≡ format.First → ⊥
 third_only e = cc
@@ -72,6 +74,7 @@ unfolding shape
 suits = record {
   number = record { few = omega arith; parity = refl };
   log = record { some = omega arith; upwards = omega arith; on_disk = omega arith };
+  begin = record { some = omega arith; before_scan = omega arith; whole = λ specified. (refl, λ fourth. cc) };
   checkpoint = record { few = omega arith; area = omega arith; own_area = λ first. absurd (third_only first); no_newer = omega arith; in_window = window_small shape.class 1 1 (omega arith) };
   sessions = refl;
   lost = record { each = λ k d below. absurd (omega (arith, below)); rising = λ i j d above in_list. absurd (omega (arith, in_list)) };
@@ -158,6 +161,7 @@ module _ (image : List ℕ) (o : Opened) (new : IsNewStore shape o) where
   short_store = record {
     shape = o.shape;
     number = record { 0 = 1 };
+    begin = record { 0 = 1 };
     tail = record { 0 = 2 };
     points = o.points;
     gates = (is_some (open_number (slot_in image 512)), is_some (open_number (slot_in image 1024)));
@@ -172,11 +176,15 @@ module _ (image : List ℕ) (o : Opened) (new : IsNewStore shape o) where
     some_tail = omega arith;
     tail_on_disk = on_disk;
     some_warm = omega arith;
+    warm_from_begin = omega arith;
     warm_in_log = omega arith;
     warm_in_ring = room_in_ring o.shape 2;
     three_words = no_frames;
     each_session = o.each_session;
     small_points = o.small_points;
+    some_begin = omega arith;
+    begin_before_scan = omega arith;
+    whole = λ specified. refl;
     some_first = omega arith;
     upwards = omega arith;
     few_triples = omega arith;
@@ -185,7 +193,19 @@ module _ (image : List ℕ) (o : Opened) (new : IsNewStore shape o) where
   }
 
   tells : Tells (newest_said image) short_store
-  tells = record { shape = new.its_shape; number = refl; tail = refl; points = points_are; gate_0 = refl; gate_1 = refl; checkpoint = refl; first = refl; triples = refl; area = refl }
+  tells = record {
+    shape = new.its_shape;
+    number = refl;
+    begin = refl;
+    tail = refl;
+    points = points_are;
+    gate_0 = refl;
+    gate_1 = refl;
+    checkpoint = refl;
+    first = refl;
+    triples = refl;
+    area = refl;
+  }
 
   pub is_store : IsNewestOf image (newest_said image) → IsStoreOf image short_store
   is_store told = record {

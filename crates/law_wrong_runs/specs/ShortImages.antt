@@ -76,6 +76,7 @@ abbrev pub with_first_commit : KeeperState → KeeperState
 with_first_commit k = record k {
   last = record {
     number = record { 0 = 0 };
+    begin = record { 0 = 1 };
     points = record { 0 = 0 } ∷ record { 0 = 0 } ∷ [];
     checkpoint = record { number = record { 0 = 0 }; first = record { 0 = 1 }; triples = 0; area = First };
     gates = (true, false);

@@ -1,11 +1,15 @@
 -- Lives in which a row of one machine's table is wrong.
-use Rattle.std.specs.Prelude.{ℕ, ◌+◌, ◌-◌, nat_le, if◌then◌else◌, true, List, [], ◌∷◌, ◌++◌, slice_get, slice_set, Option, Some, None}
+use Rattle.std.specs.Prelude.{ℕ, ◌+◌, ◌-◌, ◌^◌, nat_le, if◌then◌else◌, true, List, [], ◌∷◌, ◌++◌, slice_get, slice_set, Option, Some, None}
 use Rattle.fkv_base.specs.declared.faults.Fault.TheVariants.{Asleep, LogFull}
 use Rattle.law_order.specs.Below.fkv_commit.Commit.{Commit}
 use Rattle.fkv_epoch.specs.EpochWorld as epochs
 use Rattle.fkv_epoch.specs.EpochWorld.{EpochMachine}
 use Rattle.fkv_epoch.specs.declared.claiming.Claiming.{Claiming}
 use Rattle.fkv_epoch.specs.declared.claiming.Claiming.TheVariants.{LoadsSafe, MeetsSlot, TakesSlot}
+use Rattle.fkv_map.specs.Keys.{key_of}
+use Rattle.fkv_map.specs.Map.{absent_word}
+use Rattle.law_order.specs.Below.fkv_flush.TheServing.{Serving}
+use Rattle.law_order.specs.Below.fkv_flush.TheServing.TheVariants.{LoadsAddress}
 use Rattle.law_order.specs.Below.fkv_flush.GuardWorld as guard
 use Rattle.law_order.specs.Below.fkv_flush.GuardWorld.{Actor, GuardEvent, GuardNow, GuardWorld, guard_happens}
 use Rattle.fkv_base.specs.declared.shapes.Shape.{Shape}
@@ -16,13 +20,18 @@ use Rattle.law_order.specs.Below.fkv_keeper.TheKeeping.TheVariants as keeping
 use Rattle.law_order.specs.Below.fkv_log.TheTurning.{Turning}
 use Rattle.law_order.specs.Below.fkv_log.TheTurning.TheVariants.{LoadsClosed, RaisesLimit}
 use Rattle.law_order.specs.Below.fkv_maintain.TheMaintaining.{Maintaining}
-use Rattle.law_order.specs.Below.fkv_maintain.TheMaintaining.TheVariants.{Claims, Turns}
+use Rattle.law_order.specs.Below.fkv_maintain.TheMaintaining.TheVariants.{Claims, Serves, Turns}
 use Rattle.law_order.specs.Below.fkv_maintain.Maintaining.{MaintainState}
 use Rattle.law_order.specs.Below.fkv_ops.Seen.{Seen}
 use Rattle.law_order.specs.Below.fkv_ops.TheTrying.{Trying}
 use Rattle.law_order.specs.Below.fkv_ops.TheTrying.TheVariants as trying
 use Rattle.law_order.specs.Below.fkv_ops.OldValue.TheVariants.{InMemory}
 use Rattle.law_order.specs.Below.fkv_ops.Trying.{TryState, changes, copies_from}
+use Rattle.law_order.specs.Below.fkv_pending.Attempting.{AttemptState}
+use Rattle.law_order.specs.Below.fkv_pending.MailAnswer.TheVariants.{Taken}
+use Rattle.law_order.specs.Below.fkv_pending.Mailing.{is_gone}
+use Rattle.law_order.specs.Below.fkv_pending.TheMailing.{Mailing}
+use Rattle.law_order.specs.Below.fkv_pending.TheMailing.TheVariants.{StoresEmpty}
 use Rattle.law_order.specs.Below.fkv_session.Told.TheVariants.{Absent, Done, Durable, Found, Refused}
 use Rattle.law_order.specs.Below.fkv_session.CatchCause.TheVariants.{Wakes}
 use Rattle.law_order.specs.Below.fkv_session.Sitting.{Sitting}
@@ -169,6 +178,27 @@ action_is_claimed_early = of_keeper (λ was s. with_maintain s (claimed_early wa
 abbrev pub machine_claims_early : EpochMachine → EpochMachine → EpochMachine
 machine_claims_early (epochs.Claims was) (epochs.Claims step) = epochs.Claims (claims_early was step)
 machine_claims_early was machine = machine
+
+-- ---- tables of a begin that rises
+-- where a record is asked for, the log's begin has risen to address 4, as that of no specified store does
+abbrev pub risen_at : MaintainState → Maintaining → Serving → MaintainState
+risen_at m Serves (LoadsAddress session) = record m { begin = record { 0 = 4 } }
+risen_at m step serving = m
+
+abbrev pub rises : KeeperState → KeeperState
+rises s = with_maintain s (risen_at s.maintain s.maintain.step s.maintain.serving)
+
+abbrev pub begin_rises : Tables
+begin_rises = of_keeper (λ was s. rises s)
+
+-- and a session takes a record that is gone for one of its key without a value
+abbrev pub taken_as_absent : AttemptState → Mailing → AttemptState
+taken_as_absent a (StoresEmpty (Taken its)) =
+    if is_gone its then record a { mailing = StoresEmpty (Taken (record { header = 2 ^ 48; key = key_of a.pending.request.op; value = absent_word })) } else a
+taken_as_absent a step = a
+
+abbrev pub gone_is_absent : Tables
+gone_is_absent = record { session = λ was s. record s { attempt = taken_as_absent s.attempt s.attempt.mailing }; keeper = λ was s. rises s }
 
 -- ---- tables of commits
 -- who asks what is durable is told its last serial

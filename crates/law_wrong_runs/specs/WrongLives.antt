@@ -6,6 +6,7 @@ use Rattle.fkv_epoch.specs.EpochWorld.{Claimed, drain_word}
 use Rattle.fkv_epoch.specs.Once.{Among}
 use Rattle.law_order.specs.Below.fkv_flush.GuardLevels.{Levels, levels_of}
 use Rattle.law_order.specs.Below.fkv_flush.GuardWorld.{GuardWorld}
+use Rattle.law_order.specs.Below.fkv_maintain.TheMaintaining.TheVariants.{Through}
 use Rattle.law_order.specs.Below.fkv_keeper.KeeperTold.TheVariants.{Turned}
 use Rattle.law_order.specs.Below.fkv_keeper.TheKeeping.TheVariants as keeping
 use Rattle.law_order.specs.Below.fkv_keeper.Keeping.{KeeperState}
@@ -30,7 +31,7 @@ use Rattle.law_order.specs.Below.law_world.Guarded.LoadedSince.{HaveLoadedSince}
 use Rattle.law_order.specs.Below.law_world.Guarded.Shows as guard
 use Rattle.law_order.specs.Below.law_refine.Events.Lines.{lines_of}
 use Rattle.law_order.specs.Below.law_refine.Events.Worked.{first_world, gives_8}
-use Rattle.law_wrong_runs.specs.Tables.{Tables, action_is_claimed_early, add_copies_in_fuzzy_region, durable_is_refused, effect_is_told_to_nobody, guard_run_by, in_place_below_seen_read_only, machine_claims_early, mapped_by, page_opens_unclosed, read_gives_opening_state, run_by, wake_keeps_offsets}
+use Rattle.law_wrong_runs.specs.Tables.{Tables, action_is_claimed_early, add_copies_in_fuzzy_region, begin_rises, durable_is_refused, effect_is_told_to_nobody, gone_is_absent, guard_run_by, in_place_below_seen_read_only, machine_claims_early, mapped_by, page_opens_unclosed, read_gives_opening_state, run_by, wake_keeps_offsets}
 
 -- ---- what a life leaves
 -- its history is legal from an empty map
@@ -53,9 +54,19 @@ IsNewestOfKind its (it ∷ before) = IsOfKind its it.its
 abbrev pub LeavesOfKind : Call → World → Type 0
 LeavesOfKind its w = IsNewestOfKind its (answers_of 1 w.past.trace)
 
--- ---- the beginning: a specified store of two sessions that was just opened, whose keeper has no call and no commit in hand, and finishes commits for both
+-- ---- the beginning: a specified store of two sessions that was just opened, whose log begins at 1
+-- its keeper has no call, no commit and no part of a turn in hand, and finishes commits for both sessions
 abbrev pub idle : KeeperState → KeeperState
-idle k = record k { start = record k.start { asked = record k.start.asked { class = Specified } }; commit = None; is_broken = false; rests = false; finish = record k.finish { sessions = 2 }; step = keeping.Ended (Turned false false) }
+idle k = record k {
+  start = record k.start { asked = record k.start.asked { class = Specified } };
+  commit = None;
+  is_broken = false;
+  rests = false;
+  last = record k.last { begin = record { 0 = 1 } };
+  maintain = record k.maintain { begin = record { 0 = 1 }; step = Through };
+  finish = record k.finish { sessions = 2 };
+  step = keeping.Ended (Turned false false);
+}
 
 abbrev pub opened_world : Shape → Places → KeeperState → SessionState → SessionState → World
 opened_world shape places keeper one other = first_world shape places (idle keeper) one other
@@ -116,6 +127,24 @@ woken_begun = replicate 3 (Moves 1) ++ Calls 1 (call.Op gives_8) ∷ (replicate 
 abbrev pub early_begun : List Event
 early_begun = replicate 6 (KeeperMoves true true) ++ Turns ∷ shifted_events
 
+-- ---- a read whose record is gone
+-- both sessions go by the begin of the log
+abbrev pub with_floor : SessionState → SessionState
+with_floor s = record s { floor = record { 0 = 1 } }
+
+abbrev pub floored_world : Shape → Places → KeeperState → SessionState → SessionState → World
+floored_world shape places keeper one other = opened_world shape places keeper (with_floor one) (with_floor other)
+
+-- Session 1 reads, and waits for the record, which is below the head. Then session 0 gives the key 8 by the record at address 4.
+abbrev pub waiting_events : List Event
+waiting_events = replicate 14 (Moves 0) ++ Calls 0 (call.Op gives_8) ∷ (replicate 12 (Moves 1) ++ Calls 1 (call.Op (Read (record { 0 = 5 }))) ∷ fixed_begun)
+
+-- A turn of the keeper tells that the record is gone, and session 1 polls twice.
+abbrev pub gone_events : List Event
+gone_events =
+    replicate 12 (Moves 1) ++ Calls 1 call.Poll
+    ∷ (replicate 12 (Moves 1) ++ Calls 1 call.Poll ∷ (replicate 80 (KeeperMoves true true) ++ Turns ∷ waiting_events))
+
 -- ---- the guard beside a life
 -- it has the life's words
 pub record IsBeside (n : Now) (w : GuardWorld) : Type 0 where
@@ -144,7 +173,8 @@ levels_after opening events = levels_of (run opening events).now.words
 -- effect is told as refused, the history doesn't order the calls. Where a session that asks what is durable is refused behind its ask, its answer isn't of that
 -- call's kind; by the right table it is. Where a page is opened without a look at the closed offset, what its frame held isn't flushed.
 -- Where a session that wakes keeps its old offsets, it writes a flushed record. Where an action is claimed one epoch early, its epoch was raised after sessions
--- loaded what they go by.
+-- loaded what they go by. Where a read takes a record that is gone for one of its key without a value, it is told that its key is absent, which isn't fresh; by
+-- the right table of sessions it finds the newer record.
 pub record AreWrongLives (keeper : KeeperState) (one other : SessionState) : Type 0 where
   pub shape : Shape
   pub places : Places
@@ -164,6 +194,8 @@ pub record AreWrongLives (keeper : KeeperState) (one other : SessionState) : Typ
   pub unclosed : FailsAt OpensNextPage page_opens_unclosed (opened_world shape places keeper one other) unclosed_begun (KeeperMoves true true)
   pub woken : FailsAt (λ n after w. WritesOpenPlaces n (Moves 1) w) wake_keeps_offsets (opened_world shape places keeper one other) woken_begun (Moves 1)
   pub woken_changes : FailsAt ChangesOpenPlaces wake_keeps_offsets (opened_world shape places keeper one other) woken_begun (Moves 1)
+  pub gone : LeavesFresh (run_by gone_is_absent (floored_world shape places keeper one other) gone_events) → ⊥
+  pub gone_right : LeavesFresh (run_by begin_rises (floored_world shape places keeper one other) gone_events)
   -- the slot's word is its epoch and 2, and 1 once its action is claimed
   pub armed : drain_word (run_by action_is_claimed_early (opened_world shape places keeper one other) early_begun).now.words 0 ≡ 3
   pub claimed : drain_word (run_by action_is_claimed_early (opened_world shape places keeper one other) (KeeperMoves true true ∷ early_begun)).now.words 0 ≡ 1

@@ -11,7 +11,8 @@ use law_opening::law_log_opened;
 /// histories by the right table. And a table by which a read is told what the store was opened with leads to a read that isn't fresh. An update that is
 /// told as refused behind its effect leaves calls without an order. A call that asks what is durable, and is refused behind its ask, isn't answered
 /// in its kind. A page that is opened without a look at the closed offset isn't flushed in its frame, a session that keeps its offsets as it wakes
-/// writes a flushed record, and an action that is claimed one epoch early isn't seen by each session.
+/// writes a flushed record, and an action that is claimed one epoch early isn't seen by each session. Where the log's begin rises above a record that a read
+/// waits for, the read is told that it is gone. If it takes that for a record of its key without a value, it isn't fresh; by the right table it is.
 pub fn law_of_wrong_lives()
     ensures { (keeper : said.KeeperState) (one other : said.SessionState) → said.AreWrongLives keeper one other }
 {}

@@ -355,6 +355,94 @@ pub const HOLDING: &[Case<'static>] = &[
     },
 ];
 
+/// Chains that lead below the floor.
+pub const BELOW: &[Case<'static>] = &[
+    // they have ended there: no record of the key
+    Case {
+        op: Op::Read(KEY),
+        read_only: 6,
+        head: 6,
+        floor: 6,
+        skips: 1,
+        asks: &[Ask::Done(TryAnswer::Absent)],
+        ..USUAL
+    },
+    Case {
+        op: Op::Add(KEY, 5),
+        read_only: 6,
+        head: 6,
+        floor: 6,
+        skips: 1,
+        asks: &[
+            Ask::Load(4),
+            Ask::Load(3),
+            Ask::Cas(3, 6, 7),
+            Ask::Store(84, 5),
+        ],
+        ..USUAL
+    },
+    // of an upsert the old value doesn't count
+    Case {
+        op: Op::Upsert(KEY, Value(11)),
+        read_only: 6,
+        head: 6,
+        floor: 6,
+        skips: 1,
+        asks: &[Ask::Load(4)],
+        ..USUAL
+    },
+    // behind a record in memory too
+    Case {
+        op: Op::Read(OLDER),
+        read_only: 5,
+        head: 5,
+        floor: 3,
+        skips: 3,
+        asks: &[Ask::Done(TryAnswer::Absent)],
+        ..USUAL
+    },
+    // and behind one that was held
+    Case {
+        op: Op::Add(KEY, 5),
+        held: Some(HeldRecord {
+            key: LACKING,
+            ..HELD
+        }),
+        read_only: 6,
+        head: 6,
+        floor: 3,
+        skips: 1,
+        asks: &[
+            Ask::Load(4),
+            Ask::Load(3),
+            Ask::Cas(3, 6, 7),
+            Ask::Store(84, 5),
+        ],
+        ..USUAL
+    },
+    // at the floor there is a record
+    Case {
+        op: Op::Read(KEY),
+        read_only: 6,
+        head: 6,
+        floor: 5,
+        skips: 1,
+        asks: &[Ask::Done(TryAnswer::AwaitsDisk(DiskRecord {
+            entry: ENTRY,
+            addr: Addr(5),
+        }))],
+        ..USUAL
+    },
+    // what lies in memory is met, wherever the floor is
+    Case {
+        op: Op::Read(KEY),
+        floor: 6,
+        skips: 3,
+        asks: &[Ask::Load(81), Ask::Done(TryAnswer::Found(Value(10)))],
+        ..USUAL
+    },
+];
+
 /// Reads.
 pub const READS: &[Case<'static>] = &[
     // in prepare and in the fuzzy region too, without a latch

@@ -89,24 +89,48 @@ const SERVED_NONE: &[(usize, u64)] = &[
     (STATE, 2),
 ];
 
+/// The words of a mailbox whose record lies below the begin, which is 5.
+const SERVED_GONE: &[(usize, u64)] = &[
+    (HEADER_WORD, 0),
+    (KEY_WORD, 5),
+    (VALUE_WORD, 0),
+    (STATE, 2),
+];
+
 /// It awaits the record of the entry, and has asked for it.
 const AWAITS: Wait = Wait {
-    sought: DiskRecord {
+    sought: Some(DiskRecord {
         entry: ENTRY,
         addr: Addr(4),
-    },
+    }),
     has_asked: true,
     held: None,
+    floor: Addr(1),
 };
 
 /// It awaits the record before that.
 const AWAITS_OLDER: Wait = Wait {
-    sought: DiskRecord {
+    sought: Some(DiskRecord {
         entry: ENTRY,
         addr: Addr(2),
-    },
+    }),
     has_asked: true,
     held: None,
+    floor: Addr(1),
+};
+
+/// It was told that the log begins at 5, so its record is gone.
+const GONE: Wait = Wait {
+    sought: None,
+    has_asked: false,
+    held: None,
+    floor: Addr(5),
+};
+
+/// The log began at 3 when it began.
+const AWAITS_FROM_THIRD: Wait = Wait {
+    floor: Addr(3),
+    ..AWAITS
 };
 
 /// What came is another key's.
@@ -191,7 +215,7 @@ const ADDED: &[Step<'static>] = &[
     },
 ];
 
-/// No life leads to it: a read whose call ended without a record to seek is tried again.
+/// A read that seeks no record is tried again.
 const SEEKS_NOTHING: &[Step<'static>] = &[Step {
     words: &[],
     occasion: Occasion::Poll,
@@ -318,6 +342,84 @@ const ANOTHER_ENTRY: &[Step<'static>] = &[Step {
     is_orphaned: false,
 }];
 
+/// The record of a read is gone, which tells nothing of the key.
+const IS_GONE: Step<'static> = Step {
+    words: SERVED_GONE,
+    occasion: Occasion::Poll,
+    asks: &[TAKES, &[Ask::Done(AWAITED)]],
+    left: Some(GONE),
+    is_orphaned: false,
+};
+
+/// A new record of the key, made of none.
+const MAKES: &[Ask<TryAnswer>] = &[
+    Ask::Load(SLOT),
+    Ask::Load(4),
+    Ask::Load(3),
+    Ask::Cas(3, 6, 7),
+    Ask::Store(84, 5),
+    Ask::Store(83, 3),
+    Ask::Store(82, 4 + 2 * ONE),
+    Ask::Cas(SLOT, ENTRY, 6 + 3 * ONE),
+    Ask::Done(TryAnswer::Done(Reply::Number(Value(5)))),
+];
+
+/// It is tried from its entry again: that leads below the begin, so the key is absent.
+const READ_GONE: &[Step<'static>] = &[
+    IS_GONE,
+    Step {
+        words: &[],
+        occasion: Occasion::Poll,
+        asks: &[&[Ask::Load(SLOT), Ask::Done(TryAnswer::Absent)]],
+        left: None,
+        is_orphaned: false,
+    },
+];
+
+/// While its mail was under way the key was kept by a new record.
+const READ_GONE_OF_A_KEPT_KEY: &[Step<'static>] = &[
+    IS_GONE,
+    Step {
+        words: &[(SLOT, 5 + 3 * ONE), (79, 4 + 2 * ONE), (80, 3), (81, 10)],
+        occasion: Occasion::Poll,
+        asks: &[&[
+            Ask::Load(SLOT),
+            Ask::Load(79),
+            Ask::Load(80),
+            Ask::Load(81),
+            Ask::Done(TryAnswer::Found(Value(10))),
+        ]],
+        left: None,
+        is_orphaned: false,
+    },
+];
+
+/// What it held is dropped too, and it is tried at once.
+const ADD_GONE: &[Step<'static>] = &[Step {
+    words: SERVED_GONE,
+    occasion: Occasion::Poll,
+    asks: &[TAKES, MAKES],
+    left: None,
+    is_orphaned: false,
+}];
+
+/// The record before the one that came lies below the floor: the chain has ended.
+const READ_ENDS_BELOW: &[Step<'static>] = &[Step {
+    words: SERVED_OTHER,
+    occasion: Occasion::Poll,
+    asks: &[TAKES, &[Ask::Done(TryAnswer::Absent)]],
+    left: None,
+    is_orphaned: false,
+}];
+
+const ADD_ENDS_BELOW: &[Step<'static>] = &[Step {
+    words: SERVED_OTHER,
+    occasion: Occasion::Poll,
+    asks: &[TAKES, MAKES],
+    left: None,
+    is_orphaned: false,
+}];
+
 pub const SCRIPTS: &[(Op, Option<Wait>, &[Step<'static>])] = &[
     (Op::Add(KEY, 5), None, ADDED),
     (Op::Read(KEY), None, SEEKS_NOTHING),
@@ -328,12 +430,24 @@ pub const SCRIPTS: &[(Op, Option<Wait>, &[Step<'static>])] = &[
     (
         Op::Add(KEY, 5),
         Some(Wait {
-            sought: DiskRecord {
+            sought: Some(DiskRecord {
                 entry: 3 + 3 * ONE,
                 addr: Addr(3),
-            },
+            }),
             ..AWAITS
         }),
         ANOTHER_ENTRY,
     ),
+    (Op::Read(KEY), Some(AWAITS), READ_GONE),
+    (Op::Read(KEY), Some(AWAITS_OLDER), READ_GONE_OF_A_KEPT_KEY),
+    (
+        Op::Add(KEY, 5),
+        Some(Wait {
+            held: Some(OTHER_HELD),
+            ..AWAITS_OLDER
+        }),
+        ADD_GONE,
+    ),
+    (Op::Read(KEY), Some(AWAITS_FROM_THIRD), READ_ENDS_BELOW),
+    (Op::Add(KEY, 5), Some(AWAITS_FROM_THIRD), ADD_ENDS_BELOW),
 ];

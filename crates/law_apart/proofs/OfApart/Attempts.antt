@@ -2,6 +2,7 @@
 use Rattle.std.proofs.Common.{◌≡◌, ◌⊎◌, inl, inr, ℕ, refl, sym, ap, ◌∙◌, subst, Bool, true, false, Option, Some, None}
 use Rattle.std.specs.Prelude.{◌==◌, ◌&&◌, if◌then◌else◌}
 use Rattle.std.specs.Option.{is_some}
+use Rattle.fkv_base.specs.declared.numbers.Addr.{Addr}
 use Rattle.fkv_map.specs.Keys.{key_of}
 use Rattle.fkv_plane.specs.declared.asks.Ask.{Ask}
 use Rattle.fkv_plane.specs.declared.asks.Ask.TheVariants.{Done}
@@ -18,6 +19,7 @@ use Rattle.law_local.specs.Below.fkv_ops.HeldRecord.{HeldRecord}
 use Rattle.law_local.specs.Below.fkv_ops.Occasion.{Occasion}
 use Rattle.law_local.specs.Below.fkv_ops.Seen.{Seen}
 use Rattle.law_local.specs.Below.fkv_ops.HeaderWords.{header_said}
+use Rattle.law_local.specs.Below.fkv_ops.Requests.{is_chain_end}
 use Rattle.law_local.specs.Below.fkv_ops.Trying.{TryState, is_prepare, told_value, try_ask, try_next}
 use Rattle.law_local.specs.Below.fkv_ops.Values.{value_of}
 use Rattle.law_local.specs.Below.fkv_pending.TheAttempting.{Attempting}
@@ -28,9 +30,9 @@ use Rattle.law_local.specs.Below.fkv_pending.MailRecord.{MailRecord}
 use Rattle.law_local.specs.Below.fkv_pending.MailTask.TheVariants.{Put, Take}
 use Rattle.law_local.specs.Below.fkv_pending.TheMailing.TheVariants.{LoadsState, StoresAddress}
 use Rattle.law_local.specs.Below.fkv_pending.PendingRequest.{PendingRequest}
-use Rattle.law_local.specs.Below.fkv_pending.Attempting.{AttemptState, attempt_begun, attempt_ended, attempt_next, attempting_next, awaits_record, goes_on, held_kept, held_of, is_seeking_read, leaves, look_ledto, moved_on, new_attempt, not_ready, put_ledto, puts, puts_addr, read_on, record_taken, tried, tries, try_ledto, waits_for_disk}
-use Rattle.law_local.specs.Below.fkv_pending.Mailing.{mail_ask, mail_next}
-use Rattle.law_local.specs.Below.fkv_pending.Pending.{with_asked, with_held, with_latch, with_sought}
+use Rattle.law_local.specs.Below.fkv_pending.Attempting.{AttemptState, attempt_begun, attempt_ended, attempt_next, attempting_next, awaits_record, goes_on, held_kept, held_of, is_seeking_read, leaves, look_ledto, mail_taken, goes_anew, moved_on, new_attempt, not_ready, put_ledto, puts, puts_addr, read_on, record_taken, tried, tries, try_ledto, waits_for_disk}
+use Rattle.law_local.specs.Below.fkv_pending.Mailing.{begin_told, is_gone, mail_ask, mail_next}
+use Rattle.law_local.specs.Below.fkv_pending.Pending.{with_asked, with_held, with_latch, with_sought, without_gone}
 use Rattle.law_local.specs.Tries.AttemptRows.{AttemptKnows, AttemptRow, IsTrueOfAttempt, TriesFor}
 use Rattle.law_local.specs.Tries.OnWay.{IsOrderly}
 use Rattle.law_local.specs.Tries.TryRows.{NoneIsLater, TryKnows, key_in}
@@ -55,6 +57,10 @@ module _ (home : ℕ → ℕ) (p : Places) (log : Log) where
   sought_apart : (pending : PendingRequest) (sought : Option DiskRecord) → Waits pending → Waits (with_sought pending sought)
   unfolding with_sought
   sought_apart pending sought its = its
+
+  gone_apart : (pending : PendingRequest) (begin : Addr) → Waits pending → Waits (without_gone pending begin)
+  unfolding without_gone
+  gone_apart pending begin its = its
 
   pub latch_apart : (pending : PendingRequest) (b : Bool) → (b ≡ true → NoneIsLater home log pending.request) → Waits (with_latch pending b)
   unfolding with_latch
@@ -83,21 +89,34 @@ module _ (home : ℕ → ℕ) (p : Places) (log : Log) where
   read_apart a its Spoiled pending = puts_apart a pending
   read_apart a its (Says previous version) pending =
       let on : AttemptState = record a { pending = with_sought a.pending (moved_on a.pending.sought previous) } in
-      let below : AttemptState = if previous.0 == 0 then attempt_ended a answer.Absent else puts on in
+      let below : AttemptState = if is_chain_end a.pending.request.floor previous then attempt_ended a answer.Absent else puts on in
       either_apart (its.key.0 == (key_of a.pending.request.op).0) (attempt_ended a (told_value (value_of its.value))) below pending
-      (either_apart (previous.0 == 0) (attempt_ended a answer.Absent) (puts on) pending (puts_apart on (sought_apart a.pending (moved_on a.pending.sought previous) pending)))
+      (either_apart (is_chain_end a.pending.request.floor previous) (attempt_ended a answer.Absent) (puts on) pending
+      (puts_apart on (sought_apart a.pending (moved_on a.pending.sought previous) pending)))
 
   taken_apart : (bits : ℕ) (a : AttemptState) (its : MailRecord) (said : HeaderSaid) → Waits a.pending → Apart (record_taken p bits a its said)
   taken_apart bits a its said pending =
       let holds : AttemptState = record a { pending = with_held a.pending (held_of a.pending.sought its said) } in
       either_apart (is_seeking_read a) (read_on a its said) (tries p bits holds) (read_apart a its said pending) (tries_apart bits holds (held_apart a.pending (held_of a.pending.sought its said) pending))
 
+  anew_apart : (bits : ℕ) (a : AttemptState) (begin : Addr) → Waits a.pending → Apart (goes_anew p bits a begin)
+  anew_apart bits a begin pending =
+      let its : AttemptState = record a { pending = without_gone a.pending begin } in
+      let waits : Waits its.pending = gone_apart a.pending begin pending in
+      either_apart (is_seeking_read a) (waits_for_disk its) (tries p bits its) waits (tries_apart bits its waits)
+
+  mail_apart : (bits : ℕ) (a : AttemptState) (its : MailRecord) → Waits a.pending → Apart (mail_taken p bits a its)
+  mail_apart bits a its pending =
+      either_apart (is_gone its) (goes_anew p bits a (begin_told its)) (record_taken p bits a its (header_said its.header))
+      (anew_apart bits a (begin_told its) pending) (taken_apart bits a its (header_said its.header) pending)
+
   waits_apart : (bits : ℕ) (a : AttemptState) → Waits a.pending → Apart (not_ready p bits a)
   waits_apart bits a pending = either_apart (is_seeking_read a) (waits_for_disk a) (tries p bits a) pending (tries_apart bits a pending)
 
   look_apart : (bits : ℕ) (a : AttemptState) (ask : Ask MailAnswer) → a.step ≡ Looks → Waits a.pending → Apart (look_ledto p bits a ask)
   unfolding look_ledto
-  look_apart bits a (Done (mail.Taken its)) at pending = taken_apart bits (record a { is_emptied = true; pending = with_asked a.pending false }) its (header_said its.header) (asked_apart a.pending false pending)
+  look_apart bits a (Done (mail.Taken its)) at pending =
+      mail_apart bits (record a { is_emptied = true; pending = with_asked a.pending false }) its (asked_apart a.pending false pending)
   look_apart bits a (Done other) at pending = waits_apart bits a pending
   look_apart bits a ask at pending = subst (AttemptApart home p log a) (sym at) pending
 

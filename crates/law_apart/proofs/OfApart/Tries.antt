@@ -1,7 +1,7 @@
 -- Each true reply leads a try on to what it has to know of versions.
 use Rattle.std.proofs.Common.{◌≡◌, ◌⊎◌, inl, inr, ℕ, ◌+◌, ◌<◌, ◌≤◌, ◌^◌, refl, sym, ap, ◌∙◌, subst, arith, Bool, true, false, Option, Some, None}
 use Rattle.std.proofs.lemmas.Bool.Decides.{nat_tests}
-use Rattle.std.specs.Prelude.{◌==◌, ◌&&◌, not, nat_lt, nat_le, if◌then◌else◌}
+use Rattle.std.specs.Prelude.{◌==◌, ◌&&◌, ◌||◌, not, nat_lt, nat_le, if◌then◌else◌}
 use Rattle.fkv_base.specs.declared.numbers.Addr.{Addr}
 use Rattle.fkv_base.specs.declared.numbers.Version.{Version}
 use Rattle.fkv_marks.specs.Marks.{mark}
@@ -59,7 +59,7 @@ use Rattle.law_local.specs.Below.fkv_ops.TheWalking.{Walking}
 use Rattle.law_local.specs.Below.fkv_ops.TheWalking.TheVariants as walking
 use Rattle.law_local.specs.Below.fkv_ops.Appending.{append_ask, append_next}
 use Rattle.law_local.specs.Below.fkv_ops.Bounds.{bounds_at, is_past_taken, is_past_tail}
-use Rattle.law_local.specs.Below.fkv_ops.Requests.{is_blind, is_read, purpose_at}
+use Rattle.law_local.specs.Below.fkv_ops.Requests.{is_blind, is_chain_end, is_read, purpose_at}
 use Rattle.law_local.specs.Below.fkv_ops.Trying.{TryState, answer_ledto, append_ledto, appends, awaits, changes, copies, copies_from, count_loaded, current_ledto, ended_without, ends, ends_by, ends_so, exclusive_dropped, exclusive_ledto, full_at, has_walked, held_used, is_above, is_bounded, is_marked, is_moving_on, is_next_marked, is_own_version, is_still_in, is_surely_own, latch_shared, phase_loaded, is_prepare, is_wait, met_disk, met_nowhere, met_record, must_count, must_shift, new_try, old_ledto, region_met, safe_loaded, shared_dropped, shared_ledto, tail_loaded, taken_loaded, takes_effect, told_value, try_ask, try_begun, try_next, trying_ask, trying_next, value_changed, walk_ledto, walked, walks, wants_exclusive, wants_shared, with_latch}
 use Rattle.law_local.specs.Below.fkv_ops.Values.{value_of}
 use Rattle.law_local.specs.Below.fkv_ops.Waiting.{told_of}
@@ -298,9 +298,14 @@ module _ (home : ℕ → ℕ) (log : Log) (p : Places) where
   unfolding held_used
   held_apart t addr None none = awaits_apart t addr none
   held_apart t addr (Some held) none =
-      either_apart (held.entry == t.walk.entry) (if held.key.0 == (key_of t.request.op).0 then copies p t (Known held.value) false else if held.previous.0 == 0 then copies p t (Known absent_word) false else awaits p t held.previous) (awaits p t addr)
-      (either_apart (held.key.0 == (key_of t.request.op).0) (copies p t (Known held.value) false) (if held.previous.0 == 0 then copies p t (Known absent_word) false else awaits p t held.previous) (anew_apart t (Known held.value) none)
-      (either_apart (held.previous.0 == 0) (copies p t (Known absent_word) false) (awaits p t held.previous) (anew_apart t (Known absent_word) none) (awaits_apart t held.previous none)))
+      either_apart (held.entry == t.walk.entry)
+      (if held.key.0 == (key_of t.request.op).0 then copies p t (Known held.value) false
+      else if is_chain_end t.request.floor held.previous then copies p t (Known absent_word) false else awaits p t held.previous) (awaits p t addr)
+      (either_apart (held.key.0 == (key_of t.request.op).0) (copies p t (Known held.value) false)
+      (if is_chain_end t.request.floor held.previous then copies p t (Known absent_word) false else awaits p t held.previous)
+      (anew_apart t (Known held.value) none)
+      (either_apart (is_chain_end t.request.floor held.previous) (copies p t (Known absent_word) false) (awaits p t held.previous)
+      (anew_apart t (Known absent_word) none) (awaits_apart t held.previous none)))
       (awaits_apart t addr none)
 
   nowhere_apart : (t : TryState) → SharesNone t → Apart (met_nowhere p t)
@@ -316,8 +321,12 @@ module _ (home : ℕ → ℕ) (log : Log) (p : Places) where
 
   disk_apart : (t : TryState) (addr : Addr) → SharesNone t → Apart (met_disk p t addr)
   disk_apart t addr none =
-      either_apart (is_read t.request.op) (awaits p t addr) (if is_blind t.request.op then copies p t (Known absent_word) false else held_used p t addr t.request.held) (awaits_apart t addr none)
-      (either_apart (is_blind t.request.op) (copies p t (Known absent_word) false) (held_used p t addr t.request.held) (anew_apart t (Known absent_word) none) (held_apart t addr t.request.held none))
+      let dead : Bool = is_chain_end t.request.floor addr in
+      let made : TryState = copies p t (Known absent_word) false in
+      let goes : TryState = held_used p t addr t.request.held in
+      either_apart (is_read t.request.op) (if dead then ends p t answer.Absent else awaits p t addr) (if is_blind t.request.op || dead then made else goes)
+      (either_apart dead (ends p t answer.Absent) (awaits p t addr) (ends_apart t answer.Absent (λ wait. none)) (awaits_apart t addr none))
+      (either_apart (is_blind t.request.op || dead) made goes (anew_apart t (Known absent_word) none) (held_apart t addr t.request.held none))
 
   changes_apart : (t : TryState) (addr : Addr) → SharesNone t → Apart (changes t addr)
   changes_apart t addr none =

@@ -249,7 +249,7 @@ module _ (last fails : Type 0) where
       shift_leads (record s { shift = shift_next shape s.shift reply }) (shift_next_ask shape s.shift reply) e (λ tail ends. spent (passes (shift_ask s.shift) answer.Through reply (shift_spent shape s.shift reply tail ends)))
   reply_at shape p s Turns reply e way spent =
       turn_leads shape (record s { turn = turn_next shape s.turn reply }) (turn_next_ask shape s.turn reply) e (λ ends. spent (passes (turn_ask shape s.turn) answer.Through reply (turn_spent shape s.turn reply ends)))
-  reply_at shape p s Serves reply e way spent = serve_led (record s { serving = serve_next shape.sessions s.serving reply }) (serve_ask (serve_next shape.sessions s.serving reply)) e
+  reply_at shape p s Serves reply e way spent = serve_led (record s { serving = serve_next shape.sessions s.begin.0 s.serving reply }) (serve_ask (serve_next shape.sessions s.begin.0 s.serving reply)) e
 
   pub maintain_replied : (shape : Shape) (p : Places) (s : MaintainState) (reply : ℕ) → IsUnderWay s.step → (LoadsLast (maintain_ask shape p s) reply → last) → HasComeTo last fails (maintain_next shape p s reply).step
   maintain_replied shape p s reply way spent = reply_at shape p s s.step reply refl way spent

@@ -69,7 +69,7 @@ not_log Log e log = cc
 started : (s t : KeeperState) (ask : Ask StartAnswer) → t.commit ≡ s.commit → IsCopiedFrom s (start_ledto t ask).commit
 unfolding start_ledto
 started s t (Done (start.Begun number first)) same = λ c is full is_copied.
-    let its : commit_begun number t.start.asked.kind first ≡ c = some_same (commit_begun number t.start.asked.kind first) c is in
+    let its : commit_begun number t.start.asked.kind t.last.begin first ≡ c = some_same (commit_begun number t.start.asked.kind t.last.begin first) c is in
     absurd (not_log t.start.asked.kind (ap (λ (x : Commit). x.kind) its ∙ full) (ap (λ (x : Commit). x.is_copied) its ∙ is_copied))
 started s t (Done (start.Refused why)) same = stays s t.commit same
 started s t (Done start.Idle) same = stays s t.commit same

@@ -29,7 +29,7 @@ use Rattle.law_refine.specs.Below.fkv_session.CatchCause.TheVariants.{Refreshes,
 use Rattle.law_refine.specs.Below.fkv_session.Sitting.{Sitting}
 use Rattle.law_refine.specs.Below.fkv_session.Sitting.TheVariants.{Idle, Attempts, CatchesUp, ClearsMail, Polls, StoresOwing, Turns, StoresCut, Leaves, LoadsDurable}
 use Rattle.law_refine.specs.Below.fkv_session.OwnTurns.{own_turn_given}
-use Rattle.law_refine.specs.Below.fkv_session.Sessions.{IsOpened, SessionState, Seat, accepts, answers, answers_after_turn, asks_after, attempt_ledto, attempt_left, attempt_moved, attempted, attempts, call_begun, catch_ledto, caught, caught_up, clear_ledto, finishes_request, is_busy, is_finished, is_full, is_owed, is_spent, is_word_ask, keeps_request, lacks_room, leave_ledto, op_begun, own_turn_moved, poll_begun, poll_call, poll_ledto, polls_at, polls_request, refresh_call, refusal_of, refuses, request_finished, serial_taken, session_ask, shifts, sitting_given, sitting_next, sleep_call, ticket_after, turn_ledto, update_done, wake_call, with_request, is_no_room}
+use Rattle.law_refine.specs.Below.fkv_session.Sessions.{IsOpened, SessionState, Seat, accepts, answers, answers_after_turn, asks_after, attempt_ledto, attempt_left, attempt_moved, attempted, attempts, call_begun, catch_ledto, caught, caught_up, clear_ledto, finishes_request, is_busy, is_finished, is_full, is_owed, is_spent, is_word_ask, keeps_request, lacks_room, leave_ledto, op_begun, own_turn_moved, poll_begun, poll_call, poll_ledto, poll_left, polls_at, polls_request, refresh_call, refusal_of, refuses, request_finished, serial_taken, session_ask, shifts, sitting_given, sitting_next, sleep_call, ticket_after, turn_ledto, update_done, wake_call, with_request, is_no_room}
 use Rattle.law_refine.specs.Below.fkv_session.SessionRun.{Begins, Gets, Replies, SessionEvent, begins, session_happens, session_run}
 
 -- an update in hand can take one more serial
@@ -148,7 +148,7 @@ keeps_fit k s i its low = polls_fit k (record s { requests = slice_set s.request
 poll_fits : (k : Seat) (s : SessionState) (i : ℕ) (ask : Ask TryAnswer) → s.step ≡ Polls i → s.serial ≤ last_serial → Fits (poll_ledto k s i ask)
 unfolding poll_ledto
 poll_fits k s i (Done its) at low =
-    either_fits (is_finished its) (finishes_request k (attempt_left s) i its) (keeps_request k (attempt_left s) i its) (λ yes. finishes_fit k (attempt_left s) i its low) (λ no. keeps_fit k (attempt_left s) i its low)
+    either_fits (is_finished its) (finishes_request k (poll_left s) i its) (keeps_request k (poll_left s) i its) (λ yes. finishes_fit k (poll_left s) i its low) (λ no. keeps_fit k (poll_left s) i its low)
 poll_fits k s i ask at low = stays s (Polls i) at low
 
 turned_fits : (s : SessionState) (its : Told) (ask : Ask (Unit {0})) → s.step ≡ Turns its → s.serial ≤ last_serial → Fits (turn_ledto s its ask)

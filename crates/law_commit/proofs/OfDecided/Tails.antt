@@ -122,10 +122,10 @@ work_spares n a x (Invalidates (invalidate.StoresHeader addr header)) busy = inl
 work_spares n a x (Shifts s) busy = inl (shift_spares s.step s.mover)
 work_spares n a x (Turns s) busy = inl (turn_spares n s.step s.mover)
 work_spares n a x (Flushes (flush.RaisesFlushed end) bytes) busy = inl (λ e. omega (arith, e))
-work_spares n a x (Serves (serve.StoresHeader session mail)) busy = inl (λ e. omega (arith, e))
-work_spares n a x (Serves (serve.StoresKey session mail)) busy = inl (λ e. omega (arith, e))
-work_spares n a x (Serves (serve.StoresValue session mail)) busy = inl (λ e. omega (arith, e))
-work_spares n a x (Serves (serve.StoresReady session)) busy = inl (λ e. omega (arith, e))
+work_spares n a x (Serves begin (serve.StoresHeader session mail)) busy = inl (λ e. omega (arith, e))
+work_spares n a x (Serves begin (serve.StoresKey session mail)) busy = inl (λ e. omega (arith, e))
+work_spares n a x (Serves begin (serve.StoresValue session mail)) busy = inl (λ e. omega (arith, e))
+work_spares n a x (Serves begin (serve.StoresReady session)) busy = inl (λ e. omega (arith, e))
 work_spares n a x work busy = inl tt
 
 -- ---- one event

@@ -39,7 +39,7 @@ use Rattle.law_refine.specs.Below.fkv_session.Sitting.{Sitting}
 use Rattle.law_refine.specs.Below.fkv_session.Sitting.TheVariants.{Idle, Attempts, CatchesUp, ClearsMail, Polls, StoresOwing, Turns, StoresCut, Leaves, LoadsDurable}
 use Rattle.law_refine.specs.Below.fkv_session.CatchingUp.{CatchState, catching_next, cuts, enters_prepare, finish_ledto, finishes, is_same_version, latch_begun, latch_ledto, latch_wanted, latches, protect_ledto, refresh_ledto, seen_after, takes_up}
 use Rattle.law_refine.specs.Below.fkv_session.OwnTurns.{own_turn_given}
-use Rattle.law_refine.specs.Below.fkv_session.Sessions.{IsOpened, SessionState, Seat, accepts, answers, answers_after_turn, attempt_ledto, attempt_left, attempt_moved, asks_after, attempted, attempts, bits_of, call_begun, catch_ledto, caught, caught_up, clear_ledto, finishes_request, is_busy, is_finished, is_no_room, is_owed, is_word_ask, keeps_request, lacks_room, leave_ledto, op_begun, own_turn_moved, poll_begun, poll_call, poll_ledto, polls_at, polls_request, refresh_call, refusal_of, refuses, request_finished, serial_taken, session_ask, shifts, sitting_given, sitting_next, sleep_call, ticket_after, turn_ledto, update_done, wake_call, with_request}
+use Rattle.law_refine.specs.Below.fkv_session.Sessions.{IsOpened, SessionState, Seat, accepts, answers, answers_after_turn, attempt_ledto, attempt_left, attempt_moved, asks_after, attempted, attempts, bits_of, call_begun, catch_ledto, caught, caught_up, clear_ledto, finishes_request, is_busy, is_finished, is_no_room, is_owed, is_word_ask, keeps_request, lacks_room, leave_ledto, op_begun, own_turn_moved, poll_begun, poll_call, poll_ledto, poll_left, polls_at, polls_request, refresh_call, refusal_of, refuses, request_finished, serial_taken, session_ask, shifts, sitting_given, sitting_next, sleep_call, ticket_after, turn_ledto, update_done, wake_call, with_request}
 use Rattle.law_refine.specs.Below.fkv_session.SessionRun.{Begins, Gets, Replies, SessionEvent, begins, session_happens, session_run}
 use Rattle.law_refine.specs.Below.fkv_world.Opened.{HasBecome}
 use Rattle.law_refine.specs.Below.fkv_world.OwnEvents.{session_events}
@@ -121,7 +121,7 @@ keeps_awake k s i its e = polls_awake k (record s { requests = slice_set s.reque
 poll_awake : (k : Seat) (s : SessionState) (i : ℕ) (ask : Ask TryAnswer) → s.step ≡ Polls i → s.is_awake ≡ true → Awake (poll_ledto k s i ask)
 unfolding poll_ledto
 poll_awake k s i (Done its) at e =
-    either_awake (is_finished its) (finishes_request k (attempt_left s) i its) (keeps_request k (attempt_left s) i its) (finishes_awake k (attempt_left s) i its e) (keeps_awake k (attempt_left s) i its e)
+    either_awake (is_finished its) (finishes_request k (poll_left s) i its) (keeps_request k (poll_left s) i its) (finishes_awake k (poll_left s) i its e) (keeps_awake k (poll_left s) i its e)
 poll_awake k s i ask at e = still s (Polls i) at e e
 
 turned_awake : (s : SessionState) (its : Told) (ask : Ask (Unit {0})) → s.step ≡ Turns its → s.is_awake ≡ true → Awake (turn_ledto s its ask)

@@ -137,7 +137,7 @@ maintain_none shape p m maintaining.Claims reply at = claimed_none (record m { c
 maintain_none shape p m maintaining.Flushes reply at = flushed_none (record m { bytes = bytes_next m.flushing m.bytes reply; flushing = flush_next shape.page m.flushing reply }) _ at
 maintain_none shape p m maintaining.Shifts reply at = shifted_none (record m { shift = shift_next shape m.shift reply }) _ at
 maintain_none shape p m maintaining.Turns reply at = turned_none shape (record m { turn = turn_next shape m.turn reply }) _ at
-maintain_none shape p m maintaining.Serves reply at = served_none (record m { serving = serve_next shape.sessions m.serving reply }) _ at
+maintain_none shape p m maintaining.Serves reply at = served_none (record m { serving = serve_next shape.sessions m.begin.0 m.serving reply }) _ at
 maintain_none shape p m maintaining.Through reply at = turn_stays m maintaining.Through at refl
 maintain_none shape p m maintaining.Spent reply at = turn_stays m maintaining.Spent at refl
 maintain_none shape p m maintaining.Broken reply at = turn_stays m maintaining.Broken at refl

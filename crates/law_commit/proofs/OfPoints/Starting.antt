@@ -114,7 +114,7 @@ module _ (R : ℕ → Type 0) where
   starts_say : (s : KeeperState) (ask : Ask StartAnswer) → s.step ≡ Starts → start_ask s.start ≡ ask → HandSays s.commit → StartSays s.start.step → KeeperSays (start_ledto s ask)
   unfolding start_ledto
   starts_say s (Done (started.Begun number first)) at asks hand says = record {
-    hand = λ c is. let its = begun_says s.start s.start.step number first says asks in let same : commit_begun number s.start.asked.kind first ≡ c = cc in subst (λ (x : Commit). R x.number.0) same its;
+    hand = λ c is. let its = begun_says s.start s.start.step number first says asks in let same : commit_begun number s.start.asked.kind s.last.begin first ≡ c = cc in subst (λ (x : Commit). R x.number.0) same its;
     step = tt;
   }
   starts_say s (Done (started.Refused why)) at asks hand says = record { hand = hand; step = tt }

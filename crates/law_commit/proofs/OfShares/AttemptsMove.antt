@@ -1,6 +1,7 @@
 -- An attempt keeps what its session has seen, and its try holds a latch alone only where the session is between two versions.
 use Rattle.std.proofs.Common.{◌≡◌, ℕ, refl, sym, subst, Bool, true, false}
 use Rattle.std.specs.Prelude.{if◌then◌else◌, ◌==◌, ⊤, Option, Some, None}
+use Rattle.fkv_base.specs.declared.numbers.Addr.{Addr}
 use Rattle.fkv_map.specs.Keys.{key_of}
 use Rattle.fkv_plane.specs.declared.asks.Ask.{Ask}
 use Rattle.fkv_plane.specs.declared.asks.Ask.TheVariants.{Done}
@@ -13,6 +14,7 @@ use Rattle.law_refine.specs.Below.fkv_ops.HeaderSaid.TheVariants.{Says, Spoiled}
 use Rattle.law_refine.specs.Below.fkv_ops.Occasion.{Occasion}
 use Rattle.law_refine.specs.Below.fkv_ops.Seen.{Seen}
 use Rattle.law_refine.specs.Below.fkv_ops.HeaderWords.{header_said}
+use Rattle.law_refine.specs.Below.fkv_ops.Requests.{is_chain_end}
 use Rattle.law_refine.specs.Below.fkv_ops.Trying.{try_ask, try_next, told_value}
 use Rattle.law_refine.specs.Below.fkv_ops.Values.{value_of}
 use Rattle.law_refine.specs.Below.fkv_pending.TheAttempting.{Attempting}
@@ -23,9 +25,9 @@ use Rattle.law_refine.specs.Below.fkv_pending.MailRecord.{MailRecord}
 use Rattle.law_refine.specs.Below.fkv_pending.MailTask.TheVariants.{Take}
 use Rattle.law_refine.specs.Below.fkv_pending.TheMailing.TheVariants as mailing
 use Rattle.law_refine.specs.Below.fkv_pending.PendingRequest.{PendingRequest}
-use Rattle.law_refine.specs.Below.fkv_pending.Mailing.{mail_ask, mail_next}
-use Rattle.law_refine.specs.Below.fkv_pending.Pending.{with_sought, with_held, with_latch, with_asked}
-use Rattle.law_refine.specs.Below.fkv_pending.Attempting.{AttemptState, attempt_ended, waits_for_disk, puts_addr, puts, tries, is_seeking_read, goes_on, attempt_begun, held_of, moved_on, read_on, record_taken, look_ledto, held_kept, tried, try_ledto, put_ledto, mail_moved, try_moved, attempting_next, attempt_next, new_attempt}
+use Rattle.law_refine.specs.Below.fkv_pending.Mailing.{mail_ask, mail_next, is_gone, begin_told}
+use Rattle.law_refine.specs.Below.fkv_pending.Pending.{with_sought, with_held, with_latch, with_asked, without_gone}
+use Rattle.law_refine.specs.Below.fkv_pending.Attempting.{AttemptState, attempt_ended, waits_for_disk, puts_addr, puts, tries, is_seeking_read, goes_on, attempt_begun, held_of, moved_on, read_on, record_taken, goes_anew, mail_taken, look_ledto, held_kept, tried, try_ledto, put_ledto, mail_moved, try_moved, attempting_next, attempt_next, new_attempt}
 use Rattle.law_commit.proofs.OfShares.TriesMove.{IsTryMoving, try_next_moving, try_begun_moving}
 
 abbrev pub AttemptMoving : Seen → AttemptState → Attempting → Type 0
@@ -64,16 +66,29 @@ read_moving seen a its Spoiled same = puts_moving seen a a.pending.sought same
 read_moving seen a its (Says previous version) same =
     let moved : AttemptState = record a { pending = with_sought a.pending (moved_on a.pending.sought previous) } in
     either_moving (its.key.0 == (key_of a.pending.request.op).0) seen (attempt_ended a (told_value (value_of its.value))) _ (record { same = same; moving = tt })
-    (either_moving (previous.0 == 0) seen (attempt_ended a answer.Absent) (puts moved) (record { same = same; moving = tt }) (puts_moving seen moved moved.pending.sought same))
+    (either_moving (is_chain_end a.pending.request.floor previous) seen (attempt_ended a answer.Absent) (puts moved) (record { same = same; moving = tt })
+    (puts_moving seen moved moved.pending.sought same))
 
 record_moving : (p : Places) (bits : ℕ) (seen : Seen) (a : AttemptState) (its : MailRecord) (said : HeaderSaid) → a.seen ≡ seen → IsAttemptMoving seen (record_taken p bits a its said)
 record_moving p bits seen a its said same =
     let held : AttemptState = record a { pending = with_held a.pending (held_of a.pending.sought its said) } in
     either_moving (is_seeking_read a) seen (read_on a its said) (tries p bits held) (read_moving seen a its said same) (tries_moving p bits seen held same)
 
+anew_moving : (p : Places) (bits : ℕ) (seen : Seen) (a : AttemptState) (begin : Addr) → a.seen ≡ seen → IsAttemptMoving seen (goes_anew p bits a begin)
+anew_moving p bits seen a begin same =
+    let without : AttemptState = record a { pending = without_gone a.pending begin } in
+    either_moving (is_seeking_read a) seen (waits_for_disk without) (tries p bits without) (record { same = same; moving = tt })
+    (tries_moving p bits seen without same)
+
+mail_moving : (p : Places) (bits : ℕ) (seen : Seen) (a : AttemptState) (its : MailRecord) → a.seen ≡ seen → IsAttemptMoving seen (mail_taken p bits a its)
+mail_moving p bits seen a its same =
+    either_moving (is_gone its) seen (goes_anew p bits a (begin_told its)) (record_taken p bits a its (header_said its.header))
+    (anew_moving p bits seen a (begin_told its) same) (record_moving p bits seen a its (header_said its.header) same)
+
 look_moving : (p : Places) (bits : ℕ) (seen : Seen) (a : AttemptState) (ask : Ask MailAnswer) → a.step ≡ Looks → a.seen ≡ seen → IsAttemptMoving seen (look_ledto p bits a ask)
 unfolding look_ledto
-look_moving p bits seen a (Done (mail.Taken its)) at same = record_moving p bits seen (record a { is_emptied = true; pending = with_asked a.pending false }) its (header_said its.header) same
+look_moving p bits seen a (Done (mail.Taken its)) at same =
+    mail_moving p bits seen (record a { is_emptied = true; pending = with_asked a.pending false }) its same
 look_moving p bits seen a (Done other) at same = either_moving (is_seeking_read a) seen (waits_for_disk a) (tries p bits a) (record { same = same; moving = tt }) (tries_moving p bits seen a same)
 look_moving p bits seen a ask at same = stays_moving seen a Looks at same tt
 

@@ -2,6 +2,7 @@
 use Rattle.std.proofs.Common.{◌≡◌, ◌⊎◌, inl, inr, ℕ, ◌<◌, ◌≤◌, ◌∙◌, refl, sym, subst, Bool, true, false}
 use Rattle.std.specs.Prelude.{Option, Some, None, if◌then◌else◌, ◌==◌, ◌&&◌, ◌||◌, not}
 use Rattle.std.specs.Option.{is_some}
+use Rattle.fkv_base.specs.declared.numbers.Addr.{Addr}
 use Rattle.fkv_map.specs.Keys.{key_of}
 use Rattle.fkv_plane.specs.declared.asks.Ask.{Ask}
 use Rattle.fkv_plane.specs.declared.asks.Ask.TheVariants.{Done}
@@ -16,7 +17,7 @@ use Rattle.law_refine.specs.Below.fkv_ops.Occasion.{Occasion}
 use Rattle.law_refine.specs.Below.fkv_ops.Request.{Request}
 use Rattle.law_refine.specs.Below.fkv_ops.Seen.{Seen}
 use Rattle.law_refine.specs.Below.fkv_ops.HeaderWords.{header_said}
-use Rattle.law_refine.specs.Below.fkv_ops.Requests.{is_read}
+use Rattle.law_refine.specs.Below.fkv_ops.Requests.{is_chain_end, is_read}
 use Rattle.law_refine.specs.Below.fkv_ops.Trying.{is_prepare, is_wait, told_value, try_ask}
 use Rattle.law_refine.specs.Below.fkv_ops.Values.{value_of}
 use Rattle.law_refine.proofs.Below.fkv_ops.Shown.{IsTrying, begun_trying, ended_keeps, next_trying}
@@ -25,9 +26,10 @@ use Rattle.law_refine.specs.Below.fkv_pending.TheAttempting.TheVariants.{Ended, 
 use Rattle.law_refine.specs.Below.fkv_pending.MailAnswer.{MailAnswer}
 use Rattle.law_refine.specs.Below.fkv_pending.MailAnswer.TheVariants as mail
 use Rattle.law_refine.specs.Below.fkv_pending.MailRecord.{MailRecord}
+use Rattle.law_refine.specs.Below.fkv_pending.Mailing.{begin_told, is_gone}
 use Rattle.law_refine.specs.Below.fkv_pending.PendingRequest.{PendingRequest}
-use Rattle.law_refine.specs.Below.fkv_pending.Pending.{with_asked, with_held, with_latch, with_sought}
-use Rattle.law_refine.specs.Below.fkv_pending.Attempting.{AttemptState, attempt_begun, attempt_ended, attempt_next, attempting_next, goes_on, held_kept, held_of, is_poll, is_seeking_read, look_ledto, mail_moved, moved_on, new_attempt, put_ledto, puts, puts_addr, read_on, tried, tries, try_ledto, try_moved, waits_for_disk}
+use Rattle.law_refine.specs.Below.fkv_pending.Pending.{with_asked, with_held, with_latch, with_sought, without_gone}
+use Rattle.law_refine.specs.Below.fkv_pending.Attempting.{AttemptState, attempt_begun, attempt_ended, attempt_next, attempting_next, goes_anew, goes_on, held_kept, held_of, is_poll, is_seeking_read, look_ledto, mail_moved, mail_taken, moved_on, new_attempt, put_ledto, puts, puts_addr, read_on, record_taken, tried, tries, try_ledto, try_moved, waits_for_disk}
 use Rattle.law_refine.proofs.Below.fkv_pending.Shown.{AttemptRestsOrAsks, attempt_begun_rests, attempt_rests}
 use Rattle.law_refine.specs.Below.fkv_session.Sessions.{Seat, bits_of, room_of}
 use Rattle.law_refine.specs.Below.fkv_session.Shares.{HasItsBuckets}
@@ -119,6 +121,14 @@ module _ (unshifted : Bool) (seen : Seen) where
   unfolding with_held
   held_older p held so = λ updates. record { upto = (so updates).upto; only = (so updates).only; since = (so updates).since }
 
+  gone_older : (p : PendingRequest) (begin : Addr) → IsOlder unshifted seen p → IsOlder unshifted seen (without_gone p begin)
+  unfolding without_gone
+  gone_older p begin so = λ updates. record { upto = (so updates).upto; only = (so updates).only; since = (so updates).since }
+
+  gone_read : (p : PendingRequest) (begin : Addr) → is_read p.request.op ≡ true → is_read (without_gone p begin).request.op ≡ true
+  unfolding without_gone
+  gone_read p begin read = read
+
   held_left : (found : TryAnswer) (p : PendingRequest) (held : Option HeldRecord) → IsLeft unshifted seen found p → IsLeft unshifted seen found (with_held p held)
   unfolding with_held
   held_left found p held so = λ updates. record { upto = (so updates).upto; only = (so updates).only; since = (so updates).since }
@@ -171,18 +181,37 @@ module _ (k : Seat) (its : HasItsBuckets k) (unshifted : Bool) (seen : Seen) whe
       let moved : AttemptState = record a { pending = next } in
       let found : AttemptState = attempt_ended a (told_value (value_of its_mail.value)) in
       let absent : AttemptState = attempt_ended a answer.Absent in
-      either_now (its_mail.key.0 == (key_of a.pending.request.op).0) found (if previous.0 == 0 then absent else puts moved) (λ e. left_read unshifted seen (told_value (value_of its_mail.value)) a.pending read)
-      (either_now (previous.0 == 0) absent (puts moved) (λ e. left_read unshifted seen answer.Absent a.pending read)
+      either_now (its_mail.key.0 == (key_of a.pending.request.op).0) found (if is_chain_end a.pending.request.floor previous then absent else puts moved) (λ e. left_read unshifted seen (told_value (value_of its_mail.value)) a.pending read)
+      (either_now (is_chain_end a.pending.request.floor previous) absent (puts moved) (λ e. left_read unshifted seen answer.Absent a.pending read)
       (puts_now moved next.sought (of_read unshifted seen next (sought_read unshifted seen a.pending (moved_on a.pending.sought previous) read))))
+
+  taken_now : (a : AttemptState) (its_mail : MailRecord) (said : HeaderSaid) → a.seen ≡ seen → Full unshifted seen a.pending
+      → Now (record_taken k.places (bits_of k) a its_mail said)
+  taken_now a its_mail said same so =
+      let held : Option HeldRecord = held_of a.pending.sought its_mail said in
+      let holding : AttemptState = record a { pending = with_held a.pending held } in
+      either_now (is_seeking_read a) (read_on a its_mail said) (tries k.places (bits_of k) holding)
+      (λ seeks. read_now a its_mail said (seeking_reads a seeks))
+      (tries_now holding same (held_older unshifted seen a.pending held (full_older unshifted seen a.pending so)))
+
+  -- where the record is gone a read waits, and an update is tried
+  anew_now : (a : AttemptState) (begin : Addr) → a.seen ≡ seen → Full unshifted seen a.pending → Now (goes_anew k.places (bits_of k) a begin)
+  anew_now a begin same so =
+      let next : PendingRequest = without_gone a.pending begin in
+      let without : AttemptState = record a { pending = next } in
+      either_now (is_seeking_read a) (waits_for_disk without) (tries k.places (bits_of k) without)
+      (λ seeks. left_read unshifted seen (answer.Wait reason.Disk) next (gone_read unshifted seen a.pending begin (seeking_reads a seeks)))
+      (tries_now without same (gone_older unshifted seen a.pending begin (full_older unshifted seen a.pending so)))
+
+  mail_now : (a : AttemptState) (its_mail : MailRecord) → a.seen ≡ seen → Full unshifted seen a.pending → Now (mail_taken k.places (bits_of k) a its_mail)
+  mail_now a its_mail same so =
+      either_now (is_gone its_mail) (goes_anew k.places (bits_of k) a (begin_told its_mail)) (record_taken k.places (bits_of k) a its_mail (header_said its_mail.header))
+      (λ gone. anew_now a (begin_told its_mail) same so) (taken_now a its_mail (header_said its_mail.header) same so)
 
   look_now : (a : AttemptState) (ask : Ask MailAnswer) → a.step ≡ Looks → a.seen ≡ seen → IsSharing unshifted seen ⊥ a.pending → Now (look_ledto k.places (bits_of k) a ask)
   unfolding look_ledto
   look_now a (Done (mail.Taken it)) at same so =
-      let emptied : AttemptState = record a { is_emptied = true; pending = with_asked a.pending false } in
-      let holding : AttemptState = record emptied { pending = with_held emptied.pending (held_of emptied.pending.sought it (header_said it.header)) } in
-      let older = held_older unshifted seen emptied.pending (held_of emptied.pending.sought it (header_said it.header)) (full_older unshifted seen emptied.pending (asked_full unshifted seen a.pending false so)) in
-      either_now (is_seeking_read emptied) (read_on emptied it (header_said it.header)) (tries k.places (bits_of k) holding)
-      (λ seeks. read_now emptied it (header_said it.header) (seeking_reads emptied seeks)) (tries_now holding same older)
+      mail_now (record a { is_emptied = true; pending = with_asked a.pending false }) it same (asked_full unshifted seen a.pending false so)
   look_now a (Done other) at same so =
       either_now (is_seeking_read a) (waits_for_disk a) (tries k.places (bits_of k) a) (λ seeks. left_read unshifted seen (answer.Wait reason.Disk) a.pending (seeking_reads a seeks)) (tries_now a same (full_older unshifted seen a.pending so))
   look_now a ask at same so = still_now a Looks at (same, so)

@@ -1,7 +1,7 @@
 -- A try holds a latch alone only where its session is between two versions.
 use Rattle.std.proofs.Common.{◌≡◌, ◌⊎◌, inl, inr, ℕ, refl, sym, subst, Bool, true, false, ◌∙◌, arith}
 use Rattle.std.proofs.lemmas.Bool.Decides.{nat_tests}
-use Rattle.std.specs.Prelude.{if◌then◌else◌, ◌==◌, ◌&&◌, not, nat_le, ⊤, Option, Some, None}
+use Rattle.std.specs.Prelude.{if◌then◌else◌, ◌==◌, ◌&&◌, ◌||◌, not, nat_le, ⊤, Option, Some, None}
 use Rattle.fkv_base.specs.declared.numbers.Addr.{Addr}
 use Rattle.fkv_base.specs.declared.numbers.Version.{Version}
 use Rattle.fkv_map.specs.declared.operations.Reply.{Reply}
@@ -36,7 +36,7 @@ use Rattle.law_refine.specs.Below.fkv_ops.TheTrying.TheVariants.{Ended, TakesSha
 use Rattle.law_refine.specs.Below.fkv_ops.WalkAnswer.{WalkAnswer}
 use Rattle.law_refine.specs.Below.fkv_ops.WalkAnswer.TheVariants as walk
 use Rattle.law_refine.specs.Below.fkv_ops.Values.{value_of}
-use Rattle.law_refine.specs.Below.fkv_ops.Requests.{is_read, is_blind}
+use Rattle.law_refine.specs.Below.fkv_ops.Requests.{is_read, is_blind, is_chain_end}
 use Rattle.law_refine.specs.Below.fkv_ops.Walking.{walk_ask, walk_next, walk_on}
 use Rattle.law_refine.specs.Below.fkv_ops.Appending.{append_ask, append_next}
 use Rattle.law_refine.specs.Below.fkv_ops.Trying.{TryState, with_latch, is_moving_on, is_prepare, is_wait, ended_without, ends_so, ends_by, is_bounded, tail_loaded, taken_loaded, must_count, count_loaded, ends, takes_effect, walks, wants_shared, try_begun, is_next_marked, latch_shared, shared_ledto, is_still_in, phase_loaded, is_surely_own, must_shift, wants_exclusive, appends, copies_from, copies, awaits, held_used, met_nowhere, met_disk, changes, is_own_version, region_met, met_record, walked, has_walked, walk_ledto, safe_loaded, current_ledto, value_changed, told_value, answer_ledto, exclusive_ledto, old_ledto, append_ledto, exclusive_dropped, shared_dropped, latch_moved, trying_next, try_next, new_try}
@@ -196,7 +196,7 @@ held_moving p seen t addr None keeps = ends_moving p seen t _ keeps
 held_moving p seen t addr (Some held) keeps =
     either_moving (held.entry == t.walk.entry) seen _ (awaits p t addr)
     (either_moving (held.key.0 == (key_of t.request.op).0) seen (copies p t (Known held.value) false) _ (copies_moving p seen t (Known held.value) false keeps)
-    (either_moving (held.previous.0 == 0) seen (copies p t (Known absent_word) false) (awaits p t held.previous) (copies_moving p seen t (Known absent_word) false keeps) (ends_moving p seen t _ keeps)))
+    (either_moving (is_chain_end t.request.floor held.previous) seen (copies p t (Known absent_word) false) (awaits p t held.previous) (copies_moving p seen t (Known absent_word) false keeps) (ends_moving p seen t _ keeps)))
     (ends_moving p seen t _ keeps)
 
 nowhere_moving : (p : Places) (seen : Seen) (t : TryState) → Inner seen t → IsTryMoving seen (met_nowhere p t)
@@ -210,8 +210,11 @@ count_moving p seen t taken keeps = either_moving (is_past_taken (bounds_at t.oc
 
 disk_moving : (p : Places) (seen : Seen) (t : TryState) (addr : Addr) → Inner seen t → IsTryMoving seen (met_disk p t addr)
 disk_moving p seen t addr keeps =
-    either_moving (is_read t.request.op) seen (awaits p t addr) _ (ends_moving p seen t _ keeps)
-    (either_moving (is_blind t.request.op) seen (copies p t (Known absent_word) false) (held_used p t addr t.request.held) (copies_moving p seen t (Known absent_word) false keeps) (held_moving p seen t addr t.request.held keeps))
+    either_moving (is_read t.request.op) seen _ _
+    (either_moving (is_chain_end t.request.floor addr) seen (ends p t answer.Absent) (awaits p t addr)
+    (ends_moving p seen t answer.Absent keeps) (ends_moving p seen t _ keeps))
+    (either_moving (is_blind t.request.op || is_chain_end t.request.floor addr) seen (copies p t (Known absent_word) false)
+    (held_used p t addr t.request.held) (copies_moving p seen t (Known absent_word) false keeps) (held_moving p seen t addr t.request.held keeps))
 
 changes_moving : (seen : Seen) (t : TryState) (addr : Addr) → Inner seen t → IsTryMoving seen (changes t addr)
 changes_moving seen t addr keeps = either_moving (is_blind t.request.op) seen (record t { step = SwapsValue addr }) (record t { walk = walk_on t.walk; step = LoadsCurrent addr }) (record { keeps = (keeps.0, keeps.1, keeps.2); takes = tt; shares = keeps.3 }) (record { keeps = (keeps.0, keeps.1, keeps.2); takes = tt; shares = keeps.3 })

@@ -15,20 +15,22 @@ use Rattle.law_refine.specs.Events.Reserved.{tail_at}
 use Rattle.law_commit.specs.BegunCommits.{BegunCommit, commit_opened, life_begun}
 use Rattle.law_commit.specs.Quiet.{OpensQuiet}
 
--- What stays of a commit from its end on: its number and kind, its first address and its end, and the bytes of the triples that it writes.
+-- What stays of a commit from its end on: its number and kind, where its log begins, its first address and its end, and the bytes of the triples that it
+-- writes.
 pub record Span : Type 0 where
   pub number : Version
   pub kind : CommitKind
+  pub begin : Addr
   pub first : Addr
   pub end : Addr
   pub triples : List ℕ
 
 -- of a commit in hand with this end and these triples
 abbrev pub span_in : Commit → Addr → List ℕ → Span
-span_in c end triples = record { number = c.number; kind = c.kind; first = c.first; end = end; triples = triples }
+span_in c end triples = record { number = c.number; kind = c.kind; begin = c.begin; first = c.first; end = end; triples = triples }
 
 abbrev pub span_of : BegunCommit → Span
-span_of c = record { number = c.number; kind = c.parts.kind; first = c.parts.first; end = c.parts.end; triples = c.parts.triples }
+span_of c = record { number = c.number; kind = c.parts.kind; begin = c.parts.begin; first = c.parts.first; end = c.parts.end; triples = c.parts.triples }
 
 -- It was so at a moment of the life.
 pub record HadMoment (P : Now → Type 0) (opening : World) (events : List Event) : Type 0 where

@@ -5,6 +5,7 @@ use Rattle.fkv_map.specs.Keys.{key_of}
 use Rattle.fkv_plane.specs.declared.asks.Ask.{Ask}
 use Rattle.fkv_plane.specs.declared.asks.Ask.TheVariants.{Done}
 use Rattle.fkv_plane.specs.declared.places.Places.{Places}
+use Rattle.fkv_base.specs.declared.numbers.Addr.{Addr}
 use Rattle.fkv_ops.specs.declared.answers.DiskRecord.{DiskRecord}
 use Rattle.fkv_ops.specs.declared.answers.TryAnswer.{TryAnswer}
 use Rattle.fkv_ops.specs.declared.answers.TryAnswer.TheVariants as answer
@@ -15,6 +16,7 @@ use Rattle.fkv_ops.specs.declared.requests.Seen.{Seen}
 use Rattle.fkv_ops.specs.HeaderWords.{header_said}
 use Rattle.fkv_ops.specs.Values.{value_of}
 use Rattle.fkv_ops.specs.Trying.{told_value, try_ask}
+use Rattle.fkv_ops.specs.Requests.{is_chain_end}
 use Rattle.fkv_pending.specs.declared.attempting.Attempting.{Attempting}
 use Rattle.fkv_pending.specs.declared.attempting.Attempting.TheVariants.{Ended, Looks, Tries, Puts}
 use Rattle.fkv_pending.specs.declared.mailing.MailAnswer.{MailAnswer}
@@ -23,9 +25,9 @@ use Rattle.fkv_pending.specs.declared.mailing.MailRecord.{MailRecord}
 use Rattle.fkv_pending.specs.declared.mailing.MailTask.TheVariants.{Take, Put}
 use Rattle.fkv_pending.specs.declared.mailing.Mailing.TheVariants.{LoadsState, StoresAddress}
 use Rattle.fkv_pending.specs.declared.pending_requests.PendingRequest.{PendingRequest}
-use Rattle.fkv_pending.specs.Mailing.{mail_ask, mail_next}
-use Rattle.fkv_pending.specs.Pending.{with_sought, with_held, with_latch, with_asked}
-use Rattle.fkv_pending.specs.Attempting.{AttemptState, attempt_begun, attempt_ended, waits_for_disk, puts_addr, puts, tries, is_seeking_read, goes_on, held_of, moved_on, read_on, record_taken, not_ready, look_ledto, held_kept, awaits_record, leaves, tried, try_ledto, put_ledto, mail_moved, try_moved, attempting_next, attempt_next, new_attempt}
+use Rattle.fkv_pending.specs.Mailing.{mail_ask, mail_next, is_gone, begin_told}
+use Rattle.fkv_pending.specs.Pending.{with_sought, with_held, with_latch, with_asked, without_gone}
+use Rattle.fkv_pending.specs.Attempting.{AttemptState, attempt_begun, attempt_ended, waits_for_disk, puts_addr, puts, tries, is_seeking_read, goes_on, held_of, moved_on, read_on, record_taken, goes_anew, mail_taken, not_ready, look_ledto, held_kept, awaits_record, leaves, tried, try_ledto, put_ledto, mail_moved, try_moved, attempting_next, attempt_next, new_attempt}
 use Rattle.law_local.specs.Sessions.Inputs.{IsTryFor, TriesFor, GoesBy}
 use Rattle.law_local.proofs.OfSessions.TryInputs.{try_so, begun_so}
 
@@ -65,21 +67,29 @@ module _ (bits : ℕ) (seen : Seen) (occasion : Occasion) where
   read_goes a its Spoiled given = puts_goes a given
   read_goes a its (Says previous version) given =
       let on : AttemptState = record a { pending = with_sought a.pending (moved_on a.pending.sought previous) } in
-      let below : AttemptState = if previous.0 == 0 then attempt_ended a answer.Absent else puts on in
+      let below : AttemptState = if is_chain_end a.pending.request.floor previous then attempt_ended a answer.Absent else puts on in
       either_goes (its.key.0 == (key_of a.pending.request.op).0) (attempt_ended a (told_value (value_of its.value))) below (ended_goes a (told_value (value_of its.value)) given)
-      (either_goes (previous.0 == 0) (attempt_ended a answer.Absent) (puts on) (ended_goes a answer.Absent given) (puts_goes on given))
+      (either_goes (is_chain_end a.pending.request.floor previous) (attempt_ended a answer.Absent) (puts on) (ended_goes a answer.Absent given) (puts_goes on given))
 
   taken_goes : (p : Places) (a : AttemptState) (its : MailRecord) (said : HeaderSaid) → IsGiven a → Goes (record_taken p bits a its said)
   taken_goes p a its said given =
       let holds : AttemptState = record a { pending = with_held a.pending (held_of a.pending.sought its said) } in
       either_goes (is_seeking_read a) (read_on a its said) (tries p bits holds) (read_goes a its said given) (tries_goes p holds given)
 
+  anew_goes : (p : Places) (a : AttemptState) (begin : Addr) → IsGiven a → Goes (goes_anew p bits a begin)
+  anew_goes p a begin given =
+      let its : AttemptState = record a { pending = without_gone a.pending begin } in
+      either_goes (is_seeking_read a) (waits_for_disk its) (tries p bits its) (ended_goes its _ given) (tries_goes p its given)
+
+  mail_goes : (p : Places) (a : AttemptState) (its : MailRecord) → IsGiven a → Goes (mail_taken p bits a its)
+  mail_goes p a its given = either_goes (is_gone its) (goes_anew p bits a (begin_told its)) (record_taken p bits a its (header_said its.header)) (anew_goes p a (begin_told its) given) (taken_goes p a its (header_said its.header) given)
+
   waits_goes : (p : Places) (a : AttemptState) → IsGiven a → Goes (not_ready p bits a)
   waits_goes p a given = either_goes (is_seeking_read a) (waits_for_disk a) (tries p bits a) (ended_goes a _ given) (tries_goes p a given)
 
   look_goes : (p : Places) (a : AttemptState) (ask : Ask MailAnswer) → a.step ≡ Looks → IsGiven a → Goes (look_ledto p bits a ask)
   unfolding look_ledto
-  look_goes p a (Done (mail.Taken its)) at given = taken_goes p (record a { is_emptied = true; pending = with_asked a.pending false }) its (header_said its.header) given
+  look_goes p a (Done (mail.Taken its)) at given = mail_goes p (record a { is_emptied = true; pending = with_asked a.pending false }) its given
   look_goes p a (Done other) at given = waits_goes p a given
   look_goes p a ask at given = made a Looks at given tt
 

@@ -38,7 +38,7 @@ use Rattle.fkv_session.specs.declared.sessions.Sitting.{Sitting}
 use Rattle.fkv_session.specs.declared.sessions.Sitting.TheVariants.{Idle, Attempts, CatchesUp, ClearsMail, Polls, StoresOwing, Turns, StoresCut, Leaves, LoadsDurable}
 use Rattle.fkv_session.specs.CatchingUp.{CatchState, refresh_begun, wake_begun, latched, latch_marked, catching_requests}
 use Rattle.fkv_session.specs.OwnTurns.{own_turn_ask, own_turn_begun, own_turn_given}
-use Rattle.fkv_session.specs.Sessions.{SessionState, Seat, is_busy, answers, answers_after_turn, request_in_hand, attempts, polls_request, polls_at, refuses, refusal_of, op_begun, refresh_call, poll_begun, poll_call, sleep_call, wake_call, call_begun, session_begun, session_next, session_given, attempt_left, serial_taken, update_done, ticket_after, is_no_room, with_request, accepts, shifts, attempted, attempt_ledto, caught_up, catch_ledto, clear_ledto, is_finished, is_owed, request_finished, finishes_request, lacks_room, keeps_request, poll_ledto, turn_ledto, leave_ledto, attempt_moved, caught, own_turn_moved, sitting_next, sitting_given, asks_after, is_word_ask, session_ask, IsOpened}
+use Rattle.fkv_session.specs.Sessions.{SessionState, Seat, is_busy, answers, answers_after_turn, request_in_hand, attempts, polls_request, polls_at, refuses, refusal_of, op_begun, refresh_call, poll_begun, poll_call, sleep_call, wake_call, call_begun, session_begun, session_next, session_given, attempt_left, poll_left, serial_taken, update_done, ticket_after, is_no_room, with_request, accepts, shifts, attempted, attempt_ledto, caught_up, catch_ledto, clear_ledto, is_finished, is_owed, request_finished, finishes_request, lacks_room, keeps_request, poll_ledto, turn_ledto, leave_ledto, attempt_moved, caught, own_turn_moved, sitting_next, sitting_given, asks_after, is_word_ask, session_ask, IsOpened}
 use Rattle.law_local.specs.Sessions.Known.{is_attempting, is_polling, KnowsRequests, IsHandedOver, IsKnownAnew, is_accepted, attempt_after, attempt_comes_to, catch_comes_to, KeepsKnown, with_op, BeginsKnown}
 use Rattle.law_local.proofs.OfSessions.Lists.{AllKnown, AllBut, all_behind, all_left, all_set, but_one}
 
@@ -176,8 +176,8 @@ module _ (P : PendingRequest → Type 0) (Q : AttemptState → Type 0) where
       → ((its : TryAnswer) → ask ≡ Done its → is_finished its ≡ false → P s.attempt.pending) → KnowsRequests P Q (poll_ledto k s i ask)
   unfolding poll_ledto
   poll_known k s i (Done its) at but known hands kept =
-      either_known (is_finished its) (finishes_request k (attempt_left s) i its) (keeps_request k (attempt_left s) i its)
-      (λ e. finishes_known k (attempt_left s) i its but hands) (λ e. keeps_known k (attempt_left s) i its but (kept its refl e) hands)
+      either_known (is_finished its) (finishes_request k (poll_left s) i its) (keeps_request k (poll_left s) i its)
+      (λ e. finishes_known k (poll_left s) i its but hands) (λ e. keeps_known k (poll_left s) i its but (kept its refl e) hands)
   poll_known k s i ask at but known hands kept = goes_on_polling s i at but known
 
   turned_known : (s : SessionState) (its : Told) (ask : Ask (Unit {0})) → s.step ≡ Turns its → AllKnown P s.requests → KnowsRequests P Q (turn_ledto s its ask)

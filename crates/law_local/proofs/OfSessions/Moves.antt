@@ -35,7 +35,7 @@ use Rattle.fkv_session.specs.declared.sessions.Sitting.{Sitting}
 use Rattle.fkv_session.specs.declared.sessions.Sitting.TheVariants.{Idle, Attempts, CatchesUp, ClearsMail, Polls, StoresOwing, Turns, StoresCut, Leaves, LoadsDurable}
 use Rattle.fkv_session.specs.CatchingUp.{CatchState, refresh_begun, wake_begun, latched, latch_marked, catching_requests}
 use Rattle.fkv_session.specs.OwnTurns.{own_turn_ask, own_turn_begun, own_turn_given}
-use Rattle.fkv_session.specs.Sessions.{SessionState, Seat, answers, answers_after_turn, attempts, polls_request, polls_at, refuses, refusal_of, op_begun, refresh_call, poll_begun, poll_call, sleep_call, wake_call, call_begun, session_begun, session_next, session_given, attempt_left, serial_taken, update_done, ticket_after, is_no_room, with_request, accepts, shifts, attempted, attempt_ledto, caught_up, catch_ledto, clear_ledto, is_finished, is_owed, request_finished, finishes_request, lacks_room, keeps_request, poll_ledto, turn_ledto, leave_ledto, attempt_moved, caught, own_turn_moved, sitting_next, sitting_given, asks_after, is_word_ask, session_ask}
+use Rattle.fkv_session.specs.Sessions.{SessionState, Seat, answers, answers_after_turn, attempts, polls_request, polls_at, refuses, refusal_of, op_begun, refresh_call, poll_begun, poll_call, sleep_call, wake_call, call_begun, session_begun, session_next, session_given, attempt_left, poll_left, serial_taken, update_done, ticket_after, is_no_room, with_request, accepts, shifts, attempted, attempt_ledto, caught_up, catch_ledto, clear_ledto, is_finished, is_owed, request_finished, finishes_request, lacks_room, keeps_request, poll_ledto, turn_ledto, leave_ledto, attempt_moved, caught, own_turn_moved, sitting_next, sitting_given, asks_after, is_word_ask, session_ask}
 use Rattle.law_local.specs.Sessions.Known.{is_accepted, attempt_after, attempt_comes_to}
 use Rattle.law_local.specs.Sessions.Moves.{with_accepted, with_polled, requests_at, requests_after, RequestsMove, Stay, OneComes, OneIsSet, OneGoes, OneLatches}
 
@@ -119,7 +119,7 @@ polled_has k s i its false = keeps_has k s i its
 
 poll_has : (k : Seat) (s : SessionState) (i : ℕ) (ask : Ask TryAnswer) → Has (poll_ledto k s i ask) (with_polled s.requests s.attempt.pending i ask)
 unfolding poll_ledto
-poll_has k s i (Done its) = polled_has k (attempt_left s) i its (is_finished its)
+poll_has k s i (Done its) = polled_has k (poll_left s) i its (is_finished its)
 poll_has k s i ask = refl
 
 turned_has : (s : SessionState) (its : Told) (ask : Ask (Unit {0})) → Has (turn_ledto s its ask) s.requests

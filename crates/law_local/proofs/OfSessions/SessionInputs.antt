@@ -31,7 +31,7 @@ use Rattle.fkv_session.specs.declared.sessions.Sitting.TheVariants.{Idle, Attemp
 use Rattle.fkv_session.specs.CatchingUp.{refresh_begun, wake_begun}
 use Rattle.fkv_session.specs.OwnTurns.{own_turn_ask, own_turn_begun, own_turn_given}
 use Rattle.fkv_session.specs.SessionRun.{SessionEvent, Begins, Replies, Gets, begins, session_happens, session_run}
-use Rattle.fkv_session.specs.Sessions.{SessionState, Seat, bits_of, room_of, is_busy, answers, answers_after_turn, request_in_hand, attempts, polls_request, polls_at, refuses, refusal_of, op_begun, refresh_call, poll_begun, poll_call, sleep_call, wake_call, call_begun, session_begun, session_next, session_given, attempt_left, serial_taken, update_done, ticket_after, is_no_room, with_request, accepts, shifts, attempted, attempt_ledto, caught_up, catch_ledto, clear_ledto, is_finished, is_owed, request_finished, finishes_request, lacks_room, keeps_request, poll_ledto, turn_ledto, leave_ledto, attempt_moved, caught, own_turn_moved, sitting_next, sitting_given, asks_after, is_word_ask, session_ask, IsOpened}
+use Rattle.fkv_session.specs.Sessions.{SessionState, Seat, bits_of, room_of, is_busy, answers, answers_after_turn, request_in_hand, attempts, polls_request, polls_at, refuses, refusal_of, op_begun, refresh_call, poll_begun, poll_call, sleep_call, wake_call, call_begun, session_begun, session_next, session_given, attempt_left, poll_left, serial_taken, update_done, ticket_after, is_no_room, with_request, accepts, shifts, attempted, attempt_ledto, caught_up, catch_ledto, clear_ledto, is_finished, is_owed, request_finished, finishes_request, lacks_room, keeps_request, poll_ledto, turn_ledto, leave_ledto, attempt_moved, caught, own_turn_moved, sitting_next, sitting_given, asks_after, is_word_ask, session_ask, IsOpened}
 use Rattle.fkv_session.proofs.Shown.{attempt_keeps}
 use Rattle.law_local.specs.Sessions.Inputs.{IsAttemptAtCall, IsAttemptInPoll, AttemptsBy, AttemptsSo}
 use Rattle.law_local.specs.Sessions.Known.{attempt_comes_to}
@@ -138,7 +138,7 @@ keeps_by k s i its = polls_by k (record s { requests = slice_set s.requests i s.
 
 poll_by : (k : Seat) (s : SessionState) (i : ℕ) (ask : Ask TryAnswer) → s.step ≡ Polls i → IsAttemptInPoll k s i → AttemptsSo k (poll_ledto k s i ask)
 unfolding poll_ledto
-poll_by k s i (Done its) at so = either_by (is_finished its) k (finishes_request k (attempt_left s) i its) (keeps_request k (attempt_left s) i its) (finishes_by k (attempt_left s) i its) (keeps_by k (attempt_left s) i its)
+poll_by k s i (Done its) at so = either_by (is_finished its) k (finishes_request k (poll_left s) i its) (keeps_request k (poll_left s) i its) (finishes_by k (poll_left s) i its) (keeps_by k (poll_left s) i its)
 poll_by k s i ask at so = still_by k s (Polls i) at so
 
 turned_by : (k : Seat) (s : SessionState) (its : Told) (ask : Ask (Unit {0})) → s.step ≡ Turns its → AttemptsSo k (turn_ledto s its ask)

@@ -1,6 +1,6 @@
 -- A try stays of its request, by what was seen, and its walk for the request's key.
 use Rattle.std.proofs.Common.{◌≡◌, ℕ, refl, sym, ap, subst, Bool, true, false}
-use Rattle.std.specs.Prelude.{◌==◌, ◌&&◌, not, nat_le, if◌then◌else◌, Option, Some, None}
+use Rattle.std.specs.Prelude.{◌==◌, ◌&&◌, not, nat_le, if◌then◌else◌, Option, Some, None, ◌||◌}
 use Rattle.fkv_base.specs.declared.numbers.Addr.{Addr}
 use Rattle.fkv_base.specs.declared.numbers.Version.{Version}
 use Rattle.fkv_map.specs.declared.operations.Reply.{Reply}
@@ -33,7 +33,7 @@ use Rattle.fkv_ops.specs.declared.trying.Trying.{Trying}
 use Rattle.fkv_ops.specs.declared.trying.Trying.TheVariants.{Ended, TakesShared, LoadsPhase, Walks, CountsTaken, LoadsSafe, SwapsValue, LoadsCurrent, ChangesValue, LoadsAnswer, TakesExclusive, LoadsOld, Appends, LoadsTail, LoadsTaken, DropsExclusive, DropsShared}
 use Rattle.fkv_ops.specs.declared.walking.WalkAnswer.{WalkAnswer}
 use Rattle.fkv_ops.specs.declared.walking.WalkAnswer.TheVariants as walk
-use Rattle.fkv_ops.specs.Requests.{is_read, is_blind}
+use Rattle.fkv_ops.specs.Requests.{is_read, is_blind, is_chain_end}
 use Rattle.fkv_ops.specs.Values.{value_of}
 use Rattle.fkv_ops.specs.Walking.{walk_ask, walk_next, walk_on}
 use Rattle.fkv_ops.specs.Appending.{append_ask, append_next}
@@ -135,11 +135,11 @@ module _ (bits : ℕ) (request : Request) (seen : Seen) (occasion : Occasion) wh
   unfolding held_used
   held_so p t addr None given its = ends_so p t _ given
   held_so p t addr (Some held) given its =
-      let below : TryState = if held.previous.0 == 0 then copies p t (Known absent_word) false else awaits p t held.previous in
+      let below : TryState = if is_chain_end t.request.floor held.previous then copies p t (Known absent_word) false else awaits p t held.previous in
       let along : TryState = if held.key.0 == (key_of t.request.op).0 then copies p t (Known held.value) false else below in
       either_so (held.entry == t.walk.entry) along (awaits p t addr)
       (either_so (held.key.0 == (key_of t.request.op).0) (copies p t (Known held.value) false) below (copies_so p t (Known held.value) false given its)
-      (either_so (held.previous.0 == 0) (copies p t (Known absent_word) false) (awaits p t held.previous) (copies_so p t (Known absent_word) false given its) (ends_so p t _ given)))
+      (either_so (is_chain_end t.request.floor held.previous) (copies p t (Known absent_word) false) (awaits p t held.previous) (copies_so p t (Known absent_word) false given its) (ends_so p t _ given)))
       (ends_so p t _ given)
 
   -- a record is changed
@@ -165,9 +165,10 @@ module _ (bits : ℕ) (request : Request) (seen : Seen) (occasion : Occasion) wh
       either_so (is_read t.request.op) (ends p t answer.Absent) update (ends_so p t answer.Absent given)
       (either_so (must_count p t) counts (copies p t (Known absent_word) false) (made counts CountsTaken refl given its) (copies_so p t (Known absent_word) false given its))
   walked_so p t (walk.OnDisk addr) given its =
-      let update : TryState = if is_blind t.request.op then copies p t (Known absent_word) false else held_used p t addr t.request.held in
-      either_so (is_read t.request.op) (awaits p t addr) update (ends_so p t _ given)
-      (either_so (is_blind t.request.op) (copies p t (Known absent_word) false) (held_used p t addr t.request.held) (copies_so p t (Known absent_word) false given its) (held_so p t addr t.request.held given its))
+      let reads : TryState = if is_chain_end t.request.floor addr then ends p t answer.Absent else awaits p t addr in
+      let update : TryState = if is_blind t.request.op || is_chain_end t.request.floor addr then copies p t (Known absent_word) false else held_used p t addr t.request.held in
+      either_so (is_read t.request.op) reads update (either_so (is_chain_end t.request.floor addr) (ends p t answer.Absent) (awaits p t addr) (ends_so p t answer.Absent given) (ends_so p t _ given))
+      (either_so (is_blind t.request.op || is_chain_end t.request.floor addr) (copies p t (Known absent_word) false) (held_used p t addr t.request.held) (copies_so p t (Known absent_word) false given its) (held_so p t addr t.request.held given its))
   walked_so p t (walk.Value value) given its = ends_so p t (answer.Wait reason.Contended) given
   walked_so p t walk.Full given its = ends_so p t (full_at t.occasion answer.IndexFull) given
   walked_so p t walk.Kept given its = ends_so p t (full_at t.occasion answer.IndexFull) given

@@ -1,51 +1,35 @@
 -- A record that came is held with the entry that the way to it begins at, and the way goes on behind it.
-use Rattle.std.proofs.Common.{◌≡◌, ◌≢◌, inl, inr, ℕ, ◌<◌, ◌∙◌, refl, sym, ap, subst, arith, zero, suc, Option, Some, None, List, [], ◌∷◌}
+use Rattle.std.proofs.Common.{◌≡◌, ◌≢◌, inl, inr, ℕ, ◌<◌, ◌≤◌, ◌∙◌, sym, ap, subst, true, false, Option, Some, None}
 use Rattle.fkv_base.specs.declared.numbers.Addr.{Addr}
 use Rattle.fkv_base.specs.declared.numbers.Version.{Version}
+use Rattle.fkv_begin.specs.Begin.{from_or_none}
 use Rattle.fkv_index.specs.Slots.{entry_addr}
-use Rattle.law_log.specs.Trace.{IsIn}
-use Rattle.law_log.specs.Chains.{Cell, Logged, Published, value_at, head_of}
+use Rattle.law_log.specs.Chains.{Logged, value_at}
 use Rattle.law_log.specs.Ghosts.{Log, first_from}
-use Rattle.law_log.specs.Enabled.{AreChains, IsLinked, previous_of}
+use Rattle.law_log.specs.Enabled.{AreChains}
+use Rattle.fkv_ops.proofs.Shown.{ends_below}
 use Rattle.fkv_ops.specs.declared.answers.DiskRecord.{DiskRecord}
 use Rattle.fkv_ops.specs.declared.header_words.HeaderSaid.{HeaderSaid}
 use Rattle.fkv_ops.specs.declared.header_words.HeaderSaid.TheVariants.{Says, Spoiled}
 use Rattle.fkv_ops.specs.HeaderWords.{header_said}
+use Rattle.fkv_ops.specs.Requests.{is_chain_end}
 use Rattle.fkv_ops.specs.Values.{value_of}
 use Rattle.fkv_pending.specs.declared.mailing.MailRecord.{MailRecord}
 use Rattle.fkv_pending.specs.Attempting.{held_of, moved_on}
-use Rattle.law_local.specs.Tries.OnWay.{IsOnWay, ComesBelow, FindsNone}
-use Rattle.law_local.specs.Tries.HeldRows.{IsValueBelow, GoesOnBelow, HeldKnows, IsSoughtFrom, SoughtKnows}
+use Rattle.law_local.specs.Tries.Floors.{ComesLive, FindsAbsent, GoesOnByFloor}
+use Rattle.law_local.specs.Tries.OnWay.{IsOrderly}
+use Rattle.law_local.specs.Tries.HeldRows.{IsValueBelow, HeldKnows, IsSoughtFrom, SoughtKnows}
 use Rattle.law_local.specs.Tries.MailRows.{IsRecordOf}
-use Rattle.law_local.proofs.OfTries.OnWay.{in_chain, none_at_end, goes_on, is_found}
+use Rattle.law_local.proofs.OfTries.Floors.{below_is_absent, goes_by_floor}
+use Rattle.law_local.proofs.OfTries.OnWay.{is_found}
 use Rattle.law_local.proofs.OfTries.MailRows.{TakenOf}
+use Rattle.law_local.proofs.OfTries.Tests.{eq_false}
 
--- a record leads to a lower address
-linked_low : (cells : ℕ → Logged) (chain : List ℕ) → IsLinked cells chain → (a : ℕ) (cell : Cell) → IsIn a chain → cells a ≡ Published cell → cell.previous < a
-linked_low cells [] linked a cell is_in is = absurd is_in
-linked_low cells (b ∷ older) linked a cell (inl same) is = subst (λ n. cell.previous < n) same (subst (λ n. n < b) (sym (the_next cell.previous (head_of older) (sym (ap previous_of (ap cells same ∙ is)) ∙ linked.0))) linked.1)
-  where
-    the_next : (x y : ℕ) → Some x ≡ Some y → x ≡ y
-    the_next x y e = cc
-linked_low cells (b ∷ older) linked a cell (inr is_in) is = linked_low cells older linked.2 a cell is_in is
-
--- the way goes on behind a record of another key
-goes_behind : (home : ℕ → ℕ) (log : Log) (key low : ℕ) (it : DiskRecord) (cell : Cell) → AreChains home log → IsSoughtFrom home log key low it → log.cells it.addr.0 ≡ Published cell → cell.key ≢ key → GoesOnBelow home log key (entry_addr it.entry) cell.previous low
-goes_behind home log key low it cell chains comes is other = by_number cell.previous refl
-  where
-    way : IsOnWay home log key (entry_addr it.entry) cell.previous
-    way = goes_on home log key (entry_addr it.entry) it.addr.0 cell chains comes.way comes.some is other
-
-    lower : cell.previous < it.addr.0
-    lower = linked_low log.cells (log.chains (home key)) (chains.linked (home key)) it.addr.0 cell (in_chain it.addr.0 (log.chains (home key)) comes.way.within comes.some) is
-
-    by_number : (n : ℕ) → cell.previous ≡ n → GoesOnBelow home log key (entry_addr it.entry) cell.previous low
-    by_number zero e = inl (e, none_at_end home log key (entry_addr it.entry) chains (subst (IsOnWay home log key (entry_addr it.entry)) e way))
-    by_number (suc n) e = inr (record { way = way; some = omega (arith, e); below = let below = comes.below in let falls = lower in omega (arith, below, falls) })
-
+-- ---- the record that is sought
 -- the value of the record, where it is of the key
-own_value : (home : ℕ → ℕ) (log : Log) (key low : ℕ) (it : DiskRecord) (its : MailRecord) → AreChains home log → IsSoughtFrom home log key low it → IsRecordOf (log.cells it.addr.0) its → its.key.0 ≡ key → IsValueBelow home log key (entry_addr it.entry) its.value low
-own_value home log key low it its chains comes of own =
+own_value : (home : ℕ → ℕ) (log : Log) (floor key low : ℕ) (it : DiskRecord) (its : MailRecord) → AreChains home log → IsSoughtFrom home log floor key low it → IsRecordOf floor (log.cells it.addr.0) its → its.key.0 ≡ key → IsValueBelow home log key (entry_addr it.entry) its.value low
+own_value home log floor key low it its chains sought of own =
+    let comes = sought.comes in
     let found = is_found home log key (entry_addr it.entry) it.addr.0 of.cell chains comes.way comes.some of.its (sym of.key ∙ own) in
     record {
       begins = found.begins;
@@ -57,46 +41,47 @@ own_value home log key low it its chains comes of own =
 the_previous : (a b : Addr) (v w : Version) → Says a v ≡ Says b w → a ≡ b
 the_previous a b v w e = cc
 
--- what its header says it leads to
-pub leads_to : (logged : Logged) (its : MailRecord) (of : IsRecordOf logged its) (previous : Addr) (version : Version) → header_said its.header ≡ Says previous version → of.cell.previous ≡ previous.0
-leads_to logged its of previous version e = ap (λ (a : Addr). a.0) (the_previous (record { 0 = of.cell.previous }) previous of.leads.version version (sym of.leads.says ∙ e))
+-- what its header says it leads to, by the floor
+leads_to : (floor : ℕ) (logged : Logged) (its : MailRecord) (of : IsRecordOf floor logged its) (previous : Addr) (version : Version) → header_said its.header ≡ Says previous version → from_or_none floor previous.0 ≡ from_or_none floor (let c = of.cell in c.previous)
+leads_to floor logged its of previous version e = ap (λ (a : Addr). from_or_none floor a.0) (the_previous previous of.leads.said version of.leads.version (sym e ∙ of.leads.says)) ∙ of.leads.same
 
-pub held_knows : (home : ℕ → ℕ) (log : Log) (key low : ℕ) (sought : Option DiskRecord) (its : MailRecord) (said : HeaderSaid) → AreChains home log → SoughtKnows home log key low sought → TakenOf log sought its → header_said its.header ≡ said
-    → HeldKnows home log key low (held_of sought its said)
-held_knows home log key low None its said chains comes of e = tt
-held_knows home log key low (Some it) its Spoiled chains comes of e = tt
-held_knows home log key low (Some it) its (Says previous version) chains comes of e = record {
-  own = λ same. own_value home log key low it its chains comes of same;
-  another = λ other. subst (λ n. GoesOnBelow home log key (entry_addr it.entry) n low) (leads_to (log.cells it.addr.0) its of previous version e) (goes_behind home log key low it of.cell chains comes of.its (λ same. other (of.key ∙ same)));
+-- one goes on behind it, where it is of another key
+pub behind_knows : (home : ℕ → ℕ) (log : Log) (floor key low : ℕ) (it : DiskRecord) (its : MailRecord) (previous : Addr) (version : Version) → IsOrderly home log → floor ≤ log.fixed → IsSoughtFrom home log floor key low it → IsRecordOf floor (log.cells it.addr.0) its
+    → header_said its.header ≡ Says previous version → its.key.0 ≢ key → GoesOnByFloor home log floor key (entry_addr it.entry) previous.0 low
+behind_knows home log floor key low it its previous version orderly over sought of e other =
+    goes_by_floor home log orderly floor over key (entry_addr it.entry) it.addr.0 low previous.0 of.cell sought of.its (λ same. other (of.key ∙ same)) (leads_to floor (log.cells it.addr.0) its of previous version e)
+
+pub held_knows : (home : ℕ → ℕ) (log : Log) (floor key low : ℕ) (sought : Option DiskRecord) (its : MailRecord) (said : HeaderSaid) → IsOrderly home log → floor ≤ log.fixed → SoughtKnows home log floor key low sought → TakenOf log floor sought its → header_said its.header ≡ said
+    → HeldKnows home log floor key low (held_of sought its said)
+held_knows home log floor key low None its said orderly over comes of e = tt
+held_knows home log floor key low (Some it) its Spoiled orderly over comes of e = tt
+held_knows home log floor key low (Some it) its (Says previous version) orderly over comes of e = record {
+  own = λ same. own_value home log floor key low it its orderly.chains comes of same;
+  another = λ other. behind_knows home log floor key low it its previous version orderly over comes of e other;
 }
 
 -- ---- a read goes on behind it
-pub behind_knows : (home : ℕ → ℕ) (log : Log) (key low : ℕ) (it : DiskRecord) (its : MailRecord) (previous : Addr) (version : Version) → AreChains home log → IsSoughtFrom home log key low it → IsRecordOf (log.cells it.addr.0) its
-    → header_said its.header ≡ Says previous version → its.key.0 ≢ key → GoesOnBelow home log key (entry_addr it.entry) previous.0 low
-behind_knows home log key low it its previous version chains comes of e other =
-    subst (λ n. GoesOnBelow home log key (entry_addr it.entry) n low) (leads_to (log.cells it.addr.0) its of previous version e) (goes_behind home log key low it of.cell chains comes of.its (λ same. other (of.key ∙ same)))
+goes_to : (home : ℕ → ℕ) (log : Log) (floor : Addr) (key low from : ℕ) (next : Addr) → is_chain_end floor next ≡ false → GoesOnByFloor home log floor.0 key from next.0 low → ComesLive home log floor.0 key from next.0 low
+goes_to home log floor key low from next e (inl ends) = absurd (eq_false (from_or_none floor.0 next.0) 0 e ends.0)
+goes_to home log floor key low from next e (inr comes) = comes
 
-goes_to : (home : ℕ → ℕ) (log : Log) (key low from next : ℕ) → 0 < next → GoesOnBelow home log key from next low → ComesBelow home log key from next low
-goes_to home log key low from next some (inl none) = let e = none.0 in absurd (omega (arith, e, some))
-goes_to home log key low from next some (inr comes) = comes
+ends_there : (home : ℕ → ℕ) (log : Log) (floor : Addr) (key low from : ℕ) (next : Addr) → IsOrderly home log → floor.0 ≤ log.fixed → is_chain_end floor next ≡ true → GoesOnByFloor home log floor.0 key from next.0 low → FindsAbsent home log key from
+ends_there home log floor key low from next orderly over e (inl ends) = ends.1
+ends_there home log floor key low from next orderly over e (inr comes) = below_is_absent home log orderly floor.0 over key from next.0 low comes (ends_below floor next comes.comes.some e)
 
-ends_there : (home : ℕ → ℕ) (log : Log) (key low from next : ℕ) → next ≡ 0 → GoesOnBelow home log key from next low → FindsNone home log key from
-ends_there home log key low from next e (inl none) = none.1
-ends_there home log key low from next e (inr comes) = let some = comes.some in absurd (omega (arith, e, some))
-
-pub moved_knows : (home : ℕ → ℕ) (log : Log) (key low : ℕ) (sought : Option DiskRecord) (its : MailRecord) (previous : Addr) (version : Version) → AreChains home log → SoughtKnows home log key low sought → TakenOf log sought its
-    → header_said its.header ≡ Says previous version → its.key.0 ≢ key → 0 < previous.0 → SoughtKnows home log key low (moved_on sought previous)
-moved_knows home log key low None its previous version chains comes of e other some = tt
-moved_knows home log key low (Some it) its previous version chains comes of e other some =
-    goes_to home log key low (entry_addr it.entry) previous.0 some (behind_knows home log key low it its previous version chains comes of e other)
+pub moved_knows : (home : ℕ → ℕ) (log : Log) (floor : Addr) (key low : ℕ) (sought : Option DiskRecord) (its : MailRecord) (previous : Addr) (version : Version) → IsOrderly home log → floor.0 ≤ log.fixed → SoughtKnows home log floor.0 key low sought → TakenOf log floor.0 sought its
+    → header_said its.header ≡ Says previous version → its.key.0 ≢ key → is_chain_end floor previous ≡ false → SoughtKnows home log floor.0 key low (moved_on sought previous)
+moved_knows home log floor key low None its previous version orderly over comes of e other goes = tt
+moved_knows home log floor key low (Some it) its previous version orderly over comes of e other goes =
+    goes_to home log floor key low (entry_addr it.entry) previous goes (behind_knows home log floor.0 key low it its previous version orderly over comes of e other)
 
 -- the record's value is that of the first record of the key
-pub own_read : (home : ℕ → ℕ) (log : Log) (key low : ℕ) (it : DiskRecord) (its : MailRecord) → AreChains home log → IsSoughtFrom home log key low it → IsRecordOf (log.cells it.addr.0) its → its.key.0 ≡ key
+pub own_read : (home : ℕ → ℕ) (log : Log) (floor key low : ℕ) (it : DiskRecord) (its : MailRecord) → AreChains home log → IsSoughtFrom home log floor key low it → IsRecordOf floor (log.cells it.addr.0) its → its.key.0 ≡ key
     → value_of its.value ≡ value_at (log.cells (first_from home log key (entry_addr it.entry)))
-own_read home log key low it its chains comes of own = (own_value home log key low it its chains comes of own).value
+own_read home log floor key low it its chains comes of own = (own_value home log floor key low it its chains comes of own).value
 
--- or there is none, where the chain ends behind it
-pub none_read : (home : ℕ → ℕ) (log : Log) (key low : ℕ) (it : DiskRecord) (its : MailRecord) (previous : Addr) (version : Version) → AreChains home log → IsSoughtFrom home log key low it → IsRecordOf (log.cells it.addr.0) its
-    → header_said its.header ≡ Says previous version → its.key.0 ≢ key → previous.0 ≡ 0 → FindsNone home log key (entry_addr it.entry)
-none_read home log key low it its previous version chains comes of e other none =
-    ends_there home log key low (entry_addr it.entry) previous.0 none (behind_knows home log key low it its previous version chains comes of e other)
+-- or its key reads as absent, where the chain ends behind it
+pub none_read : (home : ℕ → ℕ) (log : Log) (floor : Addr) (key low : ℕ) (it : DiskRecord) (its : MailRecord) (previous : Addr) (version : Version) → IsOrderly home log → floor.0 ≤ log.fixed → IsSoughtFrom home log floor.0 key low it → IsRecordOf floor.0 (log.cells it.addr.0) its
+    → header_said its.header ≡ Says previous version → its.key.0 ≢ key → is_chain_end floor previous ≡ true → FindsAbsent home log key (entry_addr it.entry)
+none_read home log floor key low it its previous version orderly over comes of e other ends =
+    ends_there home log floor key low (entry_addr it.entry) previous orderly over ends (behind_knows home log floor.0 key low it its previous version orderly over comes of e other)

@@ -1,10 +1,10 @@
 -- Where one is down a chain, step by step, and that it stays so as the log grows.
-use Rattle.std.proofs.Common.{◌≡◌, ◌≢◌, inl, inr, ℕ, ◌<◌, ◌≤◌, ◌∙◌, List, zero, suc, refl, sym, ap, subst, arith}
+use Rattle.std.proofs.Common.{◌≡◌, ◌≢◌, inl, inr, ℕ, ◌<◌, ◌≤◌, ◌∙◌, List, [], ◌∷◌, Some, zero, suc, refl, sym, ap, subst, arith}
 use Rattle.fkv_map.specs.Map.{Map}
 use Rattle.law_log.specs.Trace.{IsIn}
-use Rattle.law_log.specs.Chains.{Cell, Published, value_at, version_at, has_key, head_of, IsWithin}
+use Rattle.law_log.specs.Chains.{Cell, Logged, Published, value_at, version_at, has_key, head_of, IsWithin}
 use Rattle.law_log.specs.Ghosts.{Log, first_from}
-use Rattle.law_log.specs.Enabled.{AreChains, IsFixed, StandsStill}
+use Rattle.law_log.specs.Enabled.{AreChains, IsFixed, IsLinked, StandsStill, previous_of}
 use Rattle.law_log.proofs.Shown.{Held, Grows, first_stays, fixed_stays, head_within, first_from_none, first_from_own, leads_on, not_unborn}
 use Rattle.law_local.specs.Tries.OnWay.{IsOnWay, ComesBelow, FindsNone, IsFoundAt, IsOrderly}
 use Rattle.law_local.proofs.OfTries.Tests.{test_true, test_false}
@@ -17,6 +17,15 @@ in_chain a chain (inl none) some = absurd (not_none a none some)
     not_none : (n : ℕ) → n ≡ 0 → 0 < n → ⊥
     not_none n e some = omega (arith, e, some)
 in_chain a chain (inr is_in) some = is_in
+
+-- a record leads to a lower address
+pub linked_low : (cells : ℕ → Logged) (chain : List ℕ) → IsLinked cells chain → (a : ℕ) (cell : Cell) → IsIn a chain → cells a ≡ Published cell → cell.previous < a
+linked_low cells [] linked a cell is_in is = absurd is_in
+linked_low cells (b ∷ older) linked a cell (inl same) is = subst (λ n. cell.previous < n) same (subst (λ n. n < b) (sym (the_next cell.previous (head_of older) (sym (ap previous_of (ap cells same ∙ is)) ∙ linked.0))) linked.1)
+  where
+    the_next : (x y : ℕ) → Some x ≡ Some y → x ≡ y
+    the_next x y e = cc
+linked_low cells (b ∷ older) linked a cell (inr is_in) is = linked_low cells older linked.2 a cell is_in is
 
 -- a published record isn't at 0
 pub some_there : (home : ℕ → ℕ) (m : Map) (log : Log) (at : ℕ) (cell : Cell) → Held home m log → log.cells at ≡ Published cell → 0 < at

@@ -1,6 +1,6 @@
 -- How far a read has come goes along with its walk and its try.
 use Rattle.std.proofs.Common.{◌≡◌, inl, inr, ℕ, ◌∙◌, refl, sym, ap, subst, Bool, true, false, Option, Some, None}
-use Rattle.std.specs.Prelude.{◌&&◌, if◌then◌else◌, nat_lt, nat_le}
+use Rattle.std.specs.Prelude.{◌&&◌, ◌||◌, if◌then◌else◌, nat_lt, nat_le}
 use Rattle.fkv_base.specs.declared.numbers.Key.{Key}
 use Rattle.fkv_map.specs.Map.{absent_word}
 use Rattle.fkv_plane.specs.declared.asks.Ask.{Ask}
@@ -28,7 +28,7 @@ use Rattle.fkv_ops.specs.declared.walking.WalkAnswer.{WalkAnswer}
 use Rattle.fkv_ops.specs.declared.walking.WalkAnswer.TheVariants as walk
 use Rattle.fkv_ops.specs.declared.walking.Walking.{Walking}
 use Rattle.fkv_ops.specs.declared.walking.Walking.TheVariants.{Ended, Finds, Meets, HasFound, LoadsValue}
-use Rattle.fkv_ops.specs.Requests.{is_read, is_blind}
+use Rattle.fkv_ops.specs.Requests.{is_read, is_blind, is_chain_end}
 use Rattle.fkv_ops.specs.Values.{value_of}
 use Rattle.fkv_ops.specs.Walking.{WalkState, walking_ask, walk_ask, slot_found, find_ledto, load_ledto, value_ledto, walking_next, walk_next, walk_on}
 use Rattle.fkv_ops.specs.Trying.{TryState, trying_ask, try_ask, must_count, ends, full_at, must_shift, copies, awaits, held_used, region_met, walked, has_walked, walk_ledto, told_value, answer_ledto, trying_next, try_next}
@@ -39,7 +39,8 @@ use Rattle.law_local.specs.Tries.TryRows.{key_in, IsFree, TryRow, TryKnows}
 use Rattle.law_local.specs.Tries.ReadRows.{GoesFrom, IsCalledFor, EndReads, WalkReads, TryReads, finds_start, search_starts, walk_starts, try_starts, started}
 use Rattle.law_local.proofs.OfTries.Tests.{not_both}
 use Rattle.law_local.proofs.OfTries.WalkRows.{same_on, loads_value, loads_same}
-use Rattle.law_local.proofs.OfTries.Tells.{load_same, value_same, find_begins, the_answer, passed_answer, ends_free}
+use Rattle.law_local.proofs.OfTries.Tells.{the_answer, passed_answer, ends_free}
+use Rattle.law_local.proofs.OfTries.WalkBegins.{load_same, value_same, find_begins}
 
 -- ---- a walk
 -- one that goes down from somewhere has been called
@@ -180,8 +181,13 @@ walked_on key reading p t walk.Nowhere reads free goes = by_read (is_read t.requ
     by_read false e = cc
 walked_on key reading p t (walk.OnDisk addr) reads free goes = by_read (is_read t.request.op) reads
   where
-    by_read : (b : Bool) → b ≡ true → TryReadsOn key reading p (if b then awaits p t addr else if is_blind t.request.op then copies p t (Known absent_word) false else held_used p t addr t.request.held)
-    by_read true e = ends_on key reading p t (answer.AwaitsDisk (record { entry = t.walk.entry; addr = addr })) reads free goes
+    by_end : (b : Bool) → TryReadsOn key reading p (if b then ends p t answer.Absent else awaits p t addr)
+    by_end true = ends_on key reading p t answer.Absent reads free goes
+    by_end false = ends_on key reading p t (answer.AwaitsDisk (record { entry = t.walk.entry; addr = addr })) reads free goes
+
+    by_read : (b : Bool) → b ≡ true
+        → TryReadsOn key reading p (if b then (if is_chain_end t.request.floor addr then ends p t answer.Absent else awaits p t addr) else if is_blind t.request.op || is_chain_end t.request.floor addr then copies p t (Known absent_word) false else held_used p t addr t.request.held)
+    by_read true e = by_end (is_chain_end t.request.floor addr)
     by_read false e = cc
 walked_on key reading p t (walk.Value value) reads free called = ends_on key reading p t (answer.Wait reason.Contended) reads free called
 walked_on key reading p t walk.Full reads free called = full_on key reading p t t.occasion reads free called

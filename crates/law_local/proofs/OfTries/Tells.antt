@@ -1,6 +1,6 @@
 -- What a try of a read tells, and where its walk goes down from.
-use Rattle.std.proofs.Common.{◌≡◌, ℕ, ◌-◌, ◌∙◌, refl, sym, ap, subst, Bool, true, false, Option, Some, None}
-use Rattle.std.specs.Prelude.{◌==◌, ◌&&◌, not, nat_lt, nat_le, if◌then◌else◌}
+use Rattle.std.proofs.Common.{◌≡◌, ℕ, ◌≤◌, ◌∙◌, refl, sym, ap, subst, Bool, true, false, Option, Some, None}
+use Rattle.std.specs.Prelude.{◌&&◌, ◌||◌, not, nat_lt, nat_le, if◌then◌else◌}
 use Rattle.fkv_base.specs.declared.numbers.Addr.{Addr}
 use Rattle.fkv_base.specs.declared.numbers.Key.{Key}
 use Rattle.fkv_map.specs.Map.{absent_word}
@@ -9,24 +9,15 @@ use Rattle.fkv_plane.specs.declared.asks.Ask.TheVariants.{Done}
 use Rattle.fkv_plane.specs.declared.places.Places.{Places}
 use Rattle.fkv_plane.specs.Passing.{passed, is_done}
 use Rattle.fkv_log.specs.declared.regions.Region.TheVariants as region
-use Rattle.fkv_log.specs.declared.loading.LoadAnswer.{LoadAnswer}
-use Rattle.fkv_log.specs.declared.loading.LoadAnswer.TheVariants as load_answer
-use Rattle.fkv_log.specs.Loading.{load_next, load_next_ask}
 use Rattle.fkv_latch.specs.declared.latching.LatchTask.TheVariants.{DropShared, DropExclusive}
 use Rattle.fkv_latch.specs.Latching.{latch_ask}
-use Rattle.fkv_index.specs.declared.finding.Found.{Found}
-use Rattle.fkv_index.specs.declared.finding.Found.TheVariants as found
-use Rattle.fkv_index.specs.declared.finding.FindAnswer.{FindAnswer}
 use Rattle.fkv_index.specs.Slots.{entry_addr}
-use Rattle.fkv_index.specs.Finding.{find_next, find_next_ask}
-use Rattle.law_log.specs.Chains.{value_at, head_of}
+use Rattle.law_log.specs.Chains.{value_at}
 use Rattle.law_log.specs.Ghosts.{Log}
 use Rattle.fkv_ops.specs.declared.answers.DiskRecord.{DiskRecord}
 use Rattle.fkv_ops.specs.declared.answers.Reason.TheVariants as reason
 use Rattle.fkv_ops.specs.declared.answers.TryAnswer.{TryAnswer}
 use Rattle.fkv_ops.specs.declared.answers.TryAnswer.TheVariants as answer
-use Rattle.fkv_ops.specs.declared.header_words.HeaderSaid.{HeaderSaid}
-use Rattle.fkv_ops.specs.declared.header_words.HeaderSaid.TheVariants.{Says, Spoiled}
 use Rattle.fkv_ops.specs.declared.requests.Occasion.{Occasion}
 use Rattle.fkv_ops.specs.declared.requests.Occasion.TheVariants.{Call, Poll}
 use Rattle.fkv_ops.specs.declared.requests.Request.{Request}
@@ -36,19 +27,21 @@ use Rattle.fkv_ops.specs.declared.trying.Trying.{Trying}
 use Rattle.fkv_ops.specs.declared.trying.Trying.TheVariants as try
 use Rattle.fkv_ops.specs.declared.walking.WalkAnswer.{WalkAnswer}
 use Rattle.fkv_ops.specs.declared.walking.WalkAnswer.TheVariants as walk
-use Rattle.fkv_ops.specs.declared.walking.Walking.{Walking}
-use Rattle.fkv_ops.specs.declared.walking.Walking.TheVariants.{Ended, Finds, Meets, HasFound, LoadsValue}
-use Rattle.fkv_ops.specs.HeaderWords.{header_said}
-use Rattle.fkv_ops.specs.Requests.{is_read, is_blind}
+use Rattle.fkv_ops.specs.Requests.{is_read, is_blind, is_chain_end}
 use Rattle.fkv_ops.specs.Values.{value_of}
-use Rattle.fkv_ops.specs.Walking.{WalkState, walk_ask, reached, slot_found, find_ledto, first_met, record_met, load_ledto, value_ledto, walking_next, walk_next, walk_on}
+use Rattle.fkv_ops.specs.Walking.{walk_ask, walk_next, walk_on}
 use Rattle.fkv_ops.specs.Appending.{append_ask}
 use Rattle.fkv_ops.specs.Trying.{TryState, trying_ask, try_ask, is_wait, with_latch, ended_without, ends_so, ends_by, must_count, ends, full_at, must_shift, copies, awaits, held_used, region_met, walked, has_walked, walk_ledto, told_value, answer_ledto, trying_next, try_next}
+use Rattle.law_log.specs.Begins.{Live}
+use Rattle.fkv_ops.proofs.Shown.{ends_below}
+use Rattle.law_local.specs.Tries.Floors.{HasFloor, ComesLive}
+use Rattle.law_local.proofs.OfTries.Floors.{below_is_absent, walk_comes}
+use Rattle.law_local.proofs.OfTries.WalkBegins.{walk_lives}
 use Rattle.law_local.specs.Tries.OnWay.{ComesBelow, FindsNone, IsOrderly}
-use Rattle.law_local.specs.Tries.Replies.{LeadsToHead, EndsAtHead, IsTrueOfWalk, IsTrueReply}
-use Rattle.law_local.specs.Tries.WalkRows.{begin_of, WalkRow, WalkKnows, WalkTells}
-use Rattle.law_local.specs.Tries.TryRows.{key_in, head_in, first_of, IsWalkFor, AnswerKnows, IsFree, TryRow, TryKnows}
-use Rattle.law_local.specs.Tries.Tells.{ReadTells, TryTells, BeginsAtFound, BeginsBehind, WalkBegins}
+use Rattle.law_local.specs.Tries.Replies.{IsTrueReply}
+use Rattle.law_local.specs.Tries.WalkRows.{begin_of, WalkKnows, WalkTells}
+use Rattle.law_local.specs.Tries.TryRows.{key_in, head_in, floor_in, first_of, WalkIsLive, IsWalkFor, AnswerKnows, IsFree, TryRow, TryKnows}
+use Rattle.law_local.specs.Tries.Tells.{ReadTells, TryTells}
 use Rattle.law_local.proofs.OfTries.Tests.{not_both}
 use Rattle.law_local.proofs.OfTries.WalkRows.{walk_leads, walk_tells, loads_value, loads_same}
 use Rattle.law_local.proofs.OfTries.WalkKept.{KeepsKey, walk_keeps}
@@ -56,58 +49,6 @@ use Rattle.law_local.proofs.OfTries.TrySteps.{found_value}
 use Rattle.fkv_ops.specs.Bounds.{bounds_at, has_bounds}
 use Rattle.fkv_ops.specs.Waiting.{waiting_of}
 use Rattle.fkv_ops.specs.declared.answers.Waiting.{Waiting}
-
--- ---- where a walk goes down from
-abbrev pub KeepsEntry : WalkState → WalkState → Type 0
-KeepsEntry w w' = w'.entry ≡ w.entry
-
-by_test : (w : WalkState) (b : Bool) (x y : WalkState) → KeepsEntry w x → KeepsEntry w y → KeepsEntry w (if b then x else y)
-by_test w true x y first second = first
-by_test w false x y first second = second
-
-reached_same : (p : Places) (w : WalkState) (addr : ℕ) → KeepsEntry w (reached p w addr)
-reached_same p w addr = by_test w (addr == 0) _ _ refl (by_test w (nat_lt addr w.head.0) _ _ refl (by_test w (nat_lt (addr - w.head.0) p.ring) _ _ refl refl))
-
-record_same : (p : Places) (w : WalkState) (addr : Addr) (key : Key) (said : HeaderSaid) → KeepsEntry w (record_met p w addr key said)
-record_same p w addr key Spoiled = refl
-record_same p w addr key (Says previous version) = by_test w (nat_lt previous.0 addr.0) _ _ (by_test w (key.0 == w.key.0) _ _ refl (reached_same p (record w { first = first_met w.first version }) previous.0)) refl
-
-pub load_same : (p : Places) (w : WalkState) (addr : Addr) (ask : Ask LoadAnswer) → KeepsEntry w (load_ledto p w addr ask)
-unfolding load_ledto
-load_same p w addr (Done (load_answer.Met header key)) = record_same p w addr key (header_said header)
-load_same p w addr (Done other) = refl
-load_same p w addr ask = refl
-
-pub value_same : (w : WalkState) (ask : Ask LoadAnswer) → KeepsEntry w (value_ledto w ask)
-unfolding value_ledto
-value_same w (Done (load_answer.Whole header key value)) = refl
-value_same w (Done other) = refl
-value_same w ask = refl
-
-slot_begins : (home : ℕ → ℕ) (log : Log) (p : Places) (w : WalkState) (its : Found) → w.entry ≡ 0 → LeadsToHead (head_of (log.chains (home w.key.0))) its → BeginsAtFound (head_of (log.chains (home w.key.0))) (begin_of (slot_found p w its)) its
-slot_begins home log p w (found.Slot place word) none leads = ap entry_addr (reached_same p (record w { place = place; entry = word }) (entry_addr word)) ∙ leads
-slot_begins home log p w found.NoSlot none leads = ap entry_addr none ∙ sym leads
-slot_begins home log p w found.Full none leads = tt
-slot_begins home log p w found.Kept none leads = tt
-slot_begins home log p w found.Contended none leads = tt
-
-pub find_begins : (home : ℕ → ℕ) (log : Log) (p : Places) (w : WalkState) (ask : Ask FindAnswer) → w.entry ≡ 0 → EndsAtHead (head_of (log.chains (home w.key.0))) ask → BeginsBehind (head_of (log.chains (home w.key.0))) (begin_of (find_ledto p w ask)) ask
-unfolding find_ledto
-find_begins home log p w (Done its) none leads = slot_begins home log p (record w { spare = its.spare }) its.found none leads
-find_begins home log p w ask none leads = tt
-
-row_begins : (home : ℕ → ℕ) (log : Log) (p : Places) (w : WalkState) (step : Walking) (reply : ℕ) → w.step ≡ step → WalkRow home log w step → IsTrueOfWalk home log p w step reply → WalkBegins home log p w step reply
-unfolding walking_next
-row_begins home log p w (Ended its) reply at row says = ap (λ step. (walking_next p w step reply).entry) at
-row_begins home log p w Finds reply at row says =
-    subst (λ e. BeginsBehind (head_of (log.chains (home w.key.0))) e (find_next_ask p w.finding reply)) (sym (ap (λ step. begin_of (walking_next p w step reply)) at))
-    (find_begins home log p (record w { finding = find_next p w.finding reply }) (find_next_ask p w.finding reply) row says)
-row_begins home log p w (Meets addr) reply at row says = ap (λ step. (walking_next p w step reply).entry) at ∙ load_same p (record w { loading = load_next w.loading reply }) addr (load_next_ask p w.loading reply)
-row_begins home log p w (HasFound addr version) reply at row says = ap (λ step. (walking_next p w step reply).entry) at
-row_begins home log p w LoadsValue reply at row says = ap (λ step. (walking_next p w step reply).entry) at ∙ value_same (record w { loading = load_next w.loading reply }) (load_next_ask p w.loading reply)
-
-pub walk_begins : (home : ℕ → ℕ) (log : Log) (p : Places) (w : WalkState) (reply : ℕ) → WalkKnows home log w → IsTrueOfWalk home log p w w.step reply → WalkBegins home log p w w.step reply
-walk_begins home log p w reply knows says = row_begins home log p w w.step reply refl knows says
 
 -- ---- the answer of a read
 pub the_answer : (a b : TryAnswer) → Done a ≡ Done b → a ≡ b
@@ -169,15 +110,15 @@ full_tells : (home : ℕ → ℕ) (log : Log) (p : Places) (t : TryState) (occas
 full_tells home log p t (Call bounds) reads free = end_tells home log p t answer.IndexFull reads free tt
 full_tells home log p t Poll reads free = end_tells home log p t (answer.Wait reason.Full) reads free tt
 
-walked_tells : (home : ℕ → ℕ) (log : Log) (p : Places) (t : TryState) (its : WalkAnswer) → IsOrderly home log → is_read t.request.op ≡ true → IsFree t.request t.has_shared t.has_exclusive → IsWalkFor t.request t.seen t.walk → WalkTells home log t.walk its
+walked_tells : (home : ℕ → ℕ) (log : Log) (p : Places) (t : TryState) (its : WalkAnswer) → IsOrderly home log → floor_in t.request ≤ log.fixed → WalkIsLive home log t.request t.walk → is_read t.request.op ≡ true → IsFree t.request t.has_shared t.has_exclusive → IsWalkFor t.request t.seen t.walk → WalkTells home log t.walk its
     → TryTells home log p (walked p t its)
-walked_tells home log p t (walk.Found addr version) orderly reads free walks tells = by_read (is_read t.request.op) reads
+walked_tells home log p t (walk.Found addr version) orderly over live reads free walks tells = by_read (is_read t.request.op) reads
   where
     by_read : (b : Bool) → b ≡ true
         → TryTells home log p (if b then record t { walk = walk_on t.walk; step = try.LoadsAnswer } else region_met p t addr version (if nat_lt addr.0 t.seen.offsets.head.0 then Some region.Disk else if nat_le t.seen.offsets.read_only.0 addr.0 then Some region.Mutable else None))
     by_read true e = answer_under_way home log p (record t { walk = walk_on t.walk; step = try.LoadsAnswer }) refl
     by_read false e = cc
-walked_tells home log p t walk.Nowhere orderly reads free walks tells = by_read (is_read t.request.op) reads
+walked_tells home log p t walk.Nowhere orderly over live reads free walks tells = by_read (is_read t.request.op) reads
   where
     none : FindsNone home log (key_in t.request) (begin_of t.walk)
     none = subst (λ (k : Key). FindsNone home log k.0 (begin_of t.walk)) walks.its_key tells
@@ -185,28 +126,34 @@ walked_tells home log p t walk.Nowhere orderly reads free walks tells = by_read 
     by_read : (b : Bool) → b ≡ true → TryTells home log p (if b then ends p t answer.Absent else if must_count p t then record t { step = try.CountsTaken } else copies p t (Known absent_word) false)
     by_read true e = end_tells home log p t answer.Absent reads free (ap (λ a. value_at (log.cells a)) none.none ∙ ap value_at orderly.none)
     by_read false e = cc
-walked_tells home log p t (walk.OnDisk addr) orderly reads free walks tells = by_read (is_read t.request.op) reads
+walked_tells home log p t (walk.OnDisk addr) orderly over live reads free walks tells = by_read (is_read t.request.op) reads
   where
-    comes : ComesBelow home log (key_in t.request) (begin_of t.walk) addr.0 (head_in t.seen)
-    comes = subst (λ (a : Addr). ComesBelow home log (key_in t.request) (begin_of t.walk) addr.0 a.0) walks.its_head (subst (λ (k : Key). ComesBelow home log k.0 (begin_of t.walk) addr.0 t.walk.head.0) walks.its_key tells)
+    comes : ComesLive home log (floor_in t.request) (key_in t.request) (begin_of t.walk) addr.0 (head_in t.seen)
+    comes = walk_comes home log orderly t.request t.walk addr.0 (head_in t.seen) live
+        (subst (λ (a : Addr). ComesBelow home log (key_in t.request) (begin_of t.walk) addr.0 a.0) walks.its_head (subst (λ (k : Key). ComesBelow home log k.0 (begin_of t.walk) addr.0 t.walk.head.0) walks.its_key tells))
 
-    by_read : (b : Bool) → b ≡ true → TryTells home log p (if b then awaits p t addr else if is_blind t.request.op then copies p t (Known absent_word) false else held_used p t addr t.request.held)
-    by_read true e = end_tells home log p t (answer.AwaitsDisk (record { entry = t.walk.entry; addr = addr })) reads free (refl, comes)
+    by_end : (b : Bool) → is_chain_end t.request.floor addr ≡ b → TryTells home log p (if b then ends p t answer.Absent else awaits p t addr)
+    by_end true e = end_tells home log p t answer.Absent reads free (below_is_absent home log orderly (floor_in t.request) over (key_in t.request) (begin_of t.walk) addr.0 (head_in t.seen) comes (ends_below t.request.floor addr comes.comes.some e)).absent
+    by_end false e = end_tells home log p t (answer.AwaitsDisk (record { entry = t.walk.entry; addr = addr })) reads free (refl, comes)
+
+    by_read : (b : Bool) → b ≡ true
+        → TryTells home log p (if b then (if is_chain_end t.request.floor addr then ends p t answer.Absent else awaits p t addr) else if is_blind t.request.op || is_chain_end t.request.floor addr then copies p t (Known absent_word) false else held_used p t addr t.request.held)
+    by_read true e = by_end (is_chain_end t.request.floor addr) refl
     by_read false e = cc
-walked_tells home log p t (walk.Value value) orderly reads free walks tells = end_tells home log p t (answer.Wait reason.Contended) reads free tt
-walked_tells home log p t walk.Full orderly reads free walks tells = full_tells home log p t t.occasion reads free
-walked_tells home log p t walk.Kept orderly reads free walks tells = full_tells home log p t t.occasion reads free
-walked_tells home log p t walk.Contended orderly reads free walks tells = end_tells home log p t (answer.Wait reason.Contended) reads free tt
+walked_tells home log p t (walk.Value value) orderly over live reads free walks tells = end_tells home log p t (answer.Wait reason.Contended) reads free tt
+walked_tells home log p t walk.Full orderly over live reads free walks tells = full_tells home log p t t.occasion reads free
+walked_tells home log p t walk.Kept orderly over live reads free walks tells = full_tells home log p t t.occasion reads free
+walked_tells home log p t walk.Contended orderly over live reads free walks tells = end_tells home log p t (answer.Wait reason.Contended) reads free tt
 
-walk_led_tells : (home : ℕ → ℕ) (log : Log) (p : Places) (t : TryState) (ask : Ask WalkAnswer) → IsOrderly home log → is_read t.request.op ≡ true → IsFree t.request t.has_shared t.has_exclusive → t.step ≡ try.Walks → IsWalkFor t.request t.seen t.walk
+walk_led_tells : (home : ℕ → ℕ) (log : Log) (p : Places) (t : TryState) (ask : Ask WalkAnswer) → IsOrderly home log → floor_in t.request ≤ log.fixed → WalkIsLive home log t.request t.walk → is_read t.request.op ≡ true → IsFree t.request t.has_shared t.has_exclusive → t.step ≡ try.Walks → IsWalkFor t.request t.seen t.walk
     → WalkKnows home log t.walk → walk_ask p t.walk ≡ ask → TryTells home log p (walk_ledto p t ask)
 unfolding walk_ledto
-walk_led_tells home log p t (Done its) orderly reads free at walks knows asks = by_shift (has_walked its && must_shift (record t { spare = t.walk.spare }))
+walk_led_tells home log p t (Done its) orderly over live reads free at walks knows asks = by_shift (has_walked its && must_shift (record t { spare = t.walk.spare }))
   where
     by_shift : (b : Bool) → TryTells home log p (if b then ends p (record t { spare = t.walk.spare }) answer.Shift else walked p (record t { spare = t.walk.spare }) its)
     by_shift true = end_tells home log p (record t { spare = t.walk.spare }) answer.Shift reads free tt
-    by_shift false = walked_tells home log p (record t { spare = t.walk.spare }) its orderly reads free walks (walk_tells home log p t.walk its knows asks)
-walk_led_tells home log p t ask orderly reads free at walks knows asks = walks_tells home log p t at
+    by_shift false = walked_tells home log p (record t { spare = t.walk.spare }) its orderly over live reads free walks (walk_tells home log p t.walk its knows asks)
+walk_led_tells home log p t ask orderly over live reads free at walks knows asks = walks_tells home log p t at
 
 answer_tells : (home : ℕ → ℕ) (log : Log) (p : Places) (t : TryState) (value : ℕ) → is_read t.request.op ≡ true → IsFree t.request t.has_shared t.has_exclusive → value_of value ≡ value_at (log.cells (first_of home log t.request (begin_of t.walk)))
     → TryTells home log p (answer_ledto p t (Done (walk.Value value)))
@@ -220,38 +167,38 @@ answer_tells home log p t value reads free says = by_value (value_of value) says
 done_not : {X : Type 0} {A : Type 0} (its : A) → is_done (Done its) ≡ false → X
 done_not its e = cc
 
-row_tells : (home : ℕ → ℕ) (log : Log) (p : Places) (room : ℕ) (t : TryState) (step : Trying) (reply : ℕ) → IsOrderly home log → is_read t.request.op ≡ true → IsFree t.request t.has_shared t.has_exclusive → t.step ≡ step → TryRow home log t step
+row_tells : (home : ℕ → ℕ) (log : Log) (p : Places) (room : ℕ) (t : TryState) (step : Trying) (reply : ℕ) → IsOrderly home log → HasFloor home log (floor_in t.request) → is_read t.request.op ≡ true → IsFree t.request t.has_shared t.has_exclusive → t.step ≡ step → TryRow home log t step
     → is_done (trying_ask p t step) ≡ false → IsTrueReply home log p t step reply → TryTells home log p (trying_next p room (record t { effect = None }) step reply)
 unfolding trying_next trying_ask
-row_tells home log p room t (try.Ended its) reply orderly reads free at row asks says = done_not its asks
-row_tells home log p room t try.TakesShared reply orderly reads free at row asks says = not_both (is_read t.request.op) reads row
-row_tells home log p room t try.LoadsPhase reply orderly reads free at row asks says = not_both (is_read t.request.op) reads row
-row_tells home log p room t try.Walks reply orderly reads free at row asks says =
-    walk_led_tells home log p (record t { effect = None; walk = walk_next p t.walk reply }) (walk_ask p (walk_next p t.walk reply)) orderly reads free at
+row_tells home log p room t (try.Ended its) reply orderly has reads free at row asks says = done_not its asks
+row_tells home log p room t try.TakesShared reply orderly has reads free at row asks says = not_both (is_read t.request.op) reads row
+row_tells home log p room t try.LoadsPhase reply orderly has reads free at row asks says = not_both (is_read t.request.op) reads row
+row_tells home log p room t try.Walks reply orderly has reads free at row asks says =
+    walk_led_tells home log p (record t { effect = None; walk = walk_next p t.walk reply }) (walk_ask p (walk_next p t.walk reply)) orderly has.fixed (walk_lives home log p t.request t.walk reply has (ap (λ (k : Key). k.0) row.0.its_key) row.1 says row.2) reads free at
     (record { its_key = kept.key ∙ row.0.its_key; its_head = kept.head ∙ row.0.its_head }) (walk_leads home log p t.walk reply orderly.chains row.1 says) refl
   where
     kept : KeepsKey t.walk (walk_next p t.walk reply)
     kept = walk_keeps p t.walk reply
-row_tells home log p room t try.CountsTaken reply orderly reads free at row asks says = not_both (is_read t.request.op) reads row.0
-row_tells home log p room t (try.LoadsSafe addr version) reply orderly reads free at row asks says = not_both (is_read t.request.op) reads row.0
-row_tells home log p room t (try.SwapsValue addr) reply orderly reads free at row asks says = not_both (is_read t.request.op) reads row.0
-row_tells home log p room t (try.LoadsCurrent addr) reply orderly reads free at row asks says = not_both (is_read t.request.op) reads row.0
-row_tells home log p room t (try.ChangesValue addr old) reply orderly reads free at row asks says = not_both (is_read t.request.op) reads row.0
-row_tells home log p room t try.LoadsAnswer reply orderly reads free at row asks says =
+row_tells home log p room t try.CountsTaken reply orderly has reads free at row asks says = not_both (is_read t.request.op) reads row.0
+row_tells home log p room t (try.LoadsSafe addr version) reply orderly has reads free at row asks says = not_both (is_read t.request.op) reads row.0
+row_tells home log p room t (try.SwapsValue addr) reply orderly has reads free at row asks says = not_both (is_read t.request.op) reads row.0
+row_tells home log p room t (try.LoadsCurrent addr) reply orderly has reads free at row asks says = not_both (is_read t.request.op) reads row.0
+row_tells home log p room t (try.ChangesValue addr old) reply orderly has reads free at row asks says = not_both (is_read t.request.op) reads row.0
+row_tells home log p room t try.LoadsAnswer reply orderly has reads free at row asks says =
     subst (λ ask. TryTells home log p (answer_ledto p (record t { effect = None; walk = walk_next p t.walk reply }) ask)) (sym (loads_value p t.walk row.addr reply row.its.loads))
     (answer_tells home log p (record t { effect = None; walk = walk_next p t.walk reply }) reply reads free
     (subst (λ n. value_of reply ≡ value_at (log.cells (first_of home log t.request (entry_addr n)))) (sym (loads_same p t.walk row.addr reply row.its.loads)) (found_value home log p t.request t.seen t.walk row.addr reply row.its says)))
-row_tells home log p room t (try.TakesExclusive old) reply orderly reads free at row asks says = not_both (is_read t.request.op) reads row.0
-row_tells home log p room t try.LoadsOld reply orderly reads free at row asks says = not_both (is_read t.request.op) reads row.0
-row_tells home log p room t (try.Appends its) reply orderly reads free at row asks says = not_both (is_read t.request.op) reads row.0
-row_tells home log p room t (try.LoadsTail waiting) reply orderly reads free at row asks says = not_both (is_read t.request.op) reads row.0
-row_tells home log p room t (try.LoadsTaken waiting) reply orderly reads free at row asks says = not_both (is_read t.request.op) reads row.0
-row_tells home log p room t (try.DropsExclusive its) reply orderly reads free at row asks says = not_both (is_read t.request.op) reads row.0
-row_tells home log p room t (try.DropsShared its) reply orderly reads free at row asks says = not_both (is_read t.request.op) reads row.0
+row_tells home log p room t (try.TakesExclusive old) reply orderly has reads free at row asks says = not_both (is_read t.request.op) reads row.0
+row_tells home log p room t try.LoadsOld reply orderly has reads free at row asks says = not_both (is_read t.request.op) reads row.0
+row_tells home log p room t (try.Appends its) reply orderly has reads free at row asks says = not_both (is_read t.request.op) reads row.0
+row_tells home log p room t (try.LoadsTail waiting) reply orderly has reads free at row asks says = not_both (is_read t.request.op) reads row.0
+row_tells home log p room t (try.LoadsTaken waiting) reply orderly has reads free at row asks says = not_both (is_read t.request.op) reads row.0
+row_tells home log p room t (try.DropsExclusive its) reply orderly has reads free at row asks says = not_both (is_read t.request.op) reads row.0
+row_tells home log p room t (try.DropsShared its) reply orderly has reads free at row asks says = not_both (is_read t.request.op) reads row.0
 
-pub read_tells : (home : ℕ → ℕ) (log : Log) (p : Places) (room : ℕ) (t : TryState) (reply : ℕ) → IsOrderly home log → TryKnows home log t → is_read t.request.op ≡ true → is_done (try_ask p t) ≡ false → IsTrueReply home log p t t.step reply
+pub read_tells : (home : ℕ → ℕ) (log : Log) (p : Places) (room : ℕ) (t : TryState) (reply : ℕ) → IsOrderly home log → Live (floor_in t.request) home log → TryKnows home log t → is_read t.request.op ≡ true → is_done (try_ask p t) ≡ false → IsTrueReply home log p t t.step reply
     → TryTells home log p (try_next p room t reply)
-read_tells home log p room t reply orderly knows reads asks says = row_tells home log p room t t.step reply orderly reads knows.free refl knows.row asks says
+read_tells home log p room t reply orderly live knows reads asks says = row_tells home log p room t t.step reply orderly (record { fixed = knows.request.low_floor; live = live }) reads knows.free refl knows.row asks says
 
 -- ---- a record that is awaited
 awaited : (home : ℕ → ℕ) (log : Log) (request : Request) (seen : Seen) (its : TryAnswer) (it : DiskRecord) → its ≡ answer.AwaitsDisk it → AnswerKnows home log request seen its → AnswerKnows home log request seen (answer.AwaitsDisk it)

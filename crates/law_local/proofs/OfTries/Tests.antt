@@ -1,6 +1,6 @@
 -- What a test says, by what it comes to.
-use Rattle.std.proofs.Common.{◌≡◌, ℕ, ◌<◌, ◌≤◌, arith, Bool, true, false, eqb-true}
-use Rattle.std.specs.Prelude.{◌≢◌, ◌==◌, nat_lt, nat_le}
+use Rattle.std.proofs.Common.{◌≡◌, ◌⊎◌, inl, inr, refl, ℕ, ◌<◌, ◌≤◌, arith, Bool, true, false, eqb-true}
+use Rattle.std.specs.Prelude.{◌≢◌, ◌==◌, ◌||◌, nat_lt, nat_le}
 use Rattle.std.proofs.lemmas.Bool.Decides.{nat_tests}
 
 pub lt_true : (a b : ℕ) → nat_lt a b ≡ true → a < b
@@ -29,6 +29,10 @@ test_true a b same = grind (arith, nat_tests)
 
 pub some_where : (a : ℕ) → (a == 0) ≡ false → 0 < a
 some_where a e = grind (arith, nat_tests, e)
+
+pub either : (a b : Bool) → (a || b) ≡ true → (a ≡ true) ⊎ (b ≡ true)
+either true b e = inl refl
+either false b e = inr e
 
 -- a fact against its contrary
 pub not_both : {X : Type 0} → (b : Bool) → b ≡ true → b ≡ false → X

@@ -1,6 +1,6 @@
 -- A try keeps its request, what its session has seen, and the entry that its walk goes by.
 use Rattle.std.proofs.Common.{◌≡◌, ℕ, ◌∙◌, refl, ap, Bool, true, false, Option, Some, None}
-use Rattle.std.specs.Prelude.{◌==◌, ◌&&◌, not, nat_le, if◌then◌else◌}
+use Rattle.std.specs.Prelude.{◌==◌, ◌&&◌, ◌||◌, not, nat_le, if◌then◌else◌}
 use Rattle.fkv_base.specs.declared.numbers.Addr.{Addr}
 use Rattle.fkv_base.specs.declared.numbers.Version.{Version}
 use Rattle.fkv_marks.specs.Marks.{mark}
@@ -18,7 +18,6 @@ use Rattle.fkv_latch.specs.declared.latching.LatchAnswer.{LatchAnswer}
 use Rattle.fkv_latch.specs.declared.latching.LatchAnswer.TheVariants as latch
 use Rattle.fkv_latch.specs.declared.latching.LatchTask.TheVariants.{DropShared, DropExclusive, TakeShared, TakeExclusive}
 use Rattle.fkv_latch.specs.Latching.{latch_next, latch_next_ask}
-use Rattle.fkv_index.specs.Slots.{home_of}
 use Rattle.fkv_ops.specs.declared.answers.Reason.TheVariants as reason
 use Rattle.fkv_ops.specs.declared.answers.TryAnswer.{TryAnswer}
 use Rattle.fkv_ops.specs.declared.answers.TryAnswer.TheVariants as answer
@@ -34,7 +33,7 @@ use Rattle.fkv_ops.specs.declared.trying.Trying.{Trying}
 use Rattle.fkv_ops.specs.declared.trying.Trying.TheVariants as try
 use Rattle.fkv_ops.specs.declared.walking.WalkAnswer.{WalkAnswer}
 use Rattle.fkv_ops.specs.declared.walking.WalkAnswer.TheVariants as walk
-use Rattle.fkv_ops.specs.Requests.{is_read, is_blind}
+use Rattle.fkv_ops.specs.Requests.{is_read, is_blind, is_chain_end}
 use Rattle.fkv_ops.specs.Values.{value_of}
 use Rattle.fkv_ops.specs.Walking.{walk_ask, walk_next, walk_on}
 use Rattle.fkv_ops.specs.Appending.{append_ask, append_next}
@@ -106,9 +105,9 @@ held_keeps : (p : Places) (t : TryState) (addr : Addr) (its : Option HeldRecord)
 unfolding held_used
 held_keeps p t addr None = awaits_keeps p t addr
 held_keeps p t addr (Some held) =
-    by_test t (held.entry == t.walk.entry) (if held.key.0 == (key_of t.request.op).0 then copies p t (Known held.value) false else if held.previous.0 == 0 then copies p t (Known absent_word) false else awaits p t held.previous) (awaits p t addr)
-    (by_test t (held.key.0 == (key_of t.request.op).0) (copies p t (Known held.value) false) (if held.previous.0 == 0 then copies p t (Known absent_word) false else awaits p t held.previous) (copies_keeps p t (Known held.value) false)
-    (by_test t (held.previous.0 == 0) (copies p t (Known absent_word) false) (awaits p t held.previous) (copies_keeps p t (Known absent_word) false) (awaits_keeps p t held.previous)))
+    by_test t (held.entry == t.walk.entry) (if held.key.0 == (key_of t.request.op).0 then copies p t (Known held.value) false else if is_chain_end t.request.floor held.previous then copies p t (Known absent_word) false else awaits p t held.previous) (awaits p t addr)
+    (by_test t (held.key.0 == (key_of t.request.op).0) (copies p t (Known held.value) false) (if is_chain_end t.request.floor held.previous then copies p t (Known absent_word) false else awaits p t held.previous) (copies_keeps p t (Known held.value) false)
+    (by_test t (is_chain_end t.request.floor held.previous) (copies p t (Known absent_word) false) (awaits p t held.previous) (copies_keeps p t (Known absent_word) false) (awaits_keeps p t held.previous)))
     (awaits_keeps p t addr)
 
 nowhere_keeps : (p : Places) (t : TryState) → KeepsTrial t (met_nowhere p t)
@@ -122,8 +121,9 @@ count_keeps p t taken = by_test t (is_past_taken (bounds_at t.occasion) taken) (
 
 disk_keeps : (p : Places) (t : TryState) (addr : Addr) → KeepsTrial t (met_disk p t addr)
 disk_keeps p t addr =
-    by_test t (is_read t.request.op) (awaits p t addr) (if is_blind t.request.op then copies p t (Known absent_word) false else held_used p t addr t.request.held) (awaits_keeps p t addr)
-    (by_test t (is_blind t.request.op) (copies p t (Known absent_word) false) (held_used p t addr t.request.held) (copies_keeps p t (Known absent_word) false) (held_keeps p t addr t.request.held))
+    by_test t (is_read t.request.op) (if is_chain_end t.request.floor addr then ends p t answer.Absent else awaits p t addr) (if is_blind t.request.op || is_chain_end t.request.floor addr then copies p t (Known absent_word) false else held_used p t addr t.request.held)
+    (by_test t (is_chain_end t.request.floor addr) (ends p t answer.Absent) (awaits p t addr) (ends_keeps p t answer.Absent) (awaits_keeps p t addr))
+    (by_test t (is_blind t.request.op || is_chain_end t.request.floor addr) (copies p t (Known absent_word) false) (held_used p t addr t.request.held) (copies_keeps p t (Known absent_word) false) (held_keeps p t addr t.request.held))
 
 changes_keeps : (t : TryState) (addr : Addr) → KeepsTrial t (changes t addr)
 changes_keeps t addr = by_test t (is_blind t.request.op) (record t { step = try.SwapsValue addr }) (record t { walk = walk_on t.walk; step = try.LoadsCurrent addr }) (record { request = refl; seen = refl; entry = refl }) (record { request = refl; seen = refl; entry = same_on t.walk })

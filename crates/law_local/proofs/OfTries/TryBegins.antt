@@ -1,9 +1,7 @@
 -- What a try knows as it begins.
-use Rattle.std.proofs.Common.{◌≡◌, ℕ, refl, Bool, true, false, None}
+use Rattle.std.proofs.Common.{◌≡◌, ℕ, refl, Bool, true, false}
 use Rattle.std.specs.Prelude.{◌&&◌, not, if◌then◌else◌}
-use Rattle.fkv_map.specs.Keys.{key_of}
 use Rattle.fkv_plane.specs.declared.places.Places.{Places}
-use Rattle.fkv_index.specs.Slots.{home_of}
 use Rattle.fkv_latch.specs.declared.latching.LatchTask.TheVariants.{TakeShared}
 use Rattle.law_log.specs.Ghosts.{Log}
 use Rattle.fkv_ops.specs.declared.requests.Occasion.{Occasion}

@@ -91,7 +91,7 @@ full_knows home log p t refused Poll request free knows = ends_knows home log p 
 
 -- ---- the walk
 pub walks_knows : (home : ℕ → ℕ) (log : Log) (p : Places) (t : TryState) → RequestKnows home log t.request t.seen → IsFree t.request t.has_shared t.has_exclusive → TryKnows home log (walks p t)
-walks_knows home log p t request free = record { request = request; free = free; row = (record { its_key = refl; its_head = refl }, refl) }
+walks_knows home log p t request free = record { request = request; free = free; row = (record { its_key = refl; its_head = refl }, refl, inl refl) }
 
 -- ---- a new record
 pub update_free : (request : Request) (has_shared has_exclusive : Bool) → IsUpdate request → IsFree request has_shared has_exclusive

@@ -2,6 +2,7 @@
 use Rattle.std.proofs.Common.{◌≡◌, ℕ, ◌∙◌, refl, sym, ap, subst, Bool, true, false, Option, Some, None}
 use Rattle.std.specs.Prelude.{◌==◌, ◌&&◌, if◌then◌else◌, nat_lt, ◌^◌}
 use Rattle.fkv_base.specs.declared.numbers.Addr.{Addr}
+use Rattle.fkv_base.specs.declared.numbers.Key.{Key}
 use Rattle.fkv_map.specs.declared.operations.Reply.{Reply}
 use Rattle.fkv_map.specs.Keys.{reply_from}
 use Rattle.fkv_words.specs.declared.phase_words.PhaseSaid.{PhaseSaid}
@@ -23,6 +24,7 @@ use Rattle.fkv_index.specs.declared.publishing.PublishAnswer.{PublishAnswer}
 use Rattle.fkv_index.specs.declared.publishing.PublishAnswer.TheVariants as publish
 use Rattle.fkv_index.specs.Publishing.{publish_next, publish_next_ask}
 use Rattle.fkv_index.specs.Slots.{entry_addr}
+use Rattle.law_log.specs.Begins.{Live}
 use Rattle.law_log.specs.Chains.{value_at}
 use Rattle.law_log.specs.Ghosts.{Log}
 use Rattle.law_log.specs.Enabled.{StandsStill}
@@ -48,8 +50,9 @@ use Rattle.fkv_ops.specs.Trying.{TryState, ends_so, tail_loaded, taken_loaded, c
 use Rattle.law_local.specs.Tries.OnWay.{IsFoundAt, IsOrderly}
 use Rattle.law_local.specs.Tries.Replies.{IsTrueOfLoad, IsTrueOfWalk, IsTrueReply}
 use Rattle.law_local.specs.Tries.WalkRows.{begin_of, LoadsFrom}
-use Rattle.law_local.specs.Tries.TryRows.{key_in, first_of, RequestKnows, LoadsFound, MayChange, OldKnows, cell_of, AppendKnows, AnswerKnows, IsUpdate, IsFree, MarksTell, NoneLaterPast, TryRow, TryKnows}
+use Rattle.law_local.specs.Tries.TryRows.{floor_in, key_in, first_of, RequestKnows, LoadsFound, MayChange, OldKnows, cell_of, AppendKnows, AnswerKnows, IsUpdate, IsFree, MarksTell, NoneLaterPast, TryRow, TryKnows}
 use Rattle.law_local.proofs.OfTries.WalkRows.{walk_leads, loads_value, loads_same}
+use Rattle.law_local.proofs.OfTries.WalkBegins.{walk_lives}
 use Rattle.law_local.proofs.OfTries.WalkKept.{KeepsKey, walk_keeps}
 use Rattle.law_local.proofs.OfTries.Made.{same_old}
 use Rattle.law_local.proofs.OfTries.TryEnds.{ended_knows, ends_knows, full_knows, walks_knows, update_free, appends_knows, copies_from_knows, ends_so_knows, copies_knows}
@@ -236,31 +239,32 @@ old_knows home log p t value request update addr version found still says = appe
 at_same : (X : ℕ → Type 0) (w w' : WalkState) → w'.entry ≡ w.entry → X (begin_of w) → X (begin_of w')
 at_same X w w' same it = subst (λ n. X (entry_addr n)) (sym same) it
 
-row_leads : (home : ℕ → ℕ) (log : Log) (p : Places) (room : ℕ) (t : TryState) (step : Trying) (reply : ℕ) → IsOrderly home log → NoneLaterPast home log p t reply → MarksTell log p t reply → RequestKnows home log t.request t.seen
+row_leads : (home : ℕ → ℕ) (log : Log) (p : Places) (room : ℕ) (t : TryState) (step : Trying) (reply : ℕ) → IsOrderly home log → Live (floor_in t.request) home log → NoneLaterPast home log p t reply → MarksTell log p t reply → RequestKnows home log t.request t.seen
     → IsFree t.request t.has_shared t.has_exclusive → t.step ≡ step → TryRow home log t step → IsTrueReply home log p t step reply → TryKnows home log (trying_next p room (record t { effect = None }) step reply)
 unfolding trying_next
-row_leads home log p room t (Ended its) reply orderly newest marks request free at row says = record { request = request; free = free; row = subst (TryRow home log (record t { effect = None })) (sym at) row }
-row_leads home log p room t TakesShared reply orderly newest marks request free at row says = shared_knows home log p (record t { effect = None; latching = latch_next t.latching reply }) (latch_next_ask t.latching reply) request row at
-row_leads home log p room t LoadsPhase reply orderly newest marks request free at row says = phase_knows home log p (record t { effect = None }) (phase_said reply) request row
-row_leads home log p room t Walks reply orderly newest marks request free at row says =
+row_leads home log p room t (Ended its) reply orderly live newest marks request free at row says = record { request = request; free = free; row = subst (TryRow home log (record t { effect = None })) (sym at) row }
+row_leads home log p room t TakesShared reply orderly live newest marks request free at row says = shared_knows home log p (record t { effect = None; latching = latch_next t.latching reply }) (latch_next_ask t.latching reply) request row at
+row_leads home log p room t LoadsPhase reply orderly live newest marks request free at row says = phase_knows home log p (record t { effect = None }) (phase_said reply) request row
+row_leads home log p room t Walks reply orderly live newest marks request free at row says =
     walk_led_knows home log p (record t { effect = None; walk = walk_next p t.walk reply }) (walk_ask p (walk_next p t.walk reply)) orderly (newest at) (marks at) request free at
-    (record { its_key = kept.key ∙ row.0.its_key; its_head = kept.head ∙ row.0.its_head }) (walk_leads home log p t.walk reply orderly.chains row.1 says) refl
+    (record { its_key = kept.key ∙ row.0.its_key; its_head = kept.head ∙ row.0.its_head }) (walk_leads home log p t.walk reply orderly.chains row.1 says)
+    (walk_lives home log p t.request t.walk reply (record { fixed = request.low_floor; live = live }) (ap (λ (k : Key). k.0) row.0.its_key) row.1 says row.2) refl
   where
     kept : KeepsKey t.walk (walk_next p t.walk reply)
     kept = walk_keeps p t.walk reply
-row_leads home log p room t CountsTaken reply orderly newest marks request free at row says = count_knows home log p (record t { effect = None }) reply request row.0 row.1
-row_leads home log p room t (LoadsSafe addr version) reply orderly newest marks request free at row says = safe_knows home log p (record t { effect = None }) addr version reply request row.0 row.1 says
-row_leads home log p room t (SwapsValue addr) reply orderly newest marks request free at row says =
+row_leads home log p room t CountsTaken reply orderly live newest marks request free at row says = count_knows home log p (record t { effect = None }) reply request row.0 row.1
+row_leads home log p room t (LoadsSafe addr version) reply orderly live newest marks request free at row says = safe_knows home log p (record t { effect = None }) addr version reply request row.0 row.1 says
+row_leads home log p room t (SwapsValue addr) reply orderly live newest marks request free at row says =
     ends_knows home log p (record t { effect = Some (reply_from None t.request.op) }) (answer.Done (reply_from None t.request.op)) request free tt
-row_leads home log p room t (LoadsCurrent addr) reply orderly newest marks request free at row says =
+row_leads home log p room t (LoadsCurrent addr) reply orderly live newest marks request free at row says =
     subst (λ ask. TryKnows home log (current_ledto p (record t { effect = None; walk = walk_next p t.walk reply }) addr ask)) (sym (loads_value p t.walk addr reply row.1))
     (current_knows home log p (record t { effect = None; walk = walk_next p t.walk reply }) addr reply request row.0 (at_same (λ e. MayChange home log t.request t.seen e addr.0) t.walk (walk_next p t.walk reply) (loads_same p t.walk addr reply row.1) row.2))
-row_leads home log p room t (ChangesValue addr old) reply orderly newest marks request free at row says = changed_knows home log p (record t { effect = None }) old reply request row.0
-row_leads home log p room t LoadsAnswer reply orderly newest marks request free at row says =
+row_leads home log p room t (ChangesValue addr old) reply orderly live newest marks request free at row says = changed_knows home log p (record t { effect = None }) old reply request row.0
+row_leads home log p room t LoadsAnswer reply orderly live newest marks request free at row says =
     subst (λ ask. TryKnows home log (answer_ledto p (record t { effect = None; walk = walk_next p t.walk reply }) ask)) (sym (loads_value p t.walk row.addr reply row.its.loads))
     (answer_knows home log p (record t { effect = None; walk = walk_next p t.walk reply }) reply request free)
-row_leads home log p room t (TakesExclusive old) reply orderly newest marks request free at row says = exclusive_knows home log p (record t { effect = None; latching = latch_next t.latching reply }) old (latch_next_ask t.latching reply) request row.0 at row.1
-row_leads home log p room t LoadsOld reply orderly newest marks request free at row says =
+row_leads home log p room t (TakesExclusive old) reply orderly live newest marks request free at row says = exclusive_knows home log p (record t { effect = None; latching = latch_next t.latching reply }) old (latch_next_ask t.latching reply) request row.0 at row.1
+row_leads home log p room t LoadsOld reply orderly live newest marks request free at row says =
     subst (λ ask. TryKnows home log (old_ledto p (record t { effect = None; walk = walk_next p t.walk reply }) ask)) (sym (loads_value p t.walk row.1.addr reply row.1.its.loads))
     (old_knows home log p (record t { effect = None; walk = walk_next p t.walk reply }) reply request row.0 row.1.addr.0 row.1.its.version
     (at_same (λ e. IsFoundAt home log (key_in t.request) e row.1.addr.0 row.1.its.version) t.walk (walk_next p t.walk reply) same row.1.its.found) row.1.still
@@ -268,13 +272,13 @@ row_leads home log p room t LoadsOld reply orderly newest marks request free at 
   where
     same : (walk_next p t.walk reply).entry ≡ t.walk.entry
     same = loads_same p t.walk row.1.addr reply row.1.its.loads
-row_leads home log p room t (Appends its) reply orderly newest marks request free at row says =
+row_leads home log p room t (Appends its) reply orderly live newest marks request free at row says =
     append_knows home log p (record t { effect = None; append = append_next p room t.append reply }) its (append_ask p (append_next p room t.append reply)) request row.0 at (append_row home log p room t.request its t.append t.append.step reply row.1)
-row_leads home log p room t (LoadsTail waiting) reply orderly newest marks request free at row says = tail_knows home log p (record t { effect = None }) waiting reply request row.0 row.1
-row_leads home log p room t (LoadsTaken waiting) reply orderly newest marks request free at row says = taken_knows home log p (record t { effect = None }) waiting reply request row.0 row.1
-row_leads home log p room t (DropsExclusive its) reply orderly newest marks request free at row says = dropped_knows home log p (record t { effect = None; latching = latch_next t.latching reply }) its (latch_next_ask t.latching reply) request free at row.0 row.1
-row_leads home log p room t (DropsShared its) reply orderly newest marks request free at row says = unshared_knows home log (record t { effect = None; latching = latch_next t.latching reply }) its (latch_next_ask t.latching reply) request free at row.0 row.1
+row_leads home log p room t (LoadsTail waiting) reply orderly live newest marks request free at row says = tail_knows home log p (record t { effect = None }) waiting reply request row.0 row.1
+row_leads home log p room t (LoadsTaken waiting) reply orderly live newest marks request free at row says = taken_knows home log p (record t { effect = None }) waiting reply request row.0 row.1
+row_leads home log p room t (DropsExclusive its) reply orderly live newest marks request free at row says = dropped_knows home log p (record t { effect = None; latching = latch_next t.latching reply }) its (latch_next_ask t.latching reply) request free at row.0 row.1
+row_leads home log p room t (DropsShared its) reply orderly live newest marks request free at row says = unshared_knows home log (record t { effect = None; latching = latch_next t.latching reply }) its (latch_next_ask t.latching reply) request free at row.0 row.1
 
-pub try_leads : (home : ℕ → ℕ) (log : Log) (p : Places) (room : ℕ) (t : TryState) (reply : ℕ) → IsOrderly home log → NoneLaterPast home log p t reply → MarksTell log p t reply → TryKnows home log t → IsTrueReply home log p t t.step reply
+pub try_leads : (home : ℕ → ℕ) (log : Log) (p : Places) (room : ℕ) (t : TryState) (reply : ℕ) → IsOrderly home log → Live (floor_in t.request) home log → NoneLaterPast home log p t reply → MarksTell log p t reply → TryKnows home log t → IsTrueReply home log p t t.step reply
     → TryKnows home log (try_next p room t reply)
-try_leads home log p room t reply orderly newest marks knows says = row_leads home log p room t t.step reply orderly newest marks knows.request knows.free refl knows.row says
+try_leads home log p room t reply orderly live newest marks knows says = row_leads home log p room t t.step reply orderly live newest marks knows.request knows.free refl knows.row says

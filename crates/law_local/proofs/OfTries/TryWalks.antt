@@ -1,6 +1,6 @@
 -- Where the walk's end leads a try.
-use Rattle.std.proofs.Common.{◌≡◌, ℕ, ◌<◌, ◌≤◌, ◌∙◌, refl, inl, inr, arith, sym, ap, subst, Bool, true, false, Option, Some, None}
-use Rattle.std.specs.Prelude.{◌≢◌, ◌==◌, ◌&&◌, not, nat_lt, nat_le, if◌then◌else◌}
+use Rattle.std.proofs.Common.{◌≡◌, ◌⊎◌, ℕ, ◌<◌, ◌≤◌, ◌∙◌, refl, inl, inr, arith, sym, ap, subst, Bool, true, false, Option, Some, None}
+use Rattle.std.specs.Prelude.{◌≢◌, ◌==◌, ◌&&◌, ◌||◌, not, nat_lt, nat_le, if◌then◌else◌}
 use Rattle.fkv_base.specs.declared.numbers.Addr.{Addr}
 use Rattle.fkv_base.specs.declared.numbers.Key.{Key}
 use Rattle.fkv_base.specs.declared.numbers.Version.{Version}
@@ -25,14 +25,18 @@ use Rattle.fkv_ops.specs.declared.trying.OldValue.TheVariants.{InMemory, Known}
 use Rattle.fkv_ops.specs.declared.trying.Trying.TheVariants.{Walks, CountsTaken, SwapsValue, LoadsCurrent, LoadsAnswer}
 use Rattle.fkv_ops.specs.declared.walking.WalkAnswer.{WalkAnswer}
 use Rattle.fkv_ops.specs.declared.walking.WalkAnswer.TheVariants as walk
-use Rattle.fkv_ops.specs.Requests.{is_read, is_blind}
+use Rattle.fkv_ops.specs.Requests.{is_read, is_blind, is_chain_end}
 use Rattle.fkv_ops.specs.Walking.{walk_ask, walk_on}
 use Rattle.fkv_ops.specs.Trying.{TryState, ends, must_count, is_marked, must_shift, copies, awaits, held_used, met_nowhere, met_disk, changes, region_met, met_record, walked, has_walked, walk_ledto, safe_loaded}
+use Rattle.fkv_begin.specs.Begin.{from_or_none}
+use Rattle.fkv_ops.proofs.Shown.{ends_below}
+use Rattle.law_local.specs.Tries.Floors.{ComesLive, GoesOnByFloor}
+use Rattle.law_local.proofs.OfTries.Floors.{absent_old, below_is_absent, walk_comes}
 use Rattle.law_local.specs.Tries.OnWay.{ComesBelow, FindsNone, IsFoundAt, IsOrderly}
 use Rattle.law_local.specs.Tries.WalkRows.{begin_of, WalkKnows, WalkTells}
-use Rattle.law_local.specs.Tries.HeldRows.{IsValueBelow, GoesOnBelow, HeldKnows}
-use Rattle.law_local.specs.Tries.TryRows.{key_in, head_in, first_of, RequestKnows, IsWalkFor, StandsAt, KnowsOld, IsUpdate, IsFree, NoneIsLater, TryRow, TryKnows}
-use Rattle.law_local.proofs.OfTries.Tests.{lt_true, le_true, le_false, eq_true, eq_false, some_where}
+use Rattle.law_local.specs.Tries.HeldRows.{IsValueBelow, HeldKnows}
+use Rattle.law_local.specs.Tries.TryRows.{key_in, head_in, floor_in, first_of, RequestKnows, IsWalkFor, WalkIsLive, StandsAt, KnowsOld, IsUpdate, IsFree, NoneIsLater, TryRow, TryKnows}
+use Rattle.law_local.proofs.OfTries.Tests.{either, lt_true, le_true, le_false, eq_true, eq_false}
 use Rattle.law_local.proofs.OfTries.Lows.{fixed_below}
 use Rattle.law_local.proofs.OfTries.WalkRows.{walk_tells, loads_on}
 use Rattle.law_local.proofs.OfTries.Made.{same_old, blind_old}
@@ -65,8 +69,16 @@ held_old home log request seen from word knows its = record {
 }
 
 -- ---- below the head
+-- the way has come below the floor
+gone_old : (home : ℕ → ℕ) (log : Log) (request : Request) (from to low : ℕ) → IsOrderly home log → floor_in request ≤ log.fixed → ComesLive home log (floor_in request) (key_in request) from to low → to < floor_in request → KnowsOld home log request from absent_word
+gone_old home log request from to low orderly over comes under = absent_old home log orderly request from (below_is_absent home log orderly (floor_in request) over (key_in request) from to low comes under)
+
+-- where the way goes on behind what the request holds, if that was read along a way from this entry
+abbrev GoesBehind : (ℕ → ℕ) → Log → TryState → HeldRecord → ℕ → Type 0
+GoesBehind home log t it entry = GoesOnByFloor home log (floor_in t.request) (key_in t.request) (entry_addr entry) it.previous.0 (head_in t.seen)
+
 held_knows : (home : ℕ → ℕ) (log : Log) (p : Places) (t : TryState) (addr : Addr) (its : Option HeldRecord) → IsOrderly home log → RequestKnows home log t.request t.seen → IsUpdate t.request
-    → ComesBelow home log (key_in t.request) (begin_of t.walk) addr.0 (head_in t.seen) → HeldKnows home log (key_in t.request) (head_in t.seen) its → TryKnows home log (held_used p t addr its)
+    → ComesLive home log (floor_in t.request) (key_in t.request) (begin_of t.walk) addr.0 (head_in t.seen) → HeldKnows home log (floor_in t.request) (key_in t.request) (head_in t.seen) its → TryKnows home log (held_used p t addr its)
 unfolding held_used
 held_knows home log p t addr None orderly request update comes held = ends_knows home log p t (answer.AwaitsDisk (record { entry = t.walk.entry; addr = addr })) request (update_free t.request t.has_shared t.has_exclusive update) comes
 held_knows home log p t addr (Some it) orderly request update comes held = by_entry (it.entry == t.walk.entry) refl
@@ -74,44 +86,52 @@ held_knows home log p t addr (Some it) orderly request update comes held = by_en
     free : IsFree t.request t.has_shared t.has_exclusive
     free = update_free t.request t.has_shared t.has_exclusive update
 
-    behind : it.entry ≡ t.walk.entry → GoesOnBelow home log (key_in t.request) (entry_addr it.entry) it.previous.0 (head_in t.seen) → GoesOnBelow home log (key_in t.request) (begin_of t.walk) it.previous.0 (head_in t.seen)
-    behind same goes = subst (λ n. GoesOnBelow home log (key_in t.request) (entry_addr n) it.previous.0 (head_in t.seen)) same goes
+    ended : is_chain_end t.request.floor it.previous ≡ true → GoesBehind home log t it t.walk.entry → KnowsOld home log t.request (begin_of t.walk) absent_word
+    ended e (inl goes) = absent_old home log orderly t.request (begin_of t.walk) goes.1
+    ended e (inr goes) = gone_old home log t.request (begin_of t.walk) it.previous.0 (head_in t.seen) orderly request.low_floor goes (ends_below t.request.floor it.previous goes.comes.some e)
 
-    ended : it.previous.0 ≡ 0 → GoesOnBelow home log (key_in t.request) (begin_of t.walk) it.previous.0 (head_in t.seen) → FindsNone home log (key_in t.request) (begin_of t.walk)
-    ended none (inl goes) = goes.1
-    ended none (inr goes) = let some = goes.some in absurd (omega (arith, none, some))
+    sought : is_chain_end t.request.floor it.previous ≡ false → GoesBehind home log t it t.walk.entry → ComesLive home log (floor_in t.request) (key_in t.request) (begin_of t.walk) it.previous.0 (head_in t.seen)
+    sought e (inl goes) = absurd (eq_false (from_or_none t.request.floor.0 it.previous.0) 0 e goes.0)
+    sought e (inr goes) = goes
 
-    sought : 0 < it.previous.0 → GoesOnBelow home log (key_in t.request) (begin_of t.walk) it.previous.0 (head_in t.seen) → ComesBelow home log (key_in t.request) (begin_of t.walk) it.previous.0 (head_in t.seen)
-    sought some (inl goes) = let none = goes.0 in absurd (omega (arith, none, some))
-    sought some (inr goes) = goes
-
-    by_end : (b : Bool) → (it.previous.0 == 0) ≡ b → GoesOnBelow home log (key_in t.request) (begin_of t.walk) it.previous.0 (head_in t.seen)
-        → TryKnows home log (if b then copies p t (Known absent_word) false else awaits p t it.previous)
-    by_end true e goes = copies_knows home log p t (Known absent_word) false request update (none_old home log t.request (begin_of t.walk) orderly (ended (eq_true it.previous.0 0 e) goes))
-    by_end false e goes = ends_knows home log p t (answer.AwaitsDisk (record { entry = t.walk.entry; addr = it.previous })) request free (sought (some_where it.previous.0 e) goes)
+    by_end : (b : Bool) → is_chain_end t.request.floor it.previous ≡ b → GoesBehind home log t it t.walk.entry → TryKnows home log (if b then copies p t (Known absent_word) false else awaits p t it.previous)
+    by_end true e goes = copies_knows home log p t (Known absent_word) false request update (ended e goes)
+    by_end false e goes = ends_knows home log p t (answer.AwaitsDisk (record { entry = t.walk.entry; addr = it.previous })) request free (sought e goes)
 
     by_key : (b : Bool) → (it.key.0 == (key_of t.request.op).0) ≡ b → it.entry ≡ t.walk.entry
-        → TryKnows home log (if b then copies p t (Known it.value) false else if it.previous.0 == 0 then copies p t (Known absent_word) false else awaits p t it.previous)
+        → TryKnows home log (if b then copies p t (Known it.value) false else if is_chain_end t.request.floor it.previous then copies p t (Known absent_word) false else awaits p t it.previous)
     by_key true e same = copies_knows home log p t (Known it.value) false request update
         (held_old home log t.request t.seen (begin_of t.walk) it.value request (subst (λ n. IsValueBelow home log (key_in t.request) (entry_addr n) it.value (head_in t.seen)) same (held.own (eq_true it.key.0 (key_of t.request.op).0 e))))
-    by_key false e same = by_end (it.previous.0 == 0) refl (behind same (held.another (eq_false it.key.0 (key_of t.request.op).0 e)))
+    by_key false e same = by_end (is_chain_end t.request.floor it.previous) refl (subst (GoesBehind home log t it) same (held.another (eq_false it.key.0 (key_of t.request.op).0 e)))
 
     by_entry : (b : Bool) → (it.entry == t.walk.entry) ≡ b
-        → TryKnows home log (if b then (if it.key.0 == (key_of t.request.op).0 then copies p t (Known it.value) false else if it.previous.0 == 0 then copies p t (Known absent_word) false else awaits p t it.previous) else awaits p t addr)
+        → TryKnows home log (if b then (if it.key.0 == (key_of t.request.op).0 then copies p t (Known it.value) false else if is_chain_end t.request.floor it.previous then copies p t (Known absent_word) false else awaits p t it.previous) else awaits p t addr)
     by_entry true e = by_key (it.key.0 == (key_of t.request.op).0) refl (eq_true it.entry t.walk.entry e)
     by_entry false e = ends_knows home log p t (answer.AwaitsDisk (record { entry = t.walk.entry; addr = addr })) request free comes
 
 disk_knows : (home : ℕ → ℕ) (log : Log) (p : Places) (t : TryState) (addr : Addr) → IsOrderly home log → RequestKnows home log t.request t.seen → IsFree t.request t.has_shared t.has_exclusive
-    → ComesBelow home log (key_in t.request) (begin_of t.walk) addr.0 (head_in t.seen) → TryKnows home log (met_disk p t addr)
+    → ComesLive home log (floor_in t.request) (key_in t.request) (begin_of t.walk) addr.0 (head_in t.seen) → TryKnows home log (met_disk p t addr)
 disk_knows home log p t addr orderly request free comes = by_read (is_read t.request.op) refl
   where
-    by_blind : (b : Bool) → is_blind t.request.op ≡ b → IsUpdate t.request → TryKnows home log (if b then copies p t (Known absent_word) false else held_used p t addr t.request.held)
-    by_blind true e update = copies_knows home log p t (Known absent_word) false request update (blind_below home log t.request t.seen (begin_of t.walk) addr.0 absent_word orderly request comes e)
-    by_blind false e update = held_knows home log p t addr t.request.held orderly request update comes request.held
+    gone : is_chain_end t.request.floor addr ≡ true → KnowsOld home log t.request (begin_of t.walk) absent_word
+    gone e = gone_old home log t.request (begin_of t.walk) addr.0 (head_in t.seen) orderly request.low_floor comes (ends_below t.request.floor addr comes.comes.some e)
 
-    by_read : (b : Bool) → is_read t.request.op ≡ b → TryKnows home log (if b then awaits p t addr else if is_blind t.request.op then copies p t (Known absent_word) false else held_used p t addr t.request.held)
-    by_read true e = ends_knows home log p t (answer.AwaitsDisk (record { entry = t.walk.entry; addr = addr })) request free comes
-    by_read false e = by_blind (is_blind t.request.op) refl e
+    known : (is_blind t.request.op ≡ true) ⊎ (is_chain_end t.request.floor addr ≡ true) → KnowsOld home log t.request (begin_of t.walk) absent_word
+    known (inl blind) = blind_below home log t.request t.seen (begin_of t.walk) addr.0 absent_word orderly request comes.comes blind
+    known (inr e) = gone e
+
+    by_known : (b : Bool) → (is_blind t.request.op || is_chain_end t.request.floor addr) ≡ b → IsUpdate t.request → TryKnows home log (if b then copies p t (Known absent_word) false else held_used p t addr t.request.held)
+    by_known true e update = copies_knows home log p t (Known absent_word) false request update (known (either (is_blind t.request.op) (is_chain_end t.request.floor addr) e))
+    by_known false e update = held_knows home log p t addr t.request.held orderly request update comes request.held
+
+    by_end : (b : Bool) → TryKnows home log (if b then ends p t answer.Absent else awaits p t addr)
+    by_end true = ends_knows home log p t answer.Absent request free tt
+    by_end false = ends_knows home log p t (answer.AwaitsDisk (record { entry = t.walk.entry; addr = addr })) request free comes
+
+    by_read : (b : Bool) → is_read t.request.op ≡ b
+        → TryKnows home log (if b then (if is_chain_end t.request.floor addr then ends p t answer.Absent else awaits p t addr) else if is_blind t.request.op || is_chain_end t.request.floor addr then copies p t (Known absent_word) false else held_used p t addr t.request.held)
+    by_read true e = by_end (is_chain_end t.request.floor addr)
+    by_read false e = by_known (is_blind t.request.op || is_chain_end t.request.floor addr) refl e
 
 -- ---- no record of the key
 nowhere_knows : (home : ℕ → ℕ) (log : Log) (p : Places) (t : TryState) → IsOrderly home log → RequestKnows home log t.request t.seen → IsFree t.request t.has_shared t.has_exclusive → FindsNone home log (key_in t.request) (begin_of t.walk)
@@ -204,29 +224,30 @@ record_knows home log p t addr version orderly newest tells request free stands 
 
 -- ---- where the walk has ended
 walked_knows : (home : ℕ → ℕ) (log : Log) (p : Places) (t : TryState) (its : WalkAnswer) → IsOrderly home log → ((addr : Addr) (version : Version) → its ≡ walk.Found addr version → NoneIsLater home log t.request) → ((addr : Addr) (version : Version) → its ≡ walk.Found addr version → Tells log t addr version) → RequestKnows home log t.request t.seen → IsFree t.request t.has_shared t.has_exclusive
-    → IsWalkFor t.request t.seen t.walk → WalkTells home log t.walk its → TryKnows home log (walked p t its)
-walked_knows home log p t (walk.Found addr version) orderly newest marks request free walks tells = record_knows home log p t addr version orderly (newest addr version refl) (marks addr version refl) request free (record { its = walks; at = tells.0; knows = tells.1 })
-walked_knows home log p t walk.Nowhere orderly newest marks request free walks tells = nowhere_knows home log p t orderly request free (subst (λ (k : Key). FindsNone home log k.0 (begin_of t.walk)) walks.its_key tells)
-walked_knows home log p t (walk.OnDisk addr) orderly newest marks request free walks tells = disk_knows home log p t addr orderly request free
-    (subst (λ (a : Addr). ComesBelow home log (key_in t.request) (begin_of t.walk) addr.0 a.0) walks.its_head (subst (λ (k : Key). ComesBelow home log k.0 (begin_of t.walk) addr.0 t.walk.head.0) walks.its_key tells))
-walked_knows home log p t (walk.Value value) orderly newest marks request free walks tells = ends_knows home log p t (answer.Wait reason.Contended) request free tt
-walked_knows home log p t walk.Full orderly newest marks request free walks tells = full_knows home log p t answer.IndexFull t.occasion request free tt
-walked_knows home log p t walk.Kept orderly newest marks request free walks tells = full_knows home log p t answer.IndexFull t.occasion request free tt
-walked_knows home log p t walk.Contended orderly newest marks request free walks tells = ends_knows home log p t (answer.Wait reason.Contended) request free tt
+    → IsWalkFor t.request t.seen t.walk → WalkIsLive home log t.request t.walk → WalkTells home log t.walk its → TryKnows home log (walked p t its)
+walked_knows home log p t (walk.Found addr version) orderly newest marks request free walks live tells = record_knows home log p t addr version orderly (newest addr version refl) (marks addr version refl) request free (record { its = walks; at = tells.0; knows = tells.1 })
+walked_knows home log p t walk.Nowhere orderly newest marks request free walks live tells = nowhere_knows home log p t orderly request free (subst (λ (k : Key). FindsNone home log k.0 (begin_of t.walk)) walks.its_key tells)
+walked_knows home log p t (walk.OnDisk addr) orderly newest marks request free walks live tells = disk_knows home log p t addr orderly request free
+    (walk_comes home log orderly t.request t.walk addr.0 (head_in t.seen) live
+    (subst (λ (a : Addr). ComesBelow home log (key_in t.request) (begin_of t.walk) addr.0 a.0) walks.its_head (subst (λ (k : Key). ComesBelow home log k.0 (begin_of t.walk) addr.0 t.walk.head.0) walks.its_key tells)))
+walked_knows home log p t (walk.Value value) orderly newest marks request free walks live tells = ends_knows home log p t (answer.Wait reason.Contended) request free tt
+walked_knows home log p t walk.Full orderly newest marks request free walks live tells = full_knows home log p t answer.IndexFull t.occasion request free tt
+walked_knows home log p t walk.Kept orderly newest marks request free walks live tells = full_knows home log p t answer.IndexFull t.occasion request free tt
+walked_knows home log p t walk.Contended orderly newest marks request free walks live tells = ends_knows home log p t (answer.Wait reason.Contended) request free tt
 
 -- a walk that has ended at a record has passed the test where the try goes on
 passed : (its : WalkAnswer) (shifts : Bool) (addr : Addr) (version : Version) → its ≡ walk.Found addr version → (has_walked its && shifts) ≡ false → shifts ≡ false
 passed its shifts addr version is e = subst (λ (x : WalkAnswer). (has_walked x && shifts) ≡ false) is e
 
 pub walk_led_knows : (home : ℕ → ℕ) (log : Log) (p : Places) (t : TryState) (ask : Ask WalkAnswer) → IsOrderly home log → ((addr : Addr) (version : Version) → ask ≡ Done (walk.Found addr version) → must_shift t ≡ false → NoneIsLater home log t.request) → ((addr : Addr) (version : Version) → ask ≡ Done (walk.Found addr version) → Tells log t addr version) → RequestKnows home log t.request t.seen → IsFree t.request t.has_shared t.has_exclusive
-    → t.step ≡ Walks → IsWalkFor t.request t.seen t.walk → WalkKnows home log t.walk → walk_ask p t.walk ≡ ask → TryKnows home log (walk_ledto p t ask)
+    → t.step ≡ Walks → IsWalkFor t.request t.seen t.walk → WalkKnows home log t.walk → WalkIsLive home log t.request t.walk → walk_ask p t.walk ≡ ask → TryKnows home log (walk_ledto p t ask)
 unfolding walk_ledto
-walk_led_knows home log p t (Done its) orderly newest marks request free at walks knows asks = by_test (has_walked its && must_shift (record t { spare = t.walk.spare })) refl
+walk_led_knows home log p t (Done its) orderly newest marks request free at walks knows live asks = by_test (has_walked its && must_shift (record t { spare = t.walk.spare })) refl
   where
     by_test : (b : Bool) → (has_walked its && must_shift (record t { spare = t.walk.spare })) ≡ b → TryKnows home log (if b then ends p (record t { spare = t.walk.spare }) answer.Shift else walked p (record t { spare = t.walk.spare }) its)
     by_test true e = ends_knows home log p (record t { spare = t.walk.spare }) answer.Shift request free tt
-    by_test false e = walked_knows home log p (record t { spare = t.walk.spare }) its orderly (λ addr version is. newest addr version (ap Done is) (passed its (must_shift t) addr version is e)) (λ addr version is. marks addr version (ap Done is)) request free walks (walk_tells home log p t.walk its knows asks)
-walk_led_knows home log p t ask orderly newest marks request free at walks knows asks = record { request = request; free = free; row = subst (TryRow home log t) (sym at) (walks, knows) }
+    by_test false e = walked_knows home log p (record t { spare = t.walk.spare }) its orderly (λ addr version is. newest addr version (ap Done is) (passed its (must_shift t) addr version is e)) (λ addr version is. marks addr version (ap Done is)) request free walks live (walk_tells home log p t.walk its knows asks)
+walk_led_knows home log p t ask orderly newest marks request free at walks knows live asks = record { request = request; free = free; row = subst (TryRow home log t) (sym at) (walks, knows, live) }
 
 -- ---- the safe read-only offset
 pub safe_knows : (home : ℕ → ℕ) (log : Log) (p : Places) (t : TryState) (addr : Addr) (version : Version) (safe : ℕ) → RequestKnows home log t.request t.seen → IsUpdate t.request → StandsAt home log t.request t.seen t.walk addr version → safe ≡ log.fixed

@@ -3,6 +3,7 @@ use Rattle.std.specs.Prelude.{◌≡◌, ◌≤◌, ℕ, Bool, true, false, None
 use Rattle.fkv_plane.specs.declared.places.Places.{Places}
 use Rattle.fkv_plane.specs.Asked.{reply_to}
 use Rattle.fkv_plane.specs.Passing.{is_done}
+use Rattle.law_log.specs.Begins.{Live}
 use Rattle.law_log.specs.Ghosts.{Log, Reading}
 use Rattle.fkv_ops.specs.declared.requests.Occasion.{Occasion}
 use Rattle.fkv_ops.specs.declared.requests.Seen.{Seen}
@@ -16,7 +17,7 @@ use Rattle.law_local.specs.Tries.Laws.{StaysWhere, Stays}
 use Rattle.law_local.specs.Tries.OnWay.{IsOrderly}
 use Rattle.law_local.specs.Tries.ReadRows.{SoughtReads, AttemptReads, reading_after}
 use Rattle.law_local.specs.Tries.Replies.{IsTrueReply}
-use Rattle.law_local.specs.Tries.TryRows.{key_in, head_in, MarksTell, NoneLaterPast, TryKnows}
+use Rattle.law_local.specs.Tries.TryRows.{floor_in, key_in, head_in, MarksTell, NoneLaterPast, TryKnows}
 use Rattle.law_local.specs.Tries.WordsShow.{WordsShow, TrySearches, AttemptMeets}
 use Rattle.law_local.specs.Tries.AttemptRows.{PendingKnows, AsksAtPoll, AttemptKnows, IsTrueOfAttempt, KeepsForAttempt, AttemptTells}
 
@@ -41,7 +42,7 @@ abbrev pub AttemptRowsStayAtRest : Type 0
 AttemptRowsStayAtRest = (a : AttemptState) → StaysWhere (λ home log after. OlderAreFixed log a.pending.request.version.0) (λ home log. AttemptKnows home log a)
 
 abbrev pub AttemptsLeadOn : Type 0
-AttemptsLeadOn = (home : ℕ → ℕ) (log : Log) (p : Places) (bits room session : ℕ) (a : AttemptState) (reply : ℕ) → IsOrderly home log → (a.step ≡ Tries → NoneLaterPast home log p a.trial reply) → (a.step ≡ Tries → MarksTell log p a.trial reply) → AttemptKnows home log a
+AttemptsLeadOn = (home : ℕ → ℕ) (log : Log) (p : Places) (bits room session : ℕ) (a : AttemptState) (reply : ℕ) → IsOrderly home log → Live (floor_in a.pending.request) home log → (a.step ≡ Tries → NoneLaterPast home log p a.trial reply) → (a.step ≡ Tries → MarksTell log p a.trial reply) → AttemptKnows home log a
     → IsTrueOfAttempt home log p a a.step reply → AttemptKnows home log (attempt_next p bits room session a reply)
 
 -- behind a step that changes the log an attempt needs nothing to be kept
@@ -51,7 +52,7 @@ OwnChangesKeep = (home : ℕ → ℕ) (log after : Log) (p : Places) (bits room 
 
 -- the value that a read's attempt tells is that of the first record of its key from where the read goes down, and it goes on from there
 abbrev pub AttemptsTell : Type 0
-AttemptsTell = (home : ℕ → ℕ) (log : Log) (p : Places) (bits room session : ℕ) (a : AttemptState) (reply : ℕ) → IsOrderly home log → AttemptKnows home log a → is_read a.pending.request.op ≡ true → is_done (attempt_ask p session a) ≡ false
+AttemptsTell = (home : ℕ → ℕ) (log : Log) (p : Places) (bits room session : ℕ) (a : AttemptState) (reply : ℕ) → IsOrderly home log → Live (floor_in a.pending.request) home log → AttemptKnows home log a → is_read a.pending.request.op ≡ true → is_done (attempt_ask p session a) ≡ false
     → IsTrueOfAttempt home log p a a.step reply → AttemptTells home log a (attempt_next p bits room session a reply)
 
 -- ---- replies
@@ -73,6 +74,6 @@ ReadsBegin = (key : ℕ) (reading : Reading) (p : Places) (bits : ℕ) (pending 
 
 -- each step of its attempt goes along with the log's reading
 abbrev pub ReadsGoAlong : Type 0
-ReadsGoAlong = (home : ℕ → ℕ) (log : Log) (p : Places) (bits room session : ℕ) (reading : Reading) (a : AttemptState) (reply : ℕ) → IsOrderly home log → AttemptKnows home log a → is_read a.pending.request.op ≡ true → is_done (attempt_ask p session a) ≡ false
+ReadsGoAlong = (home : ℕ → ℕ) (log : Log) (p : Places) (bits room session : ℕ) (reading : Reading) (a : AttemptState) (reply : ℕ) → IsOrderly home log → Live (floor_in a.pending.request) home log → AttemptKnows home log a → is_read a.pending.request.op ≡ true → is_done (attempt_ask p session a) ≡ false
     → IsTrueOfAttempt home log p a a.step reply → AttemptReads (key_in a.pending.request) reading a a.step
     → AttemptReads (key_in a.pending.request) (reading_after home log p bits room session a reply reading) (attempt_next p bits room session a reply) (attempt_next p bits room session a reply).step

@@ -1,5 +1,5 @@
 -- What a request that waits knows of the log, and an attempt for it, by its control state.
-use Rattle.std.specs.Prelude.{◌≡◌, ℕ, ⊤, true, false, Option, Some, None}
+use Rattle.std.specs.Prelude.{◌≡◌, ◌⊎◌, ℕ, ⊤, true, false, Option, Some, None}
 use Rattle.std.specs.Option.{is_some}
 use Rattle.fkv_plane.specs.declared.places.Places.{Places}
 use Rattle.fkv_index.specs.Slots.{entry_addr}
@@ -22,13 +22,13 @@ use Rattle.law_local.specs.Tries.HeldRows.{SoughtKnows}
 use Rattle.law_local.specs.Tries.Kept.{KeepsForTry}
 use Rattle.law_local.specs.Tries.MailRows.{MailKnows, IsTrueOfLook, PutsSought}
 use Rattle.law_local.specs.Tries.Replies.{IsTrueReply}
-use Rattle.law_local.specs.Tries.TryRows.{key_in, head_in, first_of, RequestKnows, TryKnows}
+use Rattle.law_local.specs.Tries.TryRows.{key_in, head_in, floor_in, first_of, RequestKnows, TryKnows}
 use Rattle.law_local.specs.Tries.WalkRows.{begin_of}
 
 -- A request that waits knows what a request does, and where the record lies that it seeks. A read holds no latch.
 pub record PendingKnows (home : ℕ → ℕ) (log : Log) (pending : PendingRequest) (seen : Seen) : Type 0 where
   pub request : RequestKnows home log pending.request seen
-  pub sought : SoughtKnows home log (key_in pending.request) (head_in seen) pending.sought
+  pub sought : SoughtKnows home log (floor_in pending.request) (key_in pending.request) (head_in seen) pending.sought
   pub unlatched : is_read pending.request.op ≡ true → pending.request.has_latch ≡ false
 
 -- a read that has asked waits for the mailbox: it is a poll's, and seeks a record
@@ -44,7 +44,7 @@ pub record TriesFor (home : ℕ → ℕ) (log : Log) (pending : PendingRequest) 
 
 abbrev pub AttemptRow : (ℕ → ℕ) → Log → AttemptState → Attempting → Type 0
 AttemptRow home log a (Ended its) = ⊤
-AttemptRow home log a Looks = (a.pending.has_asked ≡ true) × AsksAtPoll a.pending a.occasion × MailKnows log a.pending.sought a.mailing
+AttemptRow home log a Looks = (a.pending.has_asked ≡ true) × AsksAtPoll a.pending a.occasion × MailKnows log (floor_in a.pending.request) a.pending.sought a.mailing
 AttemptRow home log a Tries = TriesFor home log a.pending a.seen a.trial
 AttemptRow home log a Puts = PutsSought a.pending.sought a.mailing
 
@@ -54,7 +54,7 @@ pub record AttemptKnows (home : ℕ → ℕ) (log : Log) (a : AttemptState) : Ty
 
 -- ---- replies, and what others have to leave
 abbrev pub IsTrueOfAttempt : (ℕ → ℕ) → Log → Places → AttemptState → Attempting → ℕ → Type 0
-IsTrueOfAttempt home log p a Looks reply = IsTrueOfLook log a.pending.sought a.mailing reply
+IsTrueOfAttempt home log p a Looks reply = IsTrueOfLook log (floor_in a.pending.request) a.pending.sought a.mailing reply
 IsTrueOfAttempt home log p a Tries reply = IsTrueReply home log p a.trial a.trial.step reply
 IsTrueOfAttempt home log p a step reply = ⊤
 
@@ -73,11 +73,12 @@ abbrev pub read_start : Attempting → Option DiskRecord → TryState → ℕ
 read_start Tries sought after = begin_of after.walk
 read_start step sought after = start_of sought
 
--- The value of the first record of its key from there, or none; and where it waits for the device it seeks a record on the way from there.
+-- The value of the first record of its key from there, or none; and where it waits for the device it seeks a record on the way from there, or nothing where that is
+-- gone: then it goes down from its entry again.
 abbrev pub ReadEnds : (ℕ → ℕ) → Log → Request → ℕ → Option DiskRecord → TryAnswer → Type 0
 ReadEnds home log request from sought (answer.Found value) = value_at (log.cells (first_of home log request from)) ≡ Some value.0
 ReadEnds home log request from sought answer.Absent = value_at (log.cells (first_of home log request from)) ≡ None
-ReadEnds home log request from sought (answer.Wait Disk) = start_of sought ≡ from
+ReadEnds home log request from sought (answer.Wait Disk) = (sought ≡ None) ⊎ (start_of sought ≡ from)
 ReadEnds home log request from sought its = ⊤
 
 -- by the state behind the step

@@ -1,12 +1,12 @@
 -- What a request knows of the log: by the record of the device that it holds, and by the one that it seeks.
-use Rattle.std.specs.Prelude.{◌≡◌, ◌≢◌, ℕ, ◌<◌, ◌⊎◌, ⊤, Option, Some, None}
+use Rattle.std.specs.Prelude.{◌≡◌, ◌≢◌, ℕ, ◌<◌, ⊤, Option, Some, None}
 use Rattle.fkv_index.specs.Slots.{entry_addr}
 use Rattle.law_log.specs.Chains.{value_at, IsWithin}
 use Rattle.law_log.specs.Ghosts.{Log, first_from}
 use Rattle.fkv_ops.specs.declared.answers.DiskRecord.{DiskRecord}
 use Rattle.fkv_ops.specs.declared.requests.HeldRecord.{HeldRecord}
 use Rattle.fkv_ops.specs.Values.{value_of}
-use Rattle.law_local.specs.Tries.OnWay.{ComesBelow, FindsNone}
+use Rattle.law_local.specs.Tries.Floors.{ComesLive, GoesOnByFloor}
 
 -- the word is the value of the first record of the key from an address on, and that record lies on the device, below this address
 pub record IsValueBelow (home : ℕ → ℕ) (log : Log) (key from word low : ℕ) : Type 0 where
@@ -15,23 +15,19 @@ pub record IsValueBelow (home : ℕ → ℕ) (log : Log) (key from word low : �
   pub below : first_from home log key from < low
   pub value : value_of word ≡ value_at (log.cells (first_from home log key from))
 
--- where one goes on behind a record of another key: the chain ends there, or the next record lies on the device too
-abbrev pub GoesOnBelow : (ℕ → ℕ) → Log → ℕ → ℕ → ℕ → ℕ → Type 0
-GoesOnBelow home log key from next low = ((next ≡ 0) × FindsNone home log key from) ⊎ ComesBelow home log key from next low
-
--- A held record is the first one of the key, or the way from its entry goes on behind it.
-pub record IsHeldFrom (home : ℕ → ℕ) (log : Log) (key low : ℕ) (held : HeldRecord) : Type 0 where
+-- A held record is the first one of the key, or the way from its entry goes on behind it, by the floor of the request.
+pub record IsHeldFrom (home : ℕ → ℕ) (log : Log) (floor key low : ℕ) (held : HeldRecord) : Type 0 where
   pub own : held.key.0 ≡ key → IsValueBelow home log key (entry_addr held.entry) held.value low
-  pub another : held.key.0 ≢ key → GoesOnBelow home log key (entry_addr held.entry) held.previous.0 low
+  pub another : held.key.0 ≢ key → GoesOnByFloor home log floor key (entry_addr held.entry) held.previous.0 low
 
-abbrev pub HeldKnows : (ℕ → ℕ) → Log → ℕ → ℕ → Option HeldRecord → Type 0
-HeldKnows home log key low None = ⊤
-HeldKnows home log key low (Some held) = IsHeldFrom home log key low held
+abbrev pub HeldKnows : (ℕ → ℕ) → Log → ℕ → ℕ → ℕ → Option HeldRecord → Type 0
+HeldKnows home log floor key low None = ⊤
+HeldKnows home log floor key low (Some held) = IsHeldFrom home log floor key low held
 
 -- a record that is sought lies on the way from its entry, on the device
-abbrev pub IsSoughtFrom : (ℕ → ℕ) → Log → ℕ → ℕ → DiskRecord → Type 0
-IsSoughtFrom home log key low it = ComesBelow home log key (entry_addr it.entry) it.addr.0 low
+abbrev pub IsSoughtFrom : (ℕ → ℕ) → Log → ℕ → ℕ → ℕ → DiskRecord → Type 0
+IsSoughtFrom home log floor key low it = ComesLive home log floor key (entry_addr it.entry) it.addr.0 low
 
-abbrev pub SoughtKnows : (ℕ → ℕ) → Log → ℕ → ℕ → Option DiskRecord → Type 0
-SoughtKnows home log key low None = ⊤
-SoughtKnows home log key low (Some it) = IsSoughtFrom home log key low it
+abbrev pub SoughtKnows : (ℕ → ℕ) → Log → ℕ → ℕ → ℕ → Option DiskRecord → Type 0
+SoughtKnows home log floor key low None = ⊤
+SoughtKnows home log floor key low (Some it) = IsSoughtFrom home log floor key low it

@@ -10,6 +10,7 @@ use Rattle.fkv_plane.specs.declared.places.Places.{Places}
 use Rattle.fkv_plane.specs.Passing.{is_done}
 use Rattle.fkv_log.specs.declared.reserving.ReserveAnswer.TheVariants.{Reserved}
 use Rattle.fkv_log.specs.Reserving.{reserve_next_ask}
+use Rattle.law_log.specs.Begins.{Live}
 use Rattle.law_log.specs.Ghosts.{Log, Ghosts, GhostEvent, log_after, ghost_run}
 use Rattle.law_log.specs.Enabled.{AreChains, IsMade, IsOpened, AreEnabled, IsEnabled}
 use Rattle.fkv_ops.specs.declared.answers.DiskRecord.{DiskRecord}
@@ -30,7 +31,7 @@ use Rattle.law_local.specs.Tries.Kept.{KeepsForTry}
 use Rattle.law_local.specs.Tries.OnWay.{IsOrderly}
 use Rattle.law_local.specs.Tries.Replies.{IsTrueOfWalk, IsTrueReply}
 use Rattle.law_local.specs.Tries.Tells.{TryTells, WalkBegins, TryGoesFrom}
-use Rattle.law_local.specs.Tries.TryRows.{key_in, head_in, RequestKnows, cell_of, IsEntryOf, MarksTell, NoneLaterPast, TryKnows}
+use Rattle.law_local.specs.Tries.TryRows.{key_in, head_in, floor_in, RequestKnows, cell_of, IsEntryOf, MarksTell, NoneLaterPast, TryKnows}
 use Rattle.law_local.specs.Tries.WalkRows.{WalkKnows, WalkTells}
 
 -- What is known of a log is known after each further event that keeps to its rule, whatever list of such events was before, from whatever
@@ -76,8 +77,9 @@ TriesBegin = (home : ℕ → ℕ) (log : Log) (p : Places) (bits : ℕ) (request
 abbrev pub TryRowsStay : Type 0
 TryRowsStay = (t : TryState) → StaysWhere (λ home log after. KeepsForTry home log after t t.step) (λ home log. TryKnows home log t)
 
+-- the log does without its records below the request's floor, where a walk begins
 abbrev pub TriesLeadOn : Type 0
-TriesLeadOn = (home : ℕ → ℕ) (log : Log) (p : Places) (room : ℕ) (t : TryState) (reply : ℕ) → IsOrderly home log → NoneLaterPast home log p t reply → MarksTell log p t reply → TryKnows home log t → IsTrueReply home log p t t.step reply → TryKnows home log (try_next p room t reply)
+TriesLeadOn = (home : ℕ → ℕ) (log : Log) (p : Places) (room : ℕ) (t : TryState) (reply : ℕ) → IsOrderly home log → Live (floor_in t.request) home log → NoneLaterPast home log p t reply → MarksTell log p t reply → TryKnows home log t → IsTrueReply home log p t t.step reply → TryKnows home log (try_next p room t reply)
 
 -- the won Cas of the tail reserves an address above what its record leads to, which is made as it has to be
 abbrev pub ReservesAreEnabled : Type 0
@@ -97,12 +99,12 @@ CasesAreEnabled = (home : ℕ → ℕ) (log : Log) (p : Places) (t : TryState) (
 
 -- the reply that ends a try of a read ends it with what it has to tell
 abbrev pub ReadsTell : Type 0
-ReadsTell = (home : ℕ → ℕ) (log : Log) (p : Places) (room : ℕ) (t : TryState) (reply : ℕ) → IsOrderly home log → TryKnows home log t → is_read t.request.op ≡ true → is_done (try_ask p t) ≡ false → IsTrueReply home log p t t.step reply
+ReadsTell = (home : ℕ → ℕ) (log : Log) (p : Places) (room : ℕ) (t : TryState) (reply : ℕ) → IsOrderly home log → Live (floor_in t.request) home log → TryKnows home log t → is_read t.request.op ≡ true → is_done (try_ask p t) ≡ false → IsTrueReply home log p t t.step reply
     → TryTells home log p (try_next p room t reply)
 
 -- a try that awaits a record of the device names one that lies on the way from its entry
 abbrev pub TriesSeek : Type 0
-TriesSeek = (home : ℕ → ℕ) (log : Log) (p : Places) (t : TryState) (it : DiskRecord) → TryKnows home log t → try_ask p t ≡ Done (AwaitsDisk it) → IsSoughtFrom home log (key_in t.request) (head_in t.seen) it
+TriesSeek = (home : ℕ → ℕ) (log : Log) (p : Places) (t : TryState) (it : DiskRecord) → TryKnows home log t → try_ask p t ≡ Done (AwaitsDisk it) → IsSoughtFrom home log (floor_in t.request) (key_in t.request) (head_in t.seen) it
 
 -- and it goes by the entry by which its walk does
 abbrev pub TriesGoFrom : Type 0

@@ -23,14 +23,14 @@ use Rattle.fkv_ops.specs.Trying.{TryState, try_ask, try_next}
 use Rattle.fkv_ops.specs.Walking.{WalkState, walk_next}
 use Rattle.law_local.specs.Tries.WalkRows.{begin_of}
 use Rattle.law_local.specs.Tries.HeldRows.{IsSoughtFrom}
-use Rattle.law_local.specs.Tries.TryRows.{key_in, head_in, first_of}
+use Rattle.law_local.specs.Tries.TryRows.{key_in, head_in, floor_in, first_of}
 
 -- A read finds the value of the first record of its key from an address on, or that it has none, or it awaits a record of the device on the way
 -- from there: then it says which.
 abbrev pub ReadTells : (ℕ → ℕ) → Log → Request → Seen → ℕ → TryAnswer → Type 0
 ReadTells home log request seen from (answer.Found value) = value_at (log.cells (first_of home log request from)) ≡ Some value.0
 ReadTells home log request seen from answer.Absent = value_at (log.cells (first_of home log request from)) ≡ None
-ReadTells home log request seen from (answer.AwaitsDisk it) = (entry_addr it.entry ≡ from) × IsSoughtFrom home log (key_in request) (head_in seen) it
+ReadTells home log request seen from (answer.AwaitsDisk it) = (entry_addr it.entry ≡ from) × IsSoughtFrom home log (floor_in request) (key_in request) (head_in seen) it
 ReadTells home log request seen from (answer.Wait Disk) = ⊥
 ReadTells home log request seen from its = ⊤
 

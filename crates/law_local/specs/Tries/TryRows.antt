@@ -1,5 +1,5 @@
 -- What a try knows of the log, by its control state.
-use Rattle.std.specs.Prelude.{◌≡◌, ℕ, ◌≤◌, ⊤, Bool, true, false, Option}
+use Rattle.std.specs.Prelude.{◌≡◌, ◌⊎◌, ℕ, ◌≤◌, ⊤, Bool, true, false, Option}
 use Rattle.fkv_base.specs.declared.numbers.Addr.{Addr}
 use Rattle.fkv_base.specs.declared.numbers.Version.{Version}
 use Rattle.fkv_marks.specs.Marks.{mark}
@@ -9,6 +9,7 @@ use Rattle.fkv_map.specs.declared.operations.Reply.{Reply}
 use Rattle.fkv_map.specs.Map.{IsReserved}
 use Rattle.fkv_map.specs.Keys.{key_of, value_applied, reply_from}
 use Rattle.fkv_log.specs.declared.record_words.RecordWords.{RecordWords}
+use Rattle.law_log.specs.Begins.{IsWalkLive}
 use Rattle.law_log.specs.Chains.{Cell, value_at, version_at, IsWithin}
 use Rattle.law_log.specs.Ghosts.{Log, first_from}
 use Rattle.law_log.specs.Enabled.{IsFixed, StandsStill, IsMade, NoneAbove}
@@ -42,20 +43,29 @@ key_in request = (key_of request.op).0
 abbrev pub head_in : Seen → ℕ
 head_in seen = seen.offsets.head.0
 
+abbrev pub floor_in : Request → ℕ
+floor_in request = request.floor.0
+
 -- the first record of the request's key from an address on
 abbrev pub first_of : (ℕ → ℕ) → Log → Request → ℕ → ℕ
 first_of home log request from = first_from home log (key_in request) from
 
--- What a request knows: it brings a value that there is; what lies below the head that its session has seen is fixed; and what it holds.
+-- What a request knows: it brings a value that there is; what lies below the head that its session has seen is fixed, and so is what lies below its floor;
+-- and what it holds.
 pub record RequestKnows (home : ℕ → ℕ) (log : Log) (request : Request) (seen : Seen) : Type 0 where
   pub plain : IsReserved request.op → ⊥
   pub low : head_in seen ≤ log.fixed
-  pub held : HeldKnows home log (key_in request) (head_in seen) request.held
+  pub low_floor : floor_in request ≤ log.fixed
+  pub held : HeldKnows home log (floor_in request) (key_in request) (head_in seen) request.held
 
 -- the walk is for the request's key, and leaves memory at the head that the session has seen
 pub record IsWalkFor (request : Request) (seen : Seen) (w : WalkState) : Type 0 where
   pub its_key : w.key ≡ key_of request.op
   pub its_head : w.head ≡ seen.offsets.head
+
+-- once it has found its entry it does without the records below the request's floor
+abbrev pub WalkIsLive : (ℕ → ℕ) → Log → Request → WalkState → Type 0
+WalkIsLive home log request w = (w.entry ≡ 0) ⊎ (IsWithin (begin_of w) (log.chains (home (key_in request))) × IsWalkLive (floor_in request) home log (key_in request) (begin_of w))
 
 -- the walk stands at the record that it has found
 pub record StandsAt (home : ℕ → ℕ) (log : Log) (request : Request) (seen : Seen) (w : WalkState) (addr : Addr) (version : Version) : Type 0 where
@@ -125,7 +135,7 @@ AppendKnows home log request its cell step = ⊤
 
 -- a record of the device that is awaited lies on the way from its entry
 abbrev pub AnswerKnows : (ℕ → ℕ) → Log → Request → Seen → TryAnswer → Type 0
-AnswerKnows home log request seen (answer.AwaitsDisk it) = IsSoughtFrom home log (key_in request) (head_in seen) it
+AnswerKnows home log request seen (answer.AwaitsDisk it) = IsSoughtFrom home log (floor_in request) (key_in request) (head_in seen) it
 AnswerKnows home log request seen its = ⊤
 
 abbrev pub IsUpdate : Request → Type 0
@@ -152,7 +162,7 @@ abbrev pub TryRow : (ℕ → ℕ) → Log → TryState → Trying → Type 0
 TryRow home log t (Ended its) = AnswerKnows home log t.request t.seen its
 TryRow home log t TakesShared = IsUpdate t.request
 TryRow home log t LoadsPhase = IsUpdate t.request
-TryRow home log t Walks = IsWalkFor t.request t.seen t.walk × WalkKnows home log t.walk
+TryRow home log t Walks = IsWalkFor t.request t.seen t.walk × WalkKnows home log t.walk × WalkIsLive home log t.request t.walk
 TryRow home log t CountsTaken = IsUpdate t.request × OldKnows home log t.request t.seen t.walk (Known absent_word)
 TryRow home log t (LoadsSafe addr version) = IsUpdate t.request × StandsAt home log t.request t.seen t.walk addr version
 TryRow home log t (SwapsValue addr) = IsUpdate t.request × (is_blind t.request.op ≡ true) × MayChange home log t.request t.seen (begin_of t.walk) addr.0

@@ -18,6 +18,7 @@ use Rattle.fkv_ops.specs.Walking.{WalkState}
 use Rattle.fkv_pending.specs.declared.attempting.Attempting.{Attempting}
 use Rattle.fkv_pending.specs.declared.attempting.Attempting.TheVariants.{Looks, Tries}
 use Rattle.fkv_pending.specs.Attempting.{AttemptState}
+use Rattle.law_local.specs.Tries.TryRows.{floor_in}
 use Rattle.law_local.specs.Tries.MailRows.{IsTrueOfLook}
 use Rattle.law_local.specs.Tries.Replies.{SaysHeader, SaysKey, SaysValue, EndsAtHead, IsAboveAll}
 
@@ -44,6 +45,6 @@ TrySearches home log p t step reply = ⊤
 
 -- and what is loaded from the mailbox is the record that is sought
 abbrev pub AttemptMeets : (ℕ → ℕ) → Log → Places → AttemptState → Attempting → ℕ → Type 0
-AttemptMeets home log p a Looks reply = IsTrueOfLook log a.pending.sought a.mailing reply
+AttemptMeets home log p a Looks reply = IsTrueOfLook log (floor_in a.pending.request) a.pending.sought a.mailing reply
 AttemptMeets home log p a Tries reply = TrySearches home log p a.trial a.trial.step reply
 AttemptMeets home log p a step reply = ⊤

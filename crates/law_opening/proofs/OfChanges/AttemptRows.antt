@@ -1,8 +1,10 @@
 -- Each reply leads an attempt on to a state in which it goes by what is published.
 use Rattle.std.proofs.Common.{◌≡◌, ℕ, refl, sym, subst, Bool, true, false, Option, Some, None}
 use Rattle.std.specs.Prelude.{⊤, ◌==◌, if◌then◌else◌}
+use Rattle.fkv_base.specs.declared.numbers.Addr.{Addr}
 use Rattle.fkv_map.specs.Keys.{key_of}
 use Rattle.law_refine.specs.Below.fkv_ops.HeaderWords.{header_said}
+use Rattle.law_refine.specs.Below.fkv_ops.Requests.{is_chain_end}
 use Rattle.law_refine.specs.Below.fkv_ops.Trying.{told_value, try_ask, try_next}
 use Rattle.law_refine.specs.Below.fkv_ops.Values.{value_of}
 use Rattle.law_refine.specs.Below.fkv_ops.DiskRecord.{DiskRecord}
@@ -12,9 +14,9 @@ use Rattle.law_refine.specs.Below.fkv_ops.HeaderSaid.{HeaderSaid}
 use Rattle.law_refine.specs.Below.fkv_ops.HeaderSaid.TheVariants.{Says, Spoiled}
 use Rattle.law_refine.specs.Below.fkv_ops.Occasion.{Occasion}
 use Rattle.law_refine.specs.Below.fkv_ops.Seen.{Seen}
-use Rattle.law_refine.specs.Below.fkv_pending.Attempting.{AttemptState, attempt_begun, attempt_ended, attempt_next, attempting_next, awaits_record, goes_on, held_kept, held_of, is_seeking_read, look_ledto, moved_on, new_attempt, not_ready, put_ledto, puts, puts_addr, read_on, record_taken, tried, tries, try_ledto, waits_for_disk}
-use Rattle.law_refine.specs.Below.fkv_pending.Mailing.{mail_ask, mail_next}
-use Rattle.law_refine.specs.Below.fkv_pending.Pending.{with_asked, with_held, with_latch, with_sought}
+use Rattle.law_refine.specs.Below.fkv_pending.Attempting.{AttemptState, attempt_begun, attempt_ended, attempt_next, attempting_next, awaits_record, goes_anew, goes_on, held_kept, held_of, is_seeking_read, look_ledto, mail_taken, moved_on, new_attempt, not_ready, put_ledto, puts, puts_addr, read_on, record_taken, tried, tries, try_ledto, waits_for_disk}
+use Rattle.law_refine.specs.Below.fkv_pending.Mailing.{begin_told, is_gone, mail_ask, mail_next}
+use Rattle.law_refine.specs.Below.fkv_pending.Pending.{with_asked, with_held, with_latch, with_sought, without_gone}
 use Rattle.law_refine.specs.Below.fkv_pending.TheAttempting.{Attempting}
 use Rattle.law_refine.specs.Below.fkv_pending.TheAttempting.TheVariants.{Ended, Looks, Tries, Puts}
 use Rattle.law_refine.specs.Below.fkv_pending.MailAnswer.{MailAnswer}
@@ -70,9 +72,9 @@ module _ (log : Log) (p : Places) (bits : ℕ) where
       by_end false = puts_so (record a { pending = with_sought a.pending (moved_on a.pending.sought previous) })
 
       by_key : (b : Bool)
-          → AttemptKnown log (if b then attempt_ended a (told_value (value_of its.value)) else if previous.0 == 0 then attempt_ended a answer.Absent else puts (record a { pending = with_sought a.pending (moved_on a.pending.sought previous) }))
+          → AttemptKnown log (if b then attempt_ended a (told_value (value_of its.value)) else if is_chain_end a.pending.request.floor previous then attempt_ended a answer.Absent else puts (record a { pending = with_sought a.pending (moved_on a.pending.sought previous) }))
       by_key true = tt
-      by_key false = by_end (previous.0 == 0)
+      by_key false = by_end (is_chain_end a.pending.request.floor previous)
 
   taken_so : (a : AttemptState) (its : MailRecord) (said : HeaderSaid) → AttemptKnown log (record_taken p bits a its said)
   taken_so a its said = by_test (is_seeking_read a)
@@ -80,6 +82,21 @@ module _ (log : Log) (p : Places) (bits : ℕ) where
       by_test : (b : Bool) → AttemptKnown log (if b then read_on a its said else tries p bits (record a { pending = with_held a.pending (held_of a.pending.sought its said) }))
       by_test true = read_on_so a its said
       by_test false = tries_so (record a { pending = with_held a.pending (held_of a.pending.sought its said) })
+
+  -- a record that is gone
+  anew_so : (a : AttemptState) (begin : Addr) → AttemptKnown log (goes_anew p bits a begin)
+  anew_so a begin = by_test (record a { pending = without_gone a.pending begin }) (is_seeking_read a)
+    where
+      by_test : (its : AttemptState) (b : Bool) → AttemptKnown log (if b then waits_for_disk its else tries p bits its)
+      by_test its true = tt
+      by_test its false = tries_so its
+
+  mail_so : (a : AttemptState) (its : MailRecord) → AttemptKnown log (mail_taken p bits a its)
+  mail_so a its = by_test (is_gone its)
+    where
+      by_test : (b : Bool) → AttemptKnown log (if b then goes_anew p bits a (begin_told its) else record_taken p bits a its (header_said its.header))
+      by_test true = anew_so a (begin_told its)
+      by_test false = taken_so a its (header_said its.header)
 
   not_ready_so : (a : AttemptState) → AttemptKnown log (not_ready p bits a)
   not_ready_so a = by_test (is_seeking_read a)
@@ -90,7 +107,7 @@ module _ (log : Log) (p : Places) (bits : ℕ) where
 
   look_so : (a : AttemptState) (ask : Ask MailAnswer) → a.step ≡ Looks → AttemptKnown log (look_ledto p bits a ask)
   unfolding look_ledto
-  look_so a (Done (mail.Taken its)) at = taken_so (record a { is_emptied = true; pending = with_asked a.pending false }) its (header_said its.header)
+  look_so a (Done (mail.Taken its)) at = mail_so (record a { is_emptied = true; pending = with_asked a.pending false }) its
   look_so a (Done other) at = not_ready_so a
   look_so a ask at = subst (AttemptSo log a.trial) (sym at) tt
 

@@ -1,4 +1,5 @@
 pub mod Attempting
 pub mod Calm
 pub mod Comes
+pub mod Floors
 pub mod Heads

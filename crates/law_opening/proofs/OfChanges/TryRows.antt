@@ -1,6 +1,6 @@
 -- Each reply leads a try on to a state in which it goes by what is published.
 use Rattle.std.proofs.Common.{◌≡◌, ℕ, inl, refl, sym, subst, Bool, true, false, Option, Some, None}
-use Rattle.std.specs.Prelude.{⊤, ◌==◌, ◌&&◌, not, nat_le, nat_lt, ◌^◌, if◌then◌else◌}
+use Rattle.std.specs.Prelude.{⊤, ◌==◌, ◌&&◌, ◌||◌, not, nat_le, nat_lt, ◌^◌, if◌then◌else◌}
 use Rattle.fkv_base.specs.declared.numbers.Addr.{Addr}
 use Rattle.fkv_base.specs.declared.numbers.Version.{Version}
 use Rattle.fkv_map.specs.Keys.{key_of, reply_from}
@@ -28,7 +28,7 @@ use Rattle.law_refine.specs.Below.fkv_log.Region.{Region}
 use Rattle.law_refine.specs.Below.fkv_log.ReserveAnswer.{ReserveAnswer}
 use Rattle.law_refine.specs.Below.fkv_log.ReserveAnswer.TheVariants as reserve
 use Rattle.law_refine.specs.Below.fkv_ops.Appending.{AppendState, addr_reserved, append_ask, append_ended, append_next, appending_next, fill_ledto, invalidate_ledto, publish_ledto, reserve_ledto}
-use Rattle.law_refine.specs.Below.fkv_ops.Requests.{is_blind, is_read}
+use Rattle.law_refine.specs.Below.fkv_ops.Requests.{is_blind, is_chain_end, is_read}
 use Rattle.law_refine.specs.Below.fkv_ops.Trying.{TryState, answer_ledto, append_ledto, awaits, changes, copies, copies_from, current_ledto, ended_without, ends_so as ends_now, ends_by, is_bounded, tail_loaded, taken_loaded, must_count, count_loaded, ends, appends, exclusive_dropped, exclusive_ledto, full_at, has_walked, held_used, is_own_version, is_wait, met_disk, met_nowhere, met_record, must_shift, new_try, old_ledto, region_met, safe_loaded, shared_dropped, shared_ledto, takes_effect, told_value, try_begun, try_next, trying_next, value_changed, walk_ledto, walked, walks, wants_exclusive, wants_shared, with_latch, is_next_marked, latch_shared, is_still_in, phase_loaded, is_surely_own}
 use Rattle.law_refine.specs.Below.fkv_ops.Values.{value_of}
 use Rattle.law_refine.specs.Below.fkv_ops.Walking.{WalkState, walk_ask, walk_next, walk_on, walk_rested}
@@ -196,25 +196,24 @@ module _ (log : Log) (p : Places) where
       by_end true = copies_so t (Known absent_word) false entry tt
       by_end false = ends_so t (answer.AwaitsDisk (record { entry = t.walk.entry; addr = it.previous })) entry
 
-      by_key : (b : Bool) → TryKnown log (if b then copies p t (Known it.value) false else if it.previous.0 == 0 then copies p t (Known absent_word) false else awaits p t it.previous)
+      by_key : (b : Bool) → TryKnown log (if b then copies p t (Known it.value) false else if is_chain_end t.request.floor it.previous then copies p t (Known absent_word) false else awaits p t it.previous)
       by_key true = copies_so t (Known it.value) false entry tt
-      by_key false = by_end (it.previous.0 == 0)
+      by_key false = by_end (is_chain_end t.request.floor it.previous)
 
       by_entry : (b : Bool)
-          → TryKnown log (if b then (if it.key.0 == (key_of t.request.op).0 then copies p t (Known it.value) false else if it.previous.0 == 0 then copies p t (Known absent_word) false else awaits p t it.previous) else awaits p t addr)
+          → TryKnown log (if b then (if it.key.0 == (key_of t.request.op).0 then copies p t (Known it.value) false else if is_chain_end t.request.floor it.previous then copies p t (Known absent_word) false else awaits p t it.previous) else awaits p t addr)
       by_entry true = by_key (it.key.0 == (key_of t.request.op).0)
       by_entry false = ends_so t (answer.AwaitsDisk (record { entry = t.walk.entry; addr = addr })) entry
 
   disk_so : (t : TryState) (addr : Addr) → EntrySo t → TryKnown log (met_disk p t addr)
-  disk_so t addr entry = by_read (is_read t.request.op)
+  disk_so t addr entry = by_tests (is_read t.request.op) (is_blind t.request.op || is_chain_end t.request.floor addr) (is_chain_end t.request.floor addr)
     where
-      by_blind : (b : Bool) → TryKnown log (if b then copies p t (Known absent_word) false else held_used p t addr t.request.held)
-      by_blind true = copies_so t (Known absent_word) false entry tt
-      by_blind false = held_so t addr t.request.held entry
-
-      by_read : (b : Bool) → TryKnown log (if b then awaits p t addr else if is_blind t.request.op then copies p t (Known absent_word) false else held_used p t addr t.request.held)
-      by_read true = ends_so t (answer.AwaitsDisk (record { entry = t.walk.entry; addr = addr })) entry
-      by_read false = by_blind (is_blind t.request.op)
+      by_tests : (a b c : Bool)
+          → TryKnown log (if a then (if c then ends p t answer.Absent else awaits p t addr) else if b then copies p t (Known absent_word) false else held_used p t addr t.request.held)
+      by_tests true b true = ends_so t answer.Absent entry
+      by_tests true b false = ends_so t (answer.AwaitsDisk (record { entry = t.walk.entry; addr = addr })) entry
+      by_tests false true c = copies_so t (Known absent_word) false entry tt
+      by_tests false false c = held_so t addr t.request.held entry
 
   nowhere_so : (t : TryState) → EntrySo t → TryKnown log (met_nowhere p t)
   nowhere_so t entry = by_tests (is_read t.request.op) (must_count p t)

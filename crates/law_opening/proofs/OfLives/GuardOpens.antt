@@ -13,6 +13,7 @@ use Rattle.law_refine.specs.Below.fkv_flush.Guarded as guard
 use Rattle.law_refine.specs.Below.fkv_flush.GuardSeen.{LastSeen}
 use Rattle.law_refine.specs.Below.law_world.GuardSessions.Likenesses.{last_seen}
 use Rattle.law_refine.specs.Below.fkv_keeper.KeeperRun as keeper
+use Rattle.law_refine.specs.Below.fkv_keeper.Keeping.{Finality}
 use Rattle.law_refine.specs.Below.fkv_keeper.KeeperRun.{is_in_hand}
 use Rattle.fkv_plane.specs.Places.{word_count}
 use Rattle.fkv_plane.specs.Asked.{word_at}
@@ -114,7 +115,14 @@ guard_words o n its =
 pub its_keeper_opens : (o : Opened) (n : Now) → IsOpeningWorld o n → keeper.IsOpened n.keeper
 its_keeper_opens o n its =
     let k = its.its_keeper in
-    record { none_in_hand = ap is_in_hand k.no_call; no_commit = k.no_commit; none_rest = k.none_rest; works = k.works }
+    record {
+      none_in_hand = ap is_in_hand k.no_call;
+      no_commit = k.no_commit;
+      none_rest = k.none_rest;
+      works = k.works;
+      turns_rest = k.turns_rest;
+      serves_from = k.serves_from ∙ sym (ap (λ (last : Finality). last.begin) k.newest);
+    }
 
 abbrev seen_at : ℕ → ℕ → LastSeen
 seen_at read_only head = record { read_only = read_only; head = head }

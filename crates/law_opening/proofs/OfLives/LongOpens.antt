@@ -6,9 +6,9 @@ use Rattle.fkv_core.specs.Openings.{area_numbered, newest_commit}
 use Rattle.fkv_creating.specs.Long.{IsLong}
 use Rattle.law_refine.specs.Below.fkv_keeper.LastCommits.{area_number}
 use Rattle.law_refine.specs.Below.fkv_manifest.Newest.{slot_in}
-use Rattle.law_paper.specs.Below.fkv_newest.Newest.{IsNewestOf, slot_place}
+use Rattle.law_paper.specs.Below.fkv_newest.Newest.{IsNewestOf, ShowSame, slot_place}
 use Rattle.law_paper.specs.Below.fkv_newest.TheNewest.{Newest}
-use Rattle.law_paper.proofs.Below.fkv_newest.Shown.{one_index}
+use Rattle.law_paper.proofs.Below.fkv_newest.Shown.{one_index, told_alike}
 use Rattle.law_paper.specs.Below.fkv_opening.Opened.{IsStoreOf}
 use Rattle.law_paper.specs.Below.fkv_opening.TheOpened.{Opened}
 use Rattle.fkv_record.specs.Layout.{shape_bytes}
@@ -62,3 +62,17 @@ long_opens apart bytes o far store =
     behind bytes n.shape n.slot o far.long shape
     (store.tells.triples ∙ ap (λ (s : ManifestSlot). s.triples) (sym slot))
     (store.tells.area ∙ ap (λ (s : ManifestSlot). s.area) (sym slot))
+
+-- another image that shows the same, and is as long, reaches as far
+pub reaches_alike : (image other : List ℕ) → ShowSame image other → length other ≡ length image → ReachesFar image → ReachesFar other
+reaches_alike image other same long far =
+    let was = far.long in
+    record {
+      newest = far.newest;
+      its = told_alike image other same far.newest far.its;
+      long = record {
+        slots = (let least = was.slots in omega (arith, least, long));
+        records = λ some. (let least = was.records some in omega (arith, least, long));
+        triples = λ some. (let least = was.triples some in omega (arith, least, long));
+      };
+    }

@@ -9,6 +9,8 @@ use Rattle.fkv_core.proofs.Shown.{framed}
 use Rattle.fkv_plane.specs.Places.{record_number}
 use Rattle.fkv_plane.specs.declared.places.RecordWord.{RecordWord}
 use Rattle.fkv_plane.specs.declared.places.RecordWord.TheVariants as rec
+use Rattle.fkv_record.specs.Begin.{from_or_none}
+use Rattle.fkv_record.proofs.Shown.{from_lower}
 use Rattle.law_log.specs.Chains.{Cell, Published, Unborn}
 use Rattle.law_log.proofs.Shown.{not_unborn}
 use Rattle.law_opening.specs.Log.Begins.{Begins}
@@ -71,7 +73,7 @@ module _ (bytes : List ℕ) (o : Opened) (n : Now) (world : IsOpeningWorld o n) 
   shows_cell a store guarded above below some =
       record {
         header = ap header_said (stands_framed a 0 rec.Header guarded above below refl (omega arith))
-            ∙ header_says (warm_word o a 0) (record_word bytes o.shape a 0 % 2 ^ 48) (mark o.number.0) (omega arith) (mark_some o.number.0 some) (mark_fits o.number.0) (store.warm.header a above below);
+            ∙ header_says (warm_word o a 0) (from_or_none o.begin.0 (record_word bytes o.shape a 0 % 2 ^ 48)) (mark o.number.0) (omega (arith, from_lower o.begin.0 (record_word bytes o.shape a 0 % 2 ^ 48))) (mark_some o.number.0 some) (mark_fits o.number.0) (store.warm.header a above below);
         key = stands_framed a 1 rec.Key guarded above below refl (omega arith) ∙ store.warm.key a above below;
         value = ap value_of (stands_framed a 2 rec.Value guarded above below refl (omega arith) ∙ store.warm.value a above below);
       }

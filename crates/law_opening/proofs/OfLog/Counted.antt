@@ -10,19 +10,22 @@ use Rattle.law_log.specs.Chains.{Cell, Unborn, Reserved, Published, head_of}
 use Rattle.law_log.specs.Enabled.{AreChains, IsLinked, previous_of}
 use Rattle.law_log.specs.Trace.{IsIn}
 use Rattle.law_paper.specs.Below.fkv_pairs.Pairs.{CountsAtHome, IsChainOf, log_of_store}
+use Rattle.fkv_record.specs.Begin.{from_or_none}
 use Rattle.fkv_record.specs.Layout.{record_bytes}
+use Rattle.law_refine.specs.Below.fkv_ops.Values.{value_of}
 use Rattle.fkv_record.specs.Places.{record_place}
 use Rattle.fkv_record.specs.declared.records.Record.{Record}
 use Rattle.law_paper.specs.Below.fkv_scan.Log.{Log, record_home}
-use Rattle.law_paper.specs.Below.fkv_scan.Records.{Stands}
+use Rattle.law_paper.specs.Below.fkv_scan.Records.{Stands, next_of}
 use Rattle.law_paper.specs.Below.fkv_scan.Scan.{Has}
 use Rattle.fkv_words.specs.Fields.{SpellsApart}
 use Rattle.law_refine.specs.Events.GhostEvents.{home_in}
 use Rattle.law_opening.specs.Log.OpeningLog.{cell_at, chain_down, chain_of, entry_of, is_in, logged_at, opening_log}
 use Rattle.law_opening.specs.Log.Records.{cell_of, HasWhatCounts, IsCellOf}
+use Rattle.law_paper.proofs.Reached.{reached_begun}
 use Rattle.law_opening.proofs.OfLog.Reaching.{IsOfStore, has_chain, one, reached_falls, reached_low}
 use Rattle.law_opening.proofs.OfLog.Walking.{AllLead, along_in, down_head, down_in_some, down_linked, down_none, in_along, in_is, is_there}
-use Rattle.law_opening.proofs.OfLog.Words.{cell_is}
+use Rattle.law_opening.proofs.OfLog.Words.{cell_is, cell_told}
 
 -- the home of a record is that of its key
 pub home_is : (bits : ℕ) (x : Record) → record_home bits x ≡ home_in bits x.key.0
@@ -62,9 +65,17 @@ module _ (image : List ℕ) (o : Opened) (store : IsStoreOf image o) (its : IsOf
   its_tail : o.tail.0 ≡ (let log = log_of_store image o store in log.tail)
   its_tail = ap (λ (a : Addr). a.0) store.tells.tail
 
+  its_begin : o.begin.0 ≡ (let log = log_of_store image o store in log.begin)
+  its_begin = ap (λ (a : Addr). a.0) store.tells.begin
+
+  told_is : (x : Record) → cell_told o x ≡ cell_of (log_of_store image o store) x
+  told_is x =
+      ap (λ (n : ℕ). let c : Cell = record { key = x.key.0; value = value_of x.value; version = n; previous = from_or_none o.begin.0 x.header.previous.0 } in c) its_version
+      ∙ ap (λ (b : ℕ). let c : Cell = record { key = x.key.0; value = value_of x.value; version = store.newest.slot.number; previous = from_or_none b x.header.previous.0 } in c) its_begin
+
   -- the record at an address, in the log's words
-  pub here_is : (a : ℕ) (x : Record) → Stands (log_of_store image o store) a x → cell_at image o a ≡ cell_of o.number.0 x
-  here_is a x stands = cell_is image o a x (subst (λ (s : Shape). record_bytes x ≡ bytes_at image (record_place s a) 24) (sym store.tells.shape) stands)
+  pub here_is : (a : ℕ) (x : Record) → Stands (log_of_store image o store) a x → cell_at image o a ≡ cell_of (log_of_store image o store) x
+  here_is a x stands = cell_is image o a x (subst (λ (s : Shape). record_bytes x ≡ bytes_at image (record_place s a) 24) (sym store.tells.shape) stands) ∙ told_is x
 
   -- its home
   pub at_home : (x : Record) → record_home store.newest.shape.bucket_bits x ≡ home_in o.shape.bucket_bits x.key.0
@@ -73,7 +84,7 @@ module _ (image : List ℕ) (o : Opened) (store : IsStoreOf image o) (its : IsOf
   all_lead : (its_home e : ℕ) → IsEntry (log_of_store image o store) its_home e → AllLead (log_of_store image o store) (λ a. let cell = cell_at image o a in cell.previous) e
   all_lead its_home e entry b along =
       let has = ((its.chain its_home e entry).all b).0 along in
-      let next : (let cell = cell_at image o b in cell.previous) ≡ has.0.header.previous.0 = ap (λ (cell : Cell). cell.previous) (here_is b has.0 has.1.valid.stands) in
+      let next : (let cell = cell_at image o b in cell.previous) ≡ next_of (log_of_store image o store) has.0 = ap (λ (cell : Cell). cell.previous) (here_is b has.0 has.1.valid.stands) in
       let falls = reached_falls (log_of_store image o store) o.entries.items its b has.0 has.1.reached has.1.valid.stands in
       record { held = has.0; stands = has.1.valid.stands; its = next; falls = omega (arith, next, falls) }
 
@@ -103,10 +114,10 @@ module _ (image : List ℕ) (o : Opened) (store : IsStoreOf image o) (its : IsOf
   own : (its_home a : ℕ) (x : Record) → Counts (log_of_store image o store) its_home a x → CountsAtHome (log_of_store image o store) a x
   own its_home a x counts = subst (λ (h : ℕ). Counts (log_of_store image o store) h a x) (sym counts.valid.same) counts
 
-  pub counted_there : (a : ℕ) (x : Record) → CountsAtHome (log_of_store image o store) a x → logged_at image o a ≡ Published (cell_of o.number.0 x)
+  pub counted_there : (a : ℕ) (x : Record) → CountsAtHome (log_of_store image o store) a x → logged_at image o a ≡ Published (cell_of (log_of_store image o store) x)
   unfolding logged_at
   counted_there a x counts =
-      let is : cell_at image o a ≡ cell_of o.number.0 x = here_is a x counts.valid.stands in
+      let is : cell_at image o a ≡ cell_of (log_of_store image o store) x = here_is a x counts.valid.stands in
       let test : is_in a (chain_of image o (home_in o.shape.bucket_bits x.key.0)) ≡ true =
       in_is a _ (subst (λ (h : ℕ). IsIn a (chain_of image o h)) (at_home x) (counts_chain _ a (x, counts))) in
       rw (is, test) refl
@@ -121,14 +132,14 @@ module _ (image : List ℕ) (o : Opened) (store : IsStoreOf image o) (its : IsOf
           record {
             held = has.0;
             counts = own _ a has.0 has.1;
-            its = sym (same_cell _ _ is) ∙ here_is a has.0 has.1.valid.stands ∙ ap (λ (n : ℕ). cell_of n has.0) its_version;
+            its = sym (same_cell _ _ is) ∙ here_is a has.0 has.1.valid.stands;
           }
       by_test false test is = absurd (cc)
 
   pub has_what_counts : HasWhatCounts (log_of_store image o store) (opening_log image o)
   has_what_counts = record {
     chains = λ its_home a. (chain_counts its_home a, counts_chain its_home a);
-    counted = λ a x counts. counted_there a x counts ∙ ap (λ (n : ℕ). Published (cell_of n x)) its_version;
+    counted = counted_there;
     published = published_there;
   }
 
@@ -156,13 +167,21 @@ module _ (image : List ℕ) (o : Opened) (store : IsStoreOf image o) (its : IsOf
       let tail = its_tail in
       omega (arith, low, tail)
 
+  -- none lies below the store's begin
+  pub cell_begun : (a : ℕ) (cell : Cell) → logged_at image o a ≡ Published cell → o.begin.0 ≤ a
+  cell_begun a cell is =
+      let before = store.checkpoint.newest.manifest.suits.begin.before_scan in
+      let begun = reached_begun (log_of_store image o store) before a (published_there a cell is).counts.reached in
+      let begin = its_begin in
+      omega (arith, begun, begin)
+
   -- ---- the chains of the log
   linked_chain : (its_home : ℕ) → IsLinked (logged_at image o) (chain_of image o its_home)
   linked_chain its_home = elim (has_chain (log_of_store image o store) o.entries.items its its_home) [
     | inl entry ↦ down_linked (log_of_store image o store) _ (logged_at image o) o.tail.0 _ (entry_low its_home _ entry) (all_lead its_home _ entry)
         (λ b along.
         let has = ((its.chain its_home _ entry).all b).0 along in
-        let next : (let cell = cell_at image o b in cell.previous) ≡ has.0.header.previous.0 = ap (λ (cell : Cell). cell.previous) (here_is b has.0 has.1.valid.stands) in
+        let next : (let cell = cell_at image o b in cell.previous) ≡ next_of (log_of_store image o store) has.0 = ap (λ (cell : Cell). cell.previous) (here_is b has.0 has.1.valid.stands) in
         ap previous_of (counted_there b has.0 (own its_home b has.0 has.1)) ∙ ap Some (sym next))
     | inr none ↦ subst (λ (chain : List ℕ). IsLinked (logged_at image o) chain) (sym (none_chain its_home none.0)) tt
   ]
@@ -172,7 +191,7 @@ module _ (image : List ℕ) (o : Opened) (store : IsStoreOf image o) (its : IsOf
     in_chain = λ h a has.
         let counts = chain_counts h a has in
         record {
-          cell = cell_of o.number.0 counts.0;
+          cell = cell_of (log_of_store image o store) counts.0;
           its = counted_there a counts.0 (own h a counts.0 counts.1);
           its_home = sym (at_home counts.0) ∙ counts.1.valid.same;
         };

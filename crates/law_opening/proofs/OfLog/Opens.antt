@@ -86,7 +86,7 @@ module _ (image : List ℕ) (o : Opened) (store : IsStoreOf image o) (its : IsOf
     abbrev ShowsValue : Type 0
     ShowsValue = (v : ℕ) → (shown (home_in o.shape.bucket_bits) (opening_log image o) key ≡ Some v) ↔ HasValue (log_of_store image o store) (record { 0 = key }) (record { 0 = v })
 
-    by_record : (a : ℕ) (x : Record) → newest_of (home_in o.shape.bucket_bits) (opening_log image o) key ≡ a → logged_at image o a ≡ Published (cell_of o.number.0 x)
+    by_record : (a : ℕ) (x : Record) → newest_of (home_in o.shape.bucket_bits) (opening_log image o) key ≡ a → logged_at image o a ≡ Published (cell_of (log_of_store image o store) x)
         → IsNewest (log_of_store image o store) (record { 0 = key }) a x → ShowsValue
     by_record a x is there newest v =
         let value : shown (home_in o.shape.bucket_bits) (opening_log image o) key ≡ value_of x.value = ap (λ (n : ℕ). value_at (logged_at image o n)) is ∙ ap value_at there in (

@@ -14,7 +14,7 @@ use Rattle.fkv_record.specs.declared.records.Record.{Record}
 use Rattle.law_paper.proofs.Below.fkv_room.Shown.{in_rest, in_head, in_tail}
 use Rattle.law_paper.proofs.Reached.{leads_down, reached_low as below_end}
 use Rattle.law_paper.specs.Below.fkv_scan.Log.{Log, AreBelow}
-use Rattle.law_paper.specs.Below.fkv_scan.Records.{Stands}
+use Rattle.law_paper.specs.Below.fkv_scan.Records.{Stands, next_of}
 use Rattle.law_paper.specs.Below.fkv_scan.Scan.{Has, HasScan}
 use Rattle.fkv_words.specs.Fields.{SpellsApart}
 use Rattle.law_opening.specs.Log.OpeningLog.{entry_of}
@@ -35,7 +35,7 @@ module _ (log : Log) (entries : List HomeEntry) (store : IsOfStore log entries) 
   pub reached_low : (a : ℕ) → Reached log a → a < log.tail
   reached_low = below_end store.apart store.scan store.chains store.below
 
-  pub reached_falls : (a : ℕ) (x : Record) → Reached log a → Stands log a x → x.header.previous.0 < a
+  pub reached_falls : (a : ℕ) (x : Record) → Reached log a → Stands log a x → next_of log x < a
   reached_falls a x reached = leads_down store.apart store.scan store.chains store.below a x (reached_low a reached) reached
 
   -- ---- a home with a record that counts has an entry

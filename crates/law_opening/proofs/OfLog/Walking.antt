@@ -9,7 +9,7 @@ use Rattle.law_log.specs.Enabled.{IsLinked, previous_of}
 use Rattle.law_log.specs.Trace.{IsIn}
 use Rattle.fkv_record.specs.declared.records.Record.{Record}
 use Rattle.law_paper.specs.Below.fkv_scan.Log.{Log}
-use Rattle.law_paper.specs.Below.fkv_scan.Records.{Stands}
+use Rattle.law_paper.specs.Below.fkv_scan.Records.{Stands, next_of}
 use Rattle.law_opening.specs.Log.OpeningLog.{chain_down, is_in}
 
 -- ---- its shape
@@ -72,7 +72,7 @@ is_there a (b ∷ older) is = by_test (nat_eq b a) refl (is_there a older) is
 pub record Leads (log : Log) (leads : ℕ → ℕ) (a : ℕ) : Type 0 where
   pub held : Record
   pub stands : Stands log a held
-  pub its : (let x = held in leads a ≡ x.header.previous.0)
+  pub its : leads a ≡ next_of log held
   pub falls : leads a < a
 
 abbrev pub AllLead : Log → (ℕ → ℕ) → ℕ → Type 0
@@ -103,7 +103,7 @@ module _ (log : Log) (leads : ℕ → ℕ) where
   along_in one (suc most) a b low all (here _ some) = subst (λ (chain : List ℕ). IsIn a chain) (sym (down_some leads most a some)) (inl refl)
   along_in one (suc most) a b low all (on _ _ x some stands rest) =
       let this = all a (here a some) in
-      let its : leads a ≡ x.header.previous.0 = this.its ∙ ap (λ (y : Record). y.header.previous.0) (one a this.held x this.stands stands) in
+      let its : leads a ≡ next_of log x = this.its ∙ ap (λ (y : Record). next_of log y) (one a this.held x this.stands stands) in
       let falls = this.falls in
       subst (λ (chain : List ℕ). IsIn b chain) (sym (down_some leads most a some))
       (inr (along_in one most (leads a) b (omega (arith, falls, low)) (next_lead a some all) (subst (λ (n : ℕ). IsAlong log n b) (sym its) rest)))

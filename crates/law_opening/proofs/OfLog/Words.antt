@@ -8,7 +8,10 @@ use Rattle.std.specs.Int.{w64, to_le_bytes, from_le_bytes}
 use Rattle.fkv_disk.specs.Bytes.{bytes_at}
 use Rattle.law_paper.specs.Below.fkv_opening.TheOpened.{Opened}
 use Rattle.law_paper.specs.Below.fkv_opening.Warm.{record_word}
+use Rattle.law_log.specs.Chains.{Cell}
+use Rattle.law_refine.specs.Below.fkv_ops.Values.{value_of}
 use Rattle.fkv_record.proofs.Shown.{record_numbered}
+use Rattle.fkv_record.specs.Begin.{from_or_none}
 use Rattle.fkv_record.specs.Layout.{record_bytes, record_numbers}
 use Rattle.fkv_record.specs.Numbers.{spelled}
 use Rattle.fkv_record.specs.Places.{number_at, record_place}
@@ -17,7 +20,6 @@ use Rattle.fkv_words.proofs.Shown.{bit_small}
 use Rattle.fkv_words.specs.Layout.{header_word}
 use Rattle.fkv_words.specs.declared.headers.Header.{Header}
 use Rattle.law_opening.specs.Log.OpeningLog.{cell_at}
-use Rattle.law_opening.specs.Log.Records.{cell_of}
 
 -- the first number of some, and the others behind it
 first_number : (n : ℕ) (rest : List ℕ) → n < 2 ^ 64 → number_at (spelled (n ∷ rest)) 0 ≡ n
@@ -38,6 +40,10 @@ lower_bits x =
     let fits = x.previous_fits in
     let version = x.version_fits in
     omega (arith, bit, fits, version)
+
+-- the record as one of the opened store's log
+abbrev pub cell_told : Opened → Record → Cell
+cell_told o x = record { key = x.key.0; value = value_of x.value; version = o.number.0; previous = from_or_none o.begin.0 x.header.previous.0 }
 
 module _ (image : List ℕ) (o : Opened) (a : ℕ) (x : Record) (stands : record_bytes x ≡ bytes_at image (record_place o.shape a) 24) where
   its_bytes : bytes_at image (record_place o.shape a) 24 ≡ spelled (record_numbers x)
@@ -60,6 +66,6 @@ module _ (image : List ℕ) (o : Opened) (a : ℕ) (x : Record) (stands : record
   value_is = word_of 16 x.value (later_number (header_word x.header) (x.key.0 ∷ x.value ∷ []) 8 ∙ later_number x.key.0 (x.value ∷ []) 0 ∙ first_number x.value [] x.value_fits)
 
   -- the record that stands there is that of the log
-  pub cell_is : cell_at image o a ≡ cell_of o.number.0 x
+  pub cell_is : cell_at image o a ≡ cell_told o x
   unfolding cell_at
   cell_is = rw (key_is, value_is, header_is, lower_bits x.header) refl

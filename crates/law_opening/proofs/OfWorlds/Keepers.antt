@@ -38,14 +38,15 @@ use Rattle.law_opening.proofs.OfWorlds.Places.{places_fit, places_of}
 defer_rested : DeferState
 defer_rested = record { raising = raise.AtRest; arming = arm.AtRest; step = defer.Ended NoSlot }
 
-maintain_rested : MaintainState
-maintain_rested = record {
+maintain_rested : Opened → MaintainState
+maintain_rested o = record {
   scanning = scan.AtRest;
   claiming = claim.AtRest;
   bytes = [];
   flushing = flush.AtRest;
   shift = shift_at shift.AtRest move_at_rest;
   turn = turn_at turn.AtRest move_at_rest;
+  begin = o.begin;
   serving = serve.AtRest;
   is_drain_full = false;
   step = Through;
@@ -53,7 +54,7 @@ maintain_rested = record {
 
 pub keeper_of : Opened → KeeperState
 keeper_of o = record {
-  maintain = maintain_rested;
+  maintain = maintain_rested o;
   start = record { asked = record { class = o.shape.class; kind = Full; lost = 0; checkpoint = record { 0 = 0 } }; defer = defer_rested; step = starting.Ended start.Idle };
   enter = record { number = record { 0 = 1 }; defer = defer_rested; step = entering.Ended enter.Idle };
   copy = None;
@@ -81,6 +82,7 @@ keeper_opens o = record {
   its_shape = refl;
   its_places = places_fit o.shape;
   newest = refl;
+  serves_from = refl;
   used = refl;
   class = refl;
   in_hand = refl;

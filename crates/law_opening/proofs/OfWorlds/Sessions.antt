@@ -46,6 +46,7 @@ session_of o number = record {
   seen = seen_by o;
   serial = point_of o number;
   ticket = 0;
+  floor = o.begin;
   requests = [];
   is_orphaned = false;
   spare = 0;
@@ -73,6 +74,7 @@ unfolding session_of seen_by
 session_opens o number = record {
   opened = record { awake = refl; none_wait = refl; no_ticket = refl; no_orphan = refl; no_spare = refl; no_asks = refl; no_effect = refl; none_finished = refl; none_in_hand = refl; serial_fits = point_small o.points.items o.small_points number };
   serial = refl;
+  floor = refl;
   saw = record { phase = refl; version = refl; head = refl; read_only = refl };
 }
 

@@ -1,9 +1,10 @@
 -- What the laws say.
-use Rattle.std.specs.Prelude.{◌≡◌, ◌<◌, ℕ, List, []}
+use Rattle.std.specs.Prelude.{◌≡◌, ◌<◌, ℕ, List, [], Some, slice_get}
 use Rattle.law_refine.specs.Below.fkv_flush.GuardFlushed.{stands}
 use Rattle.law_refine.specs.Below.fkv_world.Opened.{IsOpenedWorld}
 use Rattle.law_refine.specs.Below.fkv_world.Runs.{World}
-use Rattle.law_refine.specs.Below.fkv_world.World.{Event}
+use Rattle.law_refine.specs.Below.fkv_session.Sessions.{SessionState}
+use Rattle.law_refine.specs.Below.fkv_world.World.{Event, Now}
 use Rattle.law_opening.specs.Changes.Fits.{CallsFit, CellsFit}
 use Rattle.law_opening.specs.Changes.Images.{IsInImage}
 use Rattle.law_opening.specs.Changes.Linked.{ChainsFall, IsLinkedLog}
@@ -34,12 +35,18 @@ pub record BeginsLinked (opening : World) (start : ℕ) (lists : ℕ → List �
   pub linked : IsLinkedLog ghosts.log
   pub warm : MemoryShowsLog opening start ghosts.log
 
--- It begins so beside a log with numbers that fit in words: the device has each of its records, and nothing has taken effect. Each session has its mailbox.
+-- where the log of an opened store begins, as its keeper has it
+abbrev pub begin_at : Now → ℕ
+begin_at n = n.keeper.last.begin.0
+
+-- It begins so beside a log with numbers that fit in words: the device has each of its records, and nothing has taken effect.
+-- Each session has its mailbox, and the log's begin as its floor.
 pub record BeginsFitting (opening : World) (start : ℕ) (lists : ℕ → List ℕ) (ghosts : Ghosts) : Type 0 where
   pub linked : BeginsLinked opening start lists ghosts
   pub store : IsOpenedStore opening start
   pub mailboxes : (session : ℕ) → session < opening.now.places.sessions → mail.IsOpened opening.now session
-  pub device : (a : ℕ) (cell : Cell) → ghosts.log.cells a ≡ Published cell → IsInImage opening.now.shape opening.past.opened a cell
+  pub floors : (session : ℕ) (s : SessionState) → slice_get opening.now.sessions session ≡ Some s → s.floor ≡ opening.now.keeper.last.begin
+  pub device : (a : ℕ) (cell : Cell) → ghosts.log.cells a ≡ Published cell → IsInImage (begin_at opening.now) opening.now.shape opening.past.opened a cell
   pub fits : CellsFit ghosts.log
   pub no_history : ghosts.log.history ≡ []
 

@@ -3,6 +3,7 @@ use Rattle.std.specs.Prelude.{◌≡◌, ◌<◌, ℕ, List}
 use Rattle.fkv_core.specs.Openings.{IsOpeningWorld, beginning}
 use Rattle.fkv_filling.specs.OpeningIndex.{opening_lists}
 use Rattle.law_refine.specs.Below.fkv_flush.GuardFlushed.{stands}
+use Rattle.law_log.specs.Begins.{IsAbove}
 use Rattle.law_paper.specs.Below.fkv_opening.Opened.{IsStoreOf}
 use Rattle.law_paper.specs.Below.fkv_opening.TheOpened.{Opened}
 use Rattle.law_refine.specs.Below.fkv_world.World.{Event, Now}
@@ -54,3 +55,8 @@ abbrev pub LivesKeepFitting : Type 0
 LivesKeepFitting =
     (o : Opened) (n : Now) (bytes : List ℕ) (events : List Event) → IsStoreOf bytes o → IsOpeningWorld o n → CallsFit events
     → (let beside = ghosts_beside o n bytes events in CellsFit beside.log)
+
+-- no record of its log lies below the begin that the store was opened with
+abbrev pub LivesAreAbove : Type 0
+LivesAreAbove =
+    (o : Opened) (n : Now) (bytes : List ℕ) (events : List Event) → IsStoreOf bytes o → IsOpeningWorld o n → (let beside = ghosts_beside o n bytes events in IsAbove o.begin.0 beside.log)

@@ -18,6 +18,7 @@ use Rattle.law_refine.specs.Index.Shows as index
 use Rattle.law_refine.specs.Latches.Shows as latch
 use Rattle.law_opening.specs.Lives.Made.{AllMade}
 use Rattle.law_opening.specs.Lives.OpenedFrom.{IsOpenedFrom}
+use Rattle.law_paper.specs.Paper.Forgotten.{AgreeFrom}
 use Rattle.law_opening.specs.Lives.Reaching.{ReachesFar}
 use Rattle.law_opening.specs.Lives.Steps.{AllLeadOn, AllLedOn, AreStepsOfOpened, OneCommitStands, Step, device_behind, events_of, now_behind}
 
@@ -71,6 +72,10 @@ KeeperIsToldTheBytes =
 abbrev pub FarBytesEndBehind : Type 0
 FarBytesEndBehind =
     (bytes : List ℕ) (o : Opened) → ReachesFar bytes → IsStoreOf bytes o → IsBehind o.shape (newest_commit o).checkpoint (length bytes)
+
+-- so do bytes that agree but at those that count for nothing
+abbrev pub ForgottenReachFar : Type 0
+ForgottenReachFar = (image other : List ℕ) → AgreeFrom image other → ReachesFar image → ReachesFar other
 
 -- and those of a new store do
 abbrev pub CreatedReachesFar : Type 0

@@ -4,9 +4,11 @@ use Rattle.fkv_base.specs.declared.numbers.Key.{Key}
 use Rattle.fkv_base.specs.declared.numbers.Value.{Value}
 use Rattle.fkv_core.specs.Openings.{IsOpeningWorld}
 use Rattle.fkv_filling.specs.OpeningIndex.{opening_lists}
+use Rattle.law_paper.specs.Below.fkv_opening.Alike.{Agree}
 use Rattle.law_paper.specs.Below.fkv_opening.Opened.{IsStoreOf}
 use Rattle.law_paper.specs.Below.fkv_opening.TheOpened.{Opened}
 use Rattle.law_log.specs.Ghosts.{shown}
+use Rattle.law_log.specs.Begins.{IsAbove}
 use Rattle.law_log.specs.Enabled.{IsOpened}
 use Rattle.law_paper.specs.Below.fkv_pairs.Pairs.{ArePairs, HasValue, log_of_store}
 use Rattle.law_refine.specs.Below.fkv_world.World.{Event, Now}
@@ -24,6 +26,11 @@ abbrev pub HasTheRecordsThatCount : Type 0
 HasTheRecordsThatCount =
     (image : List ℕ) (o : Opened) (store : IsStoreOf image o) → HasWhatCounts (log_of_store image o store) (opening_log image o)
 
+-- none of them lies below the store's begin, so the log does without what lies there
+abbrev pub LogIsAbove : Type 0
+LogIsAbove =
+    (image : List ℕ) (o : Opened) → IsStoreOf image o → IsAbove o.begin.0 (opening_log image o)
+
 -- each key shows the value that it has in the store
 abbrev pub ShowsTheStoresValues : Type 0
 ShowsTheStoresValues =
@@ -38,6 +45,11 @@ BeginsTheOrderLaw =
 abbrev pub BeginsFromItsPairs : Type 0
 BeginsFromItsPairs =
     (image : List ℕ) (o : Opened) (store : IsStoreOf image o) (pairs : List (Key × Value)) → ArePairs (log_of_store image o store) pairs → map_of pairs ≡ opening_map image o
+
+-- where images that agree on what recovery reads hold one store, that is one map
+abbrev pub MapsAlike : Type 0
+MapsAlike =
+    (image other : List ℕ) (o : Opened) → IsStoreOf image o → IsStoreOf other o → Agree image other → opening_map other o ≡ opening_map image o
 
 -- the log is one with which the life of the store's world begins
 abbrev pub BeginsItsLife : Type 0

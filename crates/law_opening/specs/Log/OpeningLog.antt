@@ -1,6 +1,7 @@
 -- The order law's log with which the life of an opened store begins: the chains of the image.
 use Rattle.std.specs.Prelude.{ℕ, zero, suc, ◌%◌, ◌^◌, nat_eq, cond, Bool, false, ◌||◌, List, [], ◌∷◌}
 use Rattle.fkv_entries.specs.declared.home_entries.HomeEntry.{HomeEntry}
+use Rattle.fkv_record.specs.Begin.{from_or_none}
 use Rattle.law_paper.specs.Below.fkv_opening.Entries.{entry_home}
 use Rattle.law_paper.specs.Below.fkv_opening.TheOpened.{Opened}
 use Rattle.law_paper.specs.Below.fkv_opening.Warm.{record_word}
@@ -9,13 +10,13 @@ use Rattle.law_log.specs.Chains.{Cell, Logged, Unborn, Published}
 use Rattle.law_log.specs.Ghosts.{Log, Ghosts, NotCalled}
 use Rattle.law_refine.specs.Events.GhostEvents.{home_in}
 
--- the record of the image at an address; all that an opened store has counts as of its commit's version
+-- the record of the image at an address; all that an opened store has counts as of its commit's version, and what lies below its log's begin is led to by nothing
 unfoldable pub cell_at : List ℕ → Opened → ℕ → Cell
 cell_at image o a = record {
   key = record_word image o.shape a 1;
   value = value_of (record_word image o.shape a 2);
   version = o.number.0;
-  previous = record_word image o.shape a 0 % 2 ^ 48;
+  previous = from_or_none o.begin.0 (record_word image o.shape a 0 % 2 ^ 48);
 }
 
 -- the addresses from one down, each where the record at the one before leads, to the first that is 0; at most so many

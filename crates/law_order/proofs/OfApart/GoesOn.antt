@@ -32,19 +32,22 @@ use Rattle.law_commit.specs.Below.law_local.Sessions.Known.{attempt_after, is_at
 use Rattle.law_commit.specs.Below.law_local.Tries.AttemptRows.{AttemptRow, IsTrueOfAttempt}
 use Rattle.law_commit.specs.Below.law_local.Tries.AttemptRows as local
 use Rattle.law_commit.specs.Below.law_local.Tries.Replies.{IsTrueReply}
-use Rattle.law_commit.specs.Below.law_local.Tries.TryRows.{MarksTell, NoneIsLater, NoneLaterPast, key_in}
+use Rattle.law_commit.specs.Below.law_local.Tries.TryRows.{MarksTell, NoneIsLater, NoneLaterPast, floor_in, key_in}
 use Rattle.law_commit.proofs.Below.law_local.OfTries.AttemptSteps.{attempt_leads}
 use Rattle.law_commit.proofs.Below.law_local.OfTries.OnWay.{orderly}
 use Rattle.law_commit.proofs.Below.law_local.OfTries.TrySteps.{try_leads}
+use Rattle.law_log.specs.Begins.{Live}
 use Rattle.law_log.specs.Enabled.{AreEnabled}
 use Rattle.law_log.specs.Ghosts.{Log}
 use Rattle.law_log.proofs.Shown.{Grows, Held, enabled_before}
 use Rattle.law_order.specs.Apart.Given.{Given}
 use Rattle.law_order.specs.Apart.Lives.{AllApartBehind, NoneHasShifted, OpensApart}
-use Rattle.law_order.specs.Known.Begins.{BegunLife, home_of_world}
+use Rattle.law_order.specs.Known.Begins.{BegunLife, begin_in, home_of_world}
+use Rattle.law_order.specs.Known.Floors.{GoesByBegin}
 use Rattle.law_order.specs.Known.Knows.{AllKnowBehind}
 use Rattle.law_order.specs.Known.Told.{AreToldTruly, reply_in}
 use Rattle.law_order.proofs.OfApart.Along.{PublishesApart, takes_along}
+use Rattle.law_order.proofs.OfKnown.Begins.{live_below}
 use Rattle.law_order.proofs.OfApart.Heart.{Sharer, became, making_of, publishes_apart, publishes_own}
 use Rattle.law_order.proofs.OfApart.Moments.{attempt_left, waiting_left}
 use Rattle.law_order.proofs.OfApart.Newest.{held, marks, none_said, passes, phase_tells, tells, versions_near}
@@ -57,7 +60,8 @@ use Rattle.law_commit.proofs.Below.law_refine.OfSeen.There.{there_before}
 
 module _ (given : Given) (life : BegunLife) (apart : OpensApart life) (before : List Event) (event : Event)
     (enabled : AreEnabled (home_of_world life.opening) life.ghosts (mapped life.opening (event ∷ before))) (known : AllKnowBehind life.opening life.ghosts before)
-    (told : AreToldTruly (home_of_world life.opening) (life_ghosts life.opening life.ghosts before).log (run life.opening before).now) (none : NoneHasShifted life.opening (event ∷ before)) (all_apart : AllApartBehind life.opening life.ghosts before) where
+    (told : AreToldTruly (home_of_world life.opening) (life_ghosts life.opening life.ghosts before).log (run life.opening before).now) (none : NoneHasShifted life.opening (event ∷ before)) (all_apart : AllApartBehind life.opening life.ghosts before)
+    (begin : GoesByBegin life.opening life.ghosts before) where
   abbrev W : World
   W = run life.opening before
 
@@ -143,6 +147,9 @@ module _ (given : Given) (life : BegunLife) (apart : OpensApart life) (before : 
         }
 
     -- ---- what it attempts
+    live : is_attempting s.step ≡ true → Live (floor_in s.attempt.pending.request) H L
+    live attempts = live_below (begin_in W) (floor_in s.attempt.pending.request) H L ((begin.floors session s was).theirs.attempted attempts) begin.live
+
     row_of : is_attempting s.step ≡ true → s.attempt.step ≡ Tries → local.TriesFor H L s.attempt.pending s.attempt.seen s.attempt.trial
     row_of attempts tries = subst (AttemptRow H L s.attempt) tries ((known session s was).attempted attempts).row
 
@@ -218,7 +225,7 @@ module _ (given : Given) (life : BegunLife) (apart : OpensApart life) (before : 
 
       same_request : is_attempting s.step ≡ true → (attempt_after K s reply).step ≡ Tries → (attempt_after K s reply).trial.request ≡ (attempt_after K s reply).pending.request
       same_request attempts tries =
-          let after = attempt_leads H L K.places (bits_of K) (room_of K) K.number s.attempt reply (orderly H life.map L is_held) (passes_so attempts) (marks_so attempts) ((known session s was).attempted attempts) (told session s was attempts) in
+          let after = attempt_leads H L K.places (bits_of K) (room_of K) K.number s.attempt reply (orderly H life.map L is_held) (live attempts) (passes_so attempts) (marks_so attempts) ((known session s was).attempted attempts) (told session s was attempts) in
           let row : local.TriesFor H L (attempt_after K s reply).pending (attempt_after K s reply).seen (attempt_after K s reply).trial = subst (AttemptRow H L (attempt_after K s reply)) tries after.row in
           row.its_request
 
@@ -239,7 +246,7 @@ module _ (given : Given) (life : BegunLife) (apart : OpensApart life) (before : 
         says = λ attempts. told session s was attempts;
         tells = λ attempts tries. tells given life apart before enabled_so session s was attempts tries (known session s was) (all_apart session s was);
         phase = λ attempts tries. phase_tells given life apart before enabled_so session s was attempts tries (known session s was) (all_apart session s was);
-        leads = λ attempts tries. try_leads H L N.places (room_of K) s.attempt.trial reply (orderly H life.map L is_held) (passes_so attempts tries) (marks_so attempts tries) (row_of attempts tries).knows (says_so attempts tries);
+        leads = λ attempts tries. try_leads H L N.places (room_of K) s.attempt.trial reply (orderly H life.map L is_held) (subst (λ (r : Request). Live (floor_in r) H L) (sym (row_of attempts tries).its_request) (live attempts)) (passes_so attempts tries) (marks_so attempts tries) (row_of attempts tries).knows (says_so attempts tries);
         waiting = waiting_on;
         trying = trying_on;
         latches = λ cause i at takes index pending got. latched cause i at takes index pending got;

@@ -15,6 +15,7 @@ use Rattle.law_commit.specs.Below.fkv_ops.HeaderSaid.TheVariants.{Says, Spoiled}
 use Rattle.law_commit.specs.Below.fkv_ops.Occasion.{Occasion}
 use Rattle.law_commit.specs.Below.fkv_ops.Seen.{Seen}
 use Rattle.law_commit.specs.Below.fkv_ops.HeaderWords.{header_said}
+use Rattle.law_commit.specs.Below.fkv_ops.Requests.{is_chain_end}
 use Rattle.law_commit.specs.Below.fkv_ops.Trying.{told_value, try_ask}
 use Rattle.law_commit.specs.Below.fkv_ops.Values.{value_of}
 use Rattle.law_commit.specs.Below.fkv_pending.TheAttempting.{Attempting}
@@ -26,10 +27,10 @@ use Rattle.law_commit.specs.Below.fkv_pending.MailTask.TheVariants.{Take, Put}
 use Rattle.law_commit.specs.Below.fkv_pending.TheMailing.{Mailing}
 use Rattle.law_commit.specs.Below.fkv_pending.TheMailing.TheVariants as mailing
 use Rattle.law_commit.specs.Below.fkv_pending.PendingRequest.{PendingRequest}
-use Rattle.law_commit.specs.Below.fkv_pending.Mailing.{mail_ask, mail_next}
+use Rattle.law_commit.specs.Below.fkv_pending.Mailing.{begin_told, is_gone, mail_ask, mail_next}
 use Rattle.law_commit.specs.Below.fkv_pending.MailWorld.{is_at_end}
-use Rattle.law_commit.specs.Below.fkv_pending.Pending.{with_sought, with_held, with_latch, with_asked}
-use Rattle.law_commit.specs.Below.fkv_pending.Attempting.{AttemptState, attempt_begun, attempt_ended, waits_for_disk, puts_addr, puts, tries, is_seeking_read, goes_on, held_of, moved_on, read_on, record_taken, not_ready, look_ledto, held_kept, awaits_record, leaves, tried, try_ledto, put_ledto, mail_moved, try_moved, attempting_next, attempt_next, new_attempt}
+use Rattle.law_commit.specs.Below.fkv_pending.Pending.{with_sought, with_held, with_latch, with_asked, without_gone}
+use Rattle.law_commit.specs.Below.fkv_pending.Attempting.{AttemptState, attempt_begun, attempt_ended, waits_for_disk, puts_addr, puts, tries, is_seeking_read, goes_on, held_of, moved_on, read_on, record_taken, goes_anew, mail_taken, not_ready, look_ledto, held_kept, awaits_record, leaves, tried, try_ledto, put_ledto, mail_moved, try_moved, attempting_next, attempt_next, new_attempt}
 use Rattle.law_order.specs.Asked.Asked.{HasAskedSought}
 use Rattle.law_order.proofs.OfAsked.Askers.{asker, asker_or, asked_count, asked_most}
 use Rattle.law_order.proofs.OfAsked.Told.{IsAt, MailTold, Tells}
@@ -179,15 +180,27 @@ module _ (p : Places) (bits room : ℕ) (buckets : p.buckets ≡ 2 ^ bits) where
     read_goes a its Spoiled free = puts_on a (free_base a free)
     read_goes a its (Says previous version) free =
         let on : AttemptState = record a { pending = with_sought a.pending (moved_on a.pending.sought previous) } in
-        let below : AttemptState = if previous.0 == 0 then attempt_ended a answer.Absent else puts on in
+        let ends : Bool = is_chain_end a.pending.request.floor previous in
+        let below : AttemptState = if ends then attempt_ended a answer.Absent else puts on in
         either_goes (its.key.0 == (key_of a.pending.request.op).0) (attempt_ended a (told_value (value_of its.value))) below (told_ends a (value_of its.value) free)
-        (either_goes (previous.0 == 0) (attempt_ended a answer.Absent) (puts on) (free_ends a answer.Absent tt refl free) (puts_on on (free_base on (record { same = free.same; none = free.none; few = free.few }))))
+        (either_goes ends (attempt_ended a answer.Absent) (puts on) (free_ends a answer.Absent tt refl free) (puts_on on (free_base on (record { same = free.same; none = free.none; few = free.few }))))
 
     taken_goes : (a : AttemptState) (its : MailRecord) (said : HeaderSaid) → Free a → Goes (record_taken p bits a its said)
     unfolding with_held
     taken_goes a its said free =
         let holds : AttemptState = record a { pending = with_held a.pending (held_of a.pending.sought its said) } in
         either_goes (is_seeking_read a) (read_on a its said) (tries p bits holds) (read_goes a its said free) (tries_on holds (free_base holds (record { same = free.same; none = free.none; few = free.few })))
+
+    anew_goes : (a : AttemptState) (begin : Addr) → Free a → Goes (goes_anew p bits a begin)
+    unfolding without_gone
+    anew_goes a begin free =
+        let its : AttemptState = record a { pending = without_gone a.pending begin } in
+        let base : Base its = free_base its (record { same = free.same; none = free.none; few = free.few }) in
+        either_goes (is_seeking_read a) (waits_for_disk its) (tries p bits its) (waits_on its reason.Disk base) (tries_on its base)
+
+    mail_goes : (a : AttemptState) (its : MailRecord) → Free a → Goes (mail_taken p bits a its)
+    mail_goes a its free =
+        either_goes (is_gone its) (goes_anew p bits a (begin_told its)) (record_taken p bits a its (header_said its.header)) (anew_goes a (begin_told its) free) (taken_goes a its (header_said its.header) free)
 
     none_goes : (a : AttemptState) → Base a → Goes (not_ready p bits a)
     none_goes a base = either_goes (is_seeking_read a) (waits_for_disk a) (tries p bits a) (waits_on a reason.Disk base) (tries_on a base)
@@ -251,7 +264,7 @@ module _ (p : Places) (bits room : ℕ) (buckets : p.buckets ≡ 2 ^ bits) where
         let one : asker a.pending.has_asked ≡ 1 = ap asker has in
         let most : asked_count asked ≤ 1 = asked_most asked in
         let few : others + (asker a.pending.has_asked + asker a.is_orphaned) ≤ asked_count asked = base.few in
-        taken_goes asked' told others occasion b its (header_said its.header) (record { same = base.same; none = refl; few = omega (arith, one, most, few) })
+        mail_goes asked' told others occasion b its (record { same = base.same; none = refl; few = omega (arith, one, most, few) })
     look_goes n a (mailing.Ended mail.Cleared) at same base has task goes tells = let clash = tells.0 in cc
     look_goes n a (mailing.Ended mail.Asked) at same base has task goes tells = let clash = tells.task in cc
     look_goes n a (mailing.Ended mail.NotReady) at same base has task goes tells = none_goes asked' told others occasion a (moved a tells base)

@@ -19,8 +19,8 @@ use Rattle.law_commit.specs.Below.fkv_pending.Mailbox.{MailNote, MailPast, past_
 use Rattle.law_commit.specs.Below.fkv_session.Sessions.{SessionState, session_ask}
 use Rattle.law_commit.specs.Below.fkv_world.Actors.{is_of_session}
 use Rattle.law_commit.specs.Below.fkv_world.World.{Event, Calls, Moves, KeeperMoves, Now, seat_at}
-use Rattle.law_commit.specs.Below.law_refine.Mail.MailEvents.{begins, changed_by, own_events, begun_events, called_events, moved_events, served_events, record_read, life_events}
-use Rattle.law_commit.specs.Below.law_refine.Mail.Servers.{serving_of, is_serving}
+use Rattle.law_commit.specs.Below.law_refine.Mail.MailEvents.{begins, changed_by, own_events, begun_events, called_events, moved_events, loaded_events, served_events, record_gone, record_read, life_events}
+use Rattle.law_commit.specs.Below.law_refine.Mail.Servers.{serving_of, begin_of, is_serving}
 use Rattle.law_order.specs.Asked.Asked.{outstanding}
 use Rattle.law_order.proofs.OfAsked.Moved.{is_first}
 
@@ -58,10 +58,15 @@ either_quiet : (c : Bool) (a b : List MailEvent) → AreQuiet a → AreQuiet b �
 either_quiet true a b one other = one
 either_quiet false a b one other = other
 
-served_quiet : (given : MailRecord) (done : Bool) (addr : ℕ) (step : Serving) → AreQuiet (served_events given done addr step)
-served_quiet given done addr (serve.LoadsAddress session) = either_quiet (nat_lt addr (2 ^ 48)) (Serves given ∷ Serves given ∷ []) [] tt tt
-served_quiet given done addr (serve.Reads session at) = either_quiet done (Serves given ∷ []) [] tt tt
-served_quiet given done addr step = tt
+loaded_quiet : (begin : ℕ) (given : MailRecord) (addr : ℕ) → AreQuiet (loaded_events begin given addr)
+loaded_quiet begin given addr =
+    either_quiet (nat_lt addr begin) (Serves (record_gone begin) ∷ Serves (record_gone begin) ∷ Serves (record_gone begin) ∷ []) (if nat_lt addr (2 ^ 48) then Serves given ∷ Serves given ∷ [] else []) tt
+    (either_quiet (nat_lt addr (2 ^ 48)) (Serves given ∷ Serves given ∷ []) [] tt tt)
+
+served_quiet : (begin : ℕ) (given : MailRecord) (done : Bool) (addr : ℕ) (step : Serving) → AreQuiet (served_events begin given done addr step)
+served_quiet begin given done addr (serve.LoadsAddress session) = loaded_quiet begin given addr
+served_quiet begin given done addr (serve.Reads session at) = either_quiet done (Serves given ∷ []) [] tt tt
+served_quiet begin given done addr step = tt
 
 called_quiet : (n : Now) (session number : ℕ) (call : Call) (found : Option SessionState) → (number == session) ≡ false → AreQuiet (called_events n session number call found)
 called_quiet n session number call None other = tt
@@ -78,8 +83,8 @@ unfolding life_events
 event_quiet n read session (Calls number call) other = called_quiet n session number call (slice_get n.sessions number) other
 event_quiet n read session (Moves number) other = moved_quiet n session number (slice_get n.sessions number) other
 event_quiet n read session (KeeperMoves granted done) other =
-    either_quiet (is_serving session (serving_of n.keeper)) (served_events (record_read read) done (mailbox_of n.words session).addr (serving_of n.keeper)) (changed_by n.words (keeper_ask n.shape n.places n.keeper))
-    (served_quiet (record_read read) done (mailbox_of n.words session).addr (serving_of n.keeper)) (changed_quiet n.words (keeper_ask n.shape n.places n.keeper))
+    either_quiet (is_serving session (serving_of n.keeper)) (served_events (begin_of n.keeper) (record_read read) done (mailbox_of n.words session).addr (serving_of n.keeper)) (changed_by n.words (keeper_ask n.shape n.places n.keeper))
+    (served_quiet (begin_of n.keeper) (record_read read) done (mailbox_of n.words session).addr (serving_of n.keeper)) (changed_quiet n.words (keeper_ask n.shape n.places n.keeper))
 event_quiet n read session event other = tt
 
 -- ---- a task that begins

@@ -47,7 +47,7 @@ use Rattle.law_commit.specs.Below.fkv_session.Sitting.{Sitting}
 use Rattle.law_commit.specs.Below.fkv_session.Sitting.TheVariants.{Idle, Attempts, CatchesUp, ClearsMail, Polls, StoresOwing, Turns, StoresCut, Leaves, LoadsDurable}
 use Rattle.law_commit.specs.Below.fkv_session.CatchingUp.{CatchState, refresh_begun, wake_begun, latched, latch_marked, catching_requests}
 use Rattle.law_commit.specs.Below.fkv_session.OwnTurns.{own_turn_ask, own_turn_begun, own_turn_given}
-use Rattle.law_commit.specs.Below.fkv_session.Sessions.{SessionState, Seat, bits_of, room_of, is_busy, answers, answers_after_turn, request_in_hand, attempts, polls_request, polls_at, refuses, refusal_of, op_begun, refresh_call, poll_begun, poll_call, sleep_call, wake_call, call_begun, session_begun, session_ask, session_next, session_given, attempt_left, serial_taken, update_done, shifts, ticket_after, is_no_room, with_request, accepts, attempted, attempt_ledto, caught_up, catch_ledto, clear_ledto, is_owed, request_finished, finishes_request, lacks_room, keeps_request, poll_ledto, turn_ledto, leave_ledto, attempt_moved, caught, own_turn_moved, sitting_next, sitting_given, asks_after, is_word_ask}
+use Rattle.law_commit.specs.Below.fkv_session.Sessions.{SessionState, Seat, bits_of, room_of, is_busy, answers, answers_after_turn, request_in_hand, attempts, polls_request, polls_at, refuses, refusal_of, op_begun, refresh_call, poll_begun, poll_call, sleep_call, wake_call, call_begun, session_begun, session_ask, session_next, session_given, attempt_left, poll_left, serial_taken, update_done, shifts, ticket_after, is_no_room, with_request, accepts, attempted, attempt_ledto, caught_up, catch_ledto, clear_ledto, is_owed, request_finished, finishes_request, lacks_room, keeps_request, poll_ledto, turn_ledto, leave_ledto, attempt_moved, caught, own_turn_moved, sitting_next, sitting_given, asks_after, is_word_ask}
 use Rattle.law_commit.specs.Below.fkv_session.Shares.{HasItsBuckets}
 use Rattle.law_commit.specs.Below.law_refine.Mail.Mailers.{attempt_mailing, sitting_mailing, session_mailing}
 use Rattle.law_order.specs.Asked.Asked.{HasAskedSought}
@@ -197,12 +197,12 @@ module _ (k : Seat) (buckets : HasItsBuckets k) where
 
     polled_asks : (s : SessionState) (index : ℕ) (its : TryAnswer) → HasEnded (remove s.requests index) AtPoll s.attempt its → Asks (poll_ledto k s index (Done its))
     unfolding poll_ledto
-    polled_asks s index (tried.Done reply) is = finishes_asks (attempt_left s) index (tried.Done reply) (dropped (remove s.requests index) s.attempt.is_orphaned is.all is.few)
-    polled_asks s index (tried.Found value) is = finishes_asks (attempt_left s) index (tried.Found value) (dropped (remove s.requests index) s.attempt.is_orphaned is.all is.few)
-    polled_asks s index tried.Absent is = finishes_asks (attempt_left s) index tried.Absent (dropped (remove s.requests index) s.attempt.is_orphaned is.all is.few)
-    polled_asks s index (tried.Wait why) is = kept_asks (attempt_left s) index (tried.Wait why) is.all is.sought is.few
+    polled_asks s index (tried.Done reply) is = finishes_asks (poll_left s) index (tried.Done reply) (dropped (remove s.requests index) s.attempt.is_orphaned is.all is.few)
+    polled_asks s index (tried.Found value) is = finishes_asks (poll_left s) index (tried.Found value) (dropped (remove s.requests index) s.attempt.is_orphaned is.all is.few)
+    polled_asks s index tried.Absent is = finishes_asks (poll_left s) index tried.Absent (dropped (remove s.requests index) s.attempt.is_orphaned is.all is.few)
+    polled_asks s index (tried.Wait why) is = kept_asks (poll_left s) index (tried.Wait why) is.all is.sought is.few
     polled_asks s index (tried.AwaitsDisk sought) is = absurd is.ends
-    polled_asks s index tried.Shift is = kept_asks (attempt_left s) index tried.Shift is.all is.sought is.few
+    polled_asks s index tried.Shift is = kept_asks (poll_left s) index tried.Shift is.all is.sought is.few
     polled_asks s index tried.IndexFull is = absurd is.ends
     polled_asks s index tried.LogFull is = absurd is.ends
 

@@ -103,7 +103,7 @@ module _ (o : Opened) (n : Now) (bytes : List ℕ) (events : List Event) (c : Be
         let tail = at.tail in
         omega (arith, addr, one, tail);
     apart = subst scan.AreApart (sym same) its.apart;
-    covers = λ h a is_in low.
+    covers = λ h a is_in begun low.
         let start = at.start in
         let under : a < c.parts.first.0 = omega (arith, low, start) in
         let x = copied h a is_in under in
@@ -116,6 +116,7 @@ module _ (o : Opened) (n : Now) (bytes : List ℕ) (events : List Event) (c : Be
             stands = subst (λ (ts : List Triple). slice_get ts x.place ≡ Some x.triple) (sym same) x.stands;
             same = ap home_number x.same ∙ same_home h a is_in under;
             address = refl;
+            in_log = omega (arith, begun, up, more);
           },
           omega (arith, up, more),
         );

@@ -300,7 +300,7 @@ module _ (shape : Shape) (opened : List ℕ) (first : BegunCommit) (Good : Begun
     points = points;
     is_sealed = false;
     is_finished = false;
-    parts = record { kind = c.kind; first = c.first; end = c.end; triples = triples; checkpoint = used; lost = lost_left c.kind lost };
+    parts = record { kind = c.kind; begin = c.begin; first = c.first; end = c.end; triples = triples; checkpoint = used; lost = lost_left c.kind lost };
   }
 
   same_opening : (s a : KeeperState) (c : Commit) → IsSameInHand s a → commit_opening s c ≡ commit_opening a c
@@ -413,7 +413,7 @@ module _ (shape : Shape) (opened : List ℕ) (first : BegunCommit) (Good : Begun
         older = rest;
         list = list;
         finished = refl;
-        as_last = record { number = ap (λ (x : BegunCommit). x.number) there; points = ap (λ (x : BegunCommit). x.points) there; checkpoint = ap (λ (x : BegunCommit). x.parts.checkpoint) there };
+        as_last = record { number = ap (λ (x : BegunCommit). x.number) there; begin = ap (λ (x : BegunCommit). x.parts.begin) there; points = ap (λ (x : BegunCommit). x.points) there; checkpoint = ap (λ (x : BegunCommit). x.parts.checkpoint) there };
         slot = inl (writes.slot ∙ ap (λ (x : BegunCommit). slot_of shape x) (sym has.same), subst Good (sym has.same) good);
         triples = subst (λ (x : List BegunCommit). AreTriplesOf shape opened first x s.used (triples_used c.kind w.first.triples its.triples)) (sym list)
             (uses_made s c l newest rest w its c.kind refl named has.same writes before.triples);

@@ -6,6 +6,7 @@ use Rattle.fkv_base.specs.declared.classes.StoreClass.{StoreClass}
 use Rattle.fkv_base.specs.declared.classes.StoreClass.TheVariants.{Specified, Living}
 use Rattle.fkv_base.specs.declared.commits.CommitKind.{CommitKind}
 use Rattle.fkv_base.specs.declared.commits.CommitKind.TheVariants.{Full, Log}
+use Rattle.fkv_base.specs.declared.numbers.Addr.{Addr}
 use Rattle.fkv_base.specs.declared.shapes.Shape.{Shape}
 use Rattle.fkv_marks.specs.Window.{InWindow}
 use Rattle.law_commit.specs.Below.fkv_commit.Commit.{Commit}
@@ -16,7 +17,7 @@ use Rattle.law_opening.specs.Below.fkv_core.Openings.{IsOpeningWorld, beginning}
 use Rattle.law_commit.specs.Below.fkv_flush.GuardLevels.{Rises, levels_of}
 use Rattle.law_commit.specs.Below.fkv_keeper.Keeping.{Finality, KeeperState, come_to, lost_left}
 use Rattle.law_commit.specs.Below.fkv_keeper.KeeperRun.{IsOpened, KeeperEvent, keeper_run}
-use Rattle.law_commit.specs.Below.fkv_keeper.SlotLaws.{CommitHasRoom, HasRoom}
+use Rattle.law_commit.specs.Below.fkv_keeper.SlotLaws.{BeginsAt, CommitHasRoom, HasRoom}
 use Rattle.law_commit.specs.Below.fkv_keeper.TheKeeping.{Keeping}
 use Rattle.law_commit.specs.Below.fkv_keeper.TheKeeping.TheVariants.{Waits, Writes, Finishes}
 use Rattle.law_opening.specs.Below.fkv_opening.TheOpened.{Opened}
@@ -58,6 +59,10 @@ of_plain o n flushed c is = record {
   upwards = is.upwards;
   later = is.later;
   is_flushed = is.is_flushed;
+  begins = is.begins;
+  some_begin = is.some_begin;
+  before_scan = is.before_scan;
+  whole = is.whole;
   room = is.room;
   lost = elim is.lost [
     | inl none ↦ inl (record { none = none.none; newer = none.newer })
@@ -88,8 +93,8 @@ used_newer t s Writes c at behind found = (let used : UsedBelow t s.used (Some c
 used_newer t s Finishes c at behind found = (let used : UsedBelow t s.used (Some c) = subst (λ (x : Option Commit). UsedBelow t s.used x) found at.1 in used.5)
 used_newer t s step c at behind found = absurd behind
 
-hand_newer : (base least : ℕ) (s : KeeperState) → IsBelow base least s → HandIsNewer least s
-hand_newer base least s below = λ c found behind. (let at = below.is in let newer = used_newer below.bounds s (come_to s) c at.at (come_behind s behind) found in let same = below.its_least in omega (arith, newer, same))
+hand_newer : (begin base least : ℕ) (s : KeeperState) → IsBelow begin base least s → HandIsNewer least s
+hand_newer begin base least s below = λ c found behind. (let at = below.is in let newer = used_newer below.bounds s (come_to s) c at.at (come_behind s behind) found in let same = below.its_least in omega (arith, newer, same))
 
 -- a commit lies in the window of the checkpoint that it uses: a full one has made that itself
 full_window : (class : StoreClass) (checkpoint number : ℕ) → number < last_of class → checkpoint ≡ number → InWindow class checkpoint number
@@ -103,9 +108,9 @@ window_of class a c Log is same room uses =
 
 -- of the commit that is being written, by the tails that were loaded for it
 module _ (o : Opened) (n : Now) (flushed : ℕ) (shape : Shape) (p : Places) where
-  fits_so : (a : KeeperState) (c : Commit) → a.step ≡ Writes → a.commit ≡ Some c → IsBelow o.tail.0 o.number.0 a → Ends flushed a → CommitHasRoom a → (c.kind ≡ Full → a.used.triples ≤ most_triples n.shape) → InWindow n.shape.class a.used.number.0 c.number.0 → n.keeper.last.checkpoint.number.0 ≤ o.number.0
-      → NamesItsLost o n (commit_opening a c) → FitsLife o n flushed (commit_opening a c)
-  fits_so a c writes found below ends room area window older lost =
+  fits_so : (a : KeeperState) (c : Commit) → a.step ≡ Writes → a.commit ≡ Some c → IsBelow o.begin.0 o.tail.0 o.number.0 a → Ends flushed a → CommitHasRoom a → (c.kind ≡ Full → a.used.triples ≤ most_triples n.shape) → InWindow n.shape.class a.used.number.0 c.number.0 → n.keeper.last.checkpoint.number.0 ≤ o.number.0
+      → NamesItsLost o n (commit_opening a c) → c.begin ≡ o.begin → n.shape ≡ o.shape → FitsLife o n flushed (commit_opening a c)
+  fits_so a c writes found below ends room area window older lost begins same =
       let t : Bounds = below.bounds in
       let there = below.is in
       let at : Below t true a.last a.commit × UsedBelow t a.used a.commit = at_writes (AtTail t) a writes there.at in
@@ -116,61 +121,74 @@ module _ (o : Opened) (n : Now) (flushed : ℕ) (shape : Shape) (p : Places) whe
       let least = below.its_least in
       let low = used.4 in
       let more = used.5 in
+      let from = below.its_begin in
+      let first = used.0 in
+      let some = o.some_begin in
+      let at_begin : c.begin.0 ≡ o.begin.0 = ap (λ (x : Addr). x.0) begins in
       record {
         few = last_low a.start.asked.class c.number.0 has.follows;
         newer = omega (arith, least, more);
         no_newer = used.2;
         in_window = window;
-        some = used.0;
+        some = omega (arith, from, first, some);
         upwards = used.3;
         later = omega (arith, base, low);
         is_flushed = by c found;
+        begins = begins;
+        some_begin = omega (arith, at_begin, some);
+        before_scan = omega (arith, at_begin, from, first);
+        whole = λ specified. at_begin ∙ o.whole (sym (ap (λ (x : Shape). x.class) same) ∙ specified);
         room = area;
         lost = lost;
         as_opened = λ used. (let names = lost_as_opened o n (commit_opening a c) older lost used in names.lost);
       }
 
-  pub all_fit : (opening : KeeperState) → opening ≡ n.keeper → opening.start.asked.class ≡ n.shape.class → n.keeper.last.checkpoint.number.0 ≤ o.number.0 → IsOpened opening → ((events : List KeeperEvent) → CommitHasRoom (keeper_run shape p opening events))
+  pub all_fit : (opening : KeeperState) → opening ≡ n.keeper → opening.start.asked.class ≡ n.shape.class → n.keeper.last.checkpoint.number.0 ≤ o.number.0 → n.shape ≡ o.shape → IsOpened opening → ((events : List KeeperEvent) → CommitHasRoom (keeper_run shape p opening events))
+      → ((events : List KeeperEvent) → BeginsAt o.begin (keeper_run shape p opening events))
       → ((event : KeeperEvent) (before : List KeeperEvent) (c : Commit) → (keeper_run shape p opening before).step ≡ Waits → (keeper_run shape p opening (event ∷ before)).step ≡ Writes → (keeper_run shape p opening (event ∷ before)).commit ≡ Some c
       → c.kind ≡ Full → (keeper_run shape p opening (event ∷ before)).used.triples ≤ most_triples n.shape)
-      → (events : List KeeperEvent) → Always (λ (s : KeeperState). IsBelow o.tail.0 o.number.0 s) shape p opening events → Always (λ (s : KeeperState). Ends flushed s) shape p opening events
+      → (events : List KeeperEvent) → Always (λ (s : KeeperState). IsBelow o.begin.0 o.tail.0 o.number.0 s) shape p opening events → Always (λ (s : KeeperState). Ends flushed s) shape p opening events
       → AllGood shape p opening (FitsLife o n flushed) events
   unfolding Always
-  all_fit opening same class older opened room area [] below ends = tt
-  all_fit opening same class older opened room area (event ∷ before) below ends = (
+  all_fit opening same class older is_shape opened room begins area [] below ends = tt
+  all_fit opening same class older is_shape opened room begins area (event ∷ before) below ends = (
     λ c waits writes found.
         (let a : KeeperState = keeper_run shape p opening (event ∷ before) in
         let behind : IsBehindWait a.step = subst IsBehindWait (sym writes) tt in
         let newer : Always (HandIsNewer o.number.0) shape p opening (event ∷ before) =
-        always_map (λ (x : KeeperState). IsBelow o.tail.0 o.number.0 x) (HandIsNewer o.number.0) shape p opening (event ∷ before) (λ x at. hand_newer o.tail.0 o.number.0 x at) below in
+        always_map (λ (x : KeeperState). IsBelow o.begin.0 o.tail.0 o.number.0 x) (HandIsNewer o.number.0) shape p opening (event ∷ before) (λ x at. hand_newer o.begin.0 o.tail.0 o.number.0 x at) below in
         let held : HoldsLost o.number.0 n.keeper.lost n.keeper.last.checkpoint a.lost a.last.checkpoint =
         subst (λ (x : KeeperState). HoldsLost o.number.0 x.lost x.last.checkpoint a.lost a.last.checkpoint) same (run_held shape p o.number.0 opening (event ∷ before) opened newer) in
         let uses : UsesBy c.kind a c = run_uses shape p opening (event ∷ before) c opened behind found in
-        let left = left_held o.number.0 n.keeper.lost n.keeper.last.checkpoint c.kind a c held uses (hand_newer o.tail.0 o.number.0 a below.0 c found behind) in
+        let left = left_held o.number.0 n.keeper.lost n.keeper.last.checkpoint c.kind a c held uses (hand_newer o.begin.0 o.tail.0 o.number.0 a below.0 c found behind) in
         let has = room (event ∷ before) c found in
-        fits_so a c writes found below.0 ends.0 (room (event ∷ before)) (area event before c waits writes found) (window_of n.shape.class a c c.kind refl (run_class shape p opening (event ∷ before) ∙ class) has uses) older (lost_named o n a c (few_left c.kind a.lost has.lost) left)),
-    all_fit opening same class older opened room area before below.1 ends.1,
+        fits_so a c writes found below.0 ends.0 (room (event ∷ before)) (area event before c waits writes found) (window_of n.shape.class a c c.kind refl (run_class shape p opening (event ∷ before) ∙ class) has uses) older (lost_named o n a c (few_left c.kind a.lost has.lost) left) ((begins (event ∷ before)).commit c found) is_shape),
+    all_fit opening same class older is_shape opened room begins area before below.1 ends.1,
   )
 
 -- ---- in a life
 tail_there : (o : Opened) (n : Now) → IsOpeningWorld o n → word_at n.words (shared_place one.Tail) ≡ o.tail.0
 tail_there o n its = ap (λ (all : List ℕ). word_at all (shared_place one.Tail)) its.its_words.whole
 
-last_below : (o : Opened) (n : Now) (t : Bounds) → IsOpeningWorld o n → t.least ≡ o.number.0 → t.tail ≡ o.tail.0 → LastBelow t n.keeper.last
-last_below o n t its least tail =
+last_below : (o : Opened) (n : Now) (t : Bounds) → IsOpeningWorld o n → t.begin ≡ o.begin.0 → t.least ≡ o.number.0 → t.tail ≡ o.tail.0 → LastBelow t n.keeper.last
+last_below o n t its begin least tail =
+    let from = o.begin_before_scan in
     let a = o.upwards in
-    subst (λ (last : Finality). LastBelow t last) (sym its.its_keeper.newest) (o.some_first, omega (arith, a, tail), o.no_newer, omega (arith, least))
+    subst (λ (last : Finality). LastBelow t last) (sym its.its_keeper.newest) (omega (arith, begin, from), omega (arith, a, tail), o.no_newer, omega (arith, least))
 
-opens_below : (o : Opened) (n : Now) (bytes : List ℕ) → IsOpeningWorld o n → IsOpened n.keeper → IsBelowNow o.tail.0 o.number.0 (tail_of (beginning n bytes)) n.keeper
+opens_below : (o : Opened) (n : Now) (bytes : List ℕ) → IsOpeningWorld o n → IsOpened n.keeper → IsBelowNow o.begin.0 o.tail.0 o.number.0 (tail_of (beginning n bytes)) n.keeper
 opens_below o n bytes its opened =
     let there = tail_there o n its in
-    let t : Bounds = record { base = o.tail.0; least = o.number.0; tail = word_at n.words (shared_place one.Tail); some = o.some_tail; up = omega (arith, there) } in
+    let from = o.begin_before_scan in
+    let up = o.upwards in
+    let t : Bounds = record { begin = o.begin.0; base = o.tail.0; least = o.number.0; tail = word_at n.words (shared_place one.Tail); some = o.some_begin; on = omega (arith, from, up); up = omega (arith, there) } in
     let below : Below t n.keeper.has_points n.keeper.last n.keeper.commit =
     subst (λ (x : Option Commit). Below t n.keeper.has_points n.keeper.last x) (sym its.its_keeper.no_commit)
-    (tt, subst (λ (b : Bool). TakenAbove b n.keeper.last None) (sym its.its_keeper.no_points) tt, last_below o n t its refl there) in
+    (tt, subst (λ (b : Bool). TakenAbove b n.keeper.last None) (sym its.its_keeper.no_points) tt, last_below o n t its refl refl there) in
     record {
       below = record {
         bounds = t;
+        its_begin = refl;
         its_base = refl;
         its_least = refl;
         is = record { well = opened_well n.keeper opened; at = opened_at (AtTail t) n.keeper opened (subst (λ (k : Keeping). AtTail t n.keeper k) (sym its.its_keeper.no_call) below) };
@@ -183,13 +201,15 @@ opened_older o n its = subst (λ (last : Finality). last.checkpoint.number.0 ≤
 
 pub life_fits : (o : Opened) (n : Now) (bytes : List ℕ) (events : List Event) → IsOpeningWorld o n → IsLifeTold (beginning n bytes) events
     → ((shape : Shape) (p : Places) (opening : KeeperState) (past : List KeeperEvent) → IsOpened opening → CommitHasRoom (keeper_run shape p opening past))
+    → ((shape : Shape) (p : Places) (opening : KeeperState) (past : List KeeperEvent) → IsOpened opening → BeginsAt opening.last.begin (keeper_run shape p opening past))
     → ((before : List Event) (event : Event) → Rises (levels_of (run (beginning n bytes) before).now.words) (levels_of (happens (run (beginning n bytes) before) event).now.words))
     → AllOfLife (beginning n bytes) (FitsLife o n (flushed_so_far n bytes events)) events
-life_fits o n bytes events its life room rises =
+life_fits o n bytes events its life room begins rises =
     let opening : World = beginning n bytes in
     let told = life.told in
     let opened : IsOpened n.keeper = told.is_opened in
-    let tails = life_tails opening o.tail.0 o.number.0 events (opens_below o n bytes its opened) (λ before event. (rises before event).tail) life.in_turn in
-    all_fit o n (flushed_so_far n bytes events) n.shape n.places n.keeper refl (its.its_keeper.class ∙ ap (λ (x : Shape). x.class) (sym its.its_shape)) (opened_older o n its) opened (λ past. room n.shape n.places n.keeper past opened)
+    let tails = life_tails opening o.begin.0 o.tail.0 o.number.0 events (opens_below o n bytes its opened) (λ before event. (rises before event).tail) life.in_turn in
+    all_fit o n (flushed_so_far n bytes events) n.shape n.places n.keeper refl (its.its_keeper.class ∙ ap (λ (x : Shape). x.class) (sym its.its_shape)) (opened_older o n its) its.its_shape opened (λ past. room n.shape n.places n.keeper past opened)
+    (λ past. subst (λ (x : Addr). BeginsAt x (keeper_run n.shape n.places n.keeper past)) (ap (λ (last : Finality). last.begin) its.its_keeper.newest) (begins n.shape n.places n.keeper past opened))
     (λ event before c waits writes found. begun_fits n.shape n.places n.keeper event before c opened told.buckets told.overflow waits writes found)
     (keeper_events opening events) tails.always (life_always opening events opened (λ before event. (rises before event).flushed))

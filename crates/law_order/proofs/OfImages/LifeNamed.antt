@@ -20,7 +20,7 @@ use Rattle.law_commit.specs.Below.law_world.Standing.Standing.{IsOneInForce, Tri
 
 -- the opening's commit is the last as the life begins
 opening_last : (opening : World) → IsAsLast opening.now.keeper.last (commit_opened opening.now opening.past.opened)
-opening_last opening = record { number = refl; points = refl; checkpoint = refl }
+opening_last opening = record { number = refl; begin = refl; points = refl; checkpoint = refl }
 
 -- the commits of this opening, by what is known of those whose writes begin
 abbrev pub AllOfLife : World → (BegunCommit → Type 0) → List Event → Type 0

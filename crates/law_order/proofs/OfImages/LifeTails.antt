@@ -19,15 +19,16 @@ use Rattle.law_commit.specs.Below.law_world.Standing.Opening.{AreNumbersInTurn}
 abbrev pub tail_of : World → ℕ
 tail_of w = word_at w.now.words (shared_place one.Tail)
 
--- it is at a tail, of a store that opened at this one with a commit of this number
-pub record IsBelow (base least : ℕ) (s : KeeperState) : Type 0 where
+-- it is at a tail, of a store that opened at this begin and tail with a commit of this number
+pub record IsBelow (begin base least : ℕ) (s : KeeperState) : Type 0 where
   pub bounds : Bounds
+  pub its_begin : (let t = bounds in t.begin ≡ begin)
   pub its_base : (let t = bounds in t.base ≡ base)
   pub its_least : (let t = bounds in t.least ≡ least)
   pub is : IsAtTail bounds s
 
-pub record IsBelowNow (base least tail : ℕ) (s : KeeperState) : Type 0 where
-  pub below : IsBelow base least s
+pub record IsBelowNow (begin base least tail : ℕ) (s : KeeperState) : Type 0 where
+  pub below : IsBelow begin base least s
   pub its_tail : (let b = below in let t = b.bounds in t.tail ≡ tail)
 
 -- the numbers of a part of the events are in turn
@@ -42,16 +43,16 @@ unfolding AreNumbersInTurn
 earlier_turn shape p first [] before turn = turn
 earlier_turn shape p first (event ∷ later) before turn = earlier_turn shape p first later before turn.1
 
-pub record AreTails (opening : World) (base least : ℕ) (events : List Event) : Type 0 where
-  pub now : IsBelowNow base least (tail_of (run opening events)) (keeper_run opening.now.shape opening.now.places opening.now.keeper (keeper_events opening events))
-  pub always : Always (λ (s : KeeperState). IsBelow base least s) opening.now.shape opening.now.places opening.now.keeper (keeper_events opening events)
+pub record AreTails (opening : World) (begin base least : ℕ) (events : List Event) : Type 0 where
+  pub now : IsBelowNow begin base least (tail_of (run opening events)) (keeper_run opening.now.shape opening.now.places opening.now.keeper (keeper_events opening events))
+  pub always : Always (λ (s : KeeperState). IsBelow begin base least s) opening.now.shape opening.now.places opening.now.keeper (keeper_events opening events)
 
 -- what one event of the life leads to
-event_tails : (opening : World) (base least : ℕ) (event : Event) (before : List Event) (high : ℕ) → tail_of (run opening before) ≤ high
-    → AreNumbersInTurn opening.now.shape opening.now.places opening.now.keeper (keeper_part_of (run opening before) event ++ keeper_events opening before) → AreTails opening base least before
-    → IsBelowNow base least high (keeper_run opening.now.shape opening.now.places opening.now.keeper (keeper_part_of (run opening before) event ++ keeper_events opening before))
-    × Always (λ (s : KeeperState). IsBelow base least s) opening.now.shape opening.now.places opening.now.keeper (keeper_part_of (run opening before) event ++ keeper_events opening before)
-event_tails opening base least event before high up turn past =
+event_tails : (opening : World) (begin base least : ℕ) (event : Event) (before : List Event) (high : ℕ) → tail_of (run opening before) ≤ high
+    → AreNumbersInTurn opening.now.shape opening.now.places opening.now.keeper (keeper_part_of (run opening before) event ++ keeper_events opening before) → AreTails opening begin base least before
+    → IsBelowNow begin base least high (keeper_run opening.now.shape opening.now.places opening.now.keeper (keeper_part_of (run opening before) event ++ keeper_events opening before))
+    × Always (λ (s : KeeperState). IsBelow begin base least s) opening.now.shape opening.now.places opening.now.keeper (keeper_part_of (run opening before) event ++ keeper_events opening before)
+event_tails opening begin base least event before high up turn past =
     let w : World = run opening before in
     let shape : Shape = opening.now.shape in
     let p : Places = opening.now.places in
@@ -59,8 +60,8 @@ event_tails opening base least event before high up turn past =
     let part : List KeeperEvent = keeper_part_of w event in
     let rest : List KeeperEvent = keeper_events opening before in
     let s : KeeperState = keeper_run shape p first rest in
-    let now : IsBelowNow base least (tail_of w) s = past.now in
-    let below : IsBelow base least s = now.below in
+    let now : IsBelowNow begin base least (tail_of w) s = past.now in
+    let below : IsBelow begin base least s = now.below in
     let t : Bounds = below.bounds in
     let reads : AllRead w.now.words shape p s part = of_part opening before event (λ x q k events. AllRead w.now.words x q k events) (event_read w event) in
     let all : Always (λ (x : KeeperState). IsAtTail t x) shape p s part = run_on w.now.words t now.its_tail shape p s part reads (later_turn shape p first part rest turn) below.is in
@@ -71,23 +72,24 @@ event_tails opening base least event before high up turn past =
       record {
         below = record {
           bounds = raised t high more;
+          its_begin = below.its_begin;
           its_base = below.its_base;
           its_least = below.its_least;
           is = tails_higher t high more (keeper_run shape p first (part ++ rest)) there;
         };
         its_tail = refl;
       },
-      always_on (λ (x : KeeperState). IsBelow base least x) shape p first part rest
-          (always_map (λ (x : KeeperState). IsAtTail t x) (λ (x : KeeperState). IsBelow base least x) shape p s part (λ x is. record { bounds = t; its_base = below.its_base; its_least = below.its_least; is = is }) all) past.always,
+      always_on (λ (x : KeeperState). IsBelow begin base least x) shape p first part rest
+          (always_map (λ (x : KeeperState). IsAtTail t x) (λ (x : KeeperState). IsBelow begin base least x) shape p s part (λ x is. record { bounds = t; its_begin = below.its_begin; its_base = below.its_base; its_least = below.its_least; is = is }) all) past.always,
     )
 
-pub life_tails : (opening : World) (base least : ℕ) (events : List Event) → IsBelowNow base least (tail_of opening) opening.now.keeper → ((before : List Event) (event : Event) → tail_of (run opening before) ≤ tail_of (happens (run opening before) event))
-    → AreNumbersInTurn opening.now.shape opening.now.places opening.now.keeper (keeper_events opening events) → AreTails opening base least events
+pub life_tails : (opening : World) (begin base least : ℕ) (events : List Event) → IsBelowNow begin base least (tail_of opening) opening.now.keeper → ((before : List Event) (event : Event) → tail_of (run opening before) ≤ tail_of (happens (run opening before) event))
+    → AreNumbersInTurn opening.now.shape opening.now.places opening.now.keeper (keeper_events opening events) → AreTails opening begin base least events
 unfolding run keeper_events keeper_run Always
-life_tails opening base least [] first rises turn = record { now = first; always = first.below }
-life_tails opening base least (event ∷ before) first rises turn =
-    let past = life_tails opening base least before first rises (earlier_turn opening.now.shape opening.now.places opening.now.keeper (keeper_part_of (run opening before) event) (keeper_events opening before) turn) in
-    let its = event_tails opening base least event before (tail_of (happens (run opening before) event)) (rises before event) turn past in
+life_tails opening begin base least [] first rises turn = record { now = first; always = first.below }
+life_tails opening begin base least (event ∷ before) first rises turn =
+    let past = life_tails opening begin base least before first rises (earlier_turn opening.now.shape opening.now.places opening.now.keeper (keeper_part_of (run opening before) event) (keeper_events opening before) turn) in
+    let its = event_tails opening begin base least event before (tail_of (happens (run opening before) event)) (rises before event) turn past in
     record { now = its.0; always = its.1 }
 
 -- ---- and where its commit ends

@@ -9,6 +9,8 @@ use Rattle.law_commit.specs.Below.fkv_flush.GuardFlushed.{IsSynced}
 use Rattle.law_commit.specs.Below.fkv_ops.Values.{value_of}
 use Rattle.fkv_plane.specs.declared.places.RecordWord.{RecordWord}
 use Rattle.fkv_plane.specs.declared.places.RecordWord.TheVariants as rec
+use Rattle.fkv_record.proofs.Shown.{from_lower}
+use Rattle.fkv_record.specs.Begin.{from_or_none}
 use Rattle.fkv_record.specs.Layout.{record_bytes}
 use Rattle.fkv_record.specs.Numbers.{spelled}
 use Rattle.fkv_record.specs.Places.{area_place, record_place}
@@ -18,6 +20,7 @@ use Rattle.law_opening.specs.Changes.Fits.{CellFits}
 use Rattle.law_order.proofs.OfImages.Ranges.{range_same}
 use Rattle.law_order.specs.Images.Records.{ShowsGivenUp}
 use Rattle.law_order.proofs.OfImages.Words.{low_bytes, low_word}
+use Rattle.law_order.proofs.OfServed.Floors.{cut_again}
 use Rattle.law_log.specs.Chains.{Cell}
 use Rattle.law_opening.specs.Log.Records.{IsCellOf, cell_of}
 use Rattle.law_commit.specs.Below.law_paper.Paper.Images.{ShowsCell, ShowsDropped}
@@ -42,7 +45,7 @@ shows_words from image a words cell there is key value fits = record {
   valid = is.bit;
   its_key = key;
   its_value = value;
-  leads = is.leads;
+  leads = ap (from_or_none image.begin) is.leads;
   low = (let same = is.its_mark in let under = mark_low cell.version in omega (arith, same, under));
   same = λ high. is.its_mark;
 }
@@ -77,14 +80,15 @@ pub passes_over : (image : scan.Log) (a : ℕ) (cell : Cell) → ShowsGivenUp im
 passes_over image a cell its young =
     let low = its.falls in
     let leads = its.leads in
-    record { held = its.held; stands = its.stands; invalid = its.invalid; falls = omega (arith, low, leads); same = its.same; young = young }
+    let lower = from_lower image.begin (let x = its.held in x.header.previous.0) in
+    record { held = its.held; stands = its.stands; invalid = its.invalid; falls = omega (arith, low, leads, lower); same = its.same; young = young }
 
--- a record that counted stands as it stood
-pub shows_counted : (from : ℕ) (was image : scan.Log) (a : ℕ) (cell : Cell) → a < from → image.shape ≡ was.shape → bytes_at image.image (record_place was.shape a) 24 ≡ bytes_at was.image (record_place was.shape a) 24
+-- a record that counted stands as it stood, in an image whose log doesn't begin earlier
+pub shows_counted : (from : ℕ) (was image : scan.Log) (a : ℕ) (cell : Cell) → was.begin ≤ image.begin → a < from → image.shape ≡ was.shape → bytes_at image.image (record_place was.shape a) 24 ≡ bytes_at was.image (record_place was.shape a) 24
     → IsCellOf was a cell → ShowsCell from image a cell
-shows_counted from was image a cell low shape same its =
+shows_counted from was image a cell up low shape same its =
     let x = its.held in
-    let cell_is : cell ≡ cell_of was.version x = its.its in
+    let cell_is : cell ≡ cell_of was x = its.its in
     let counts = its.counts in
     let old = counts.old_enough in
     let version : cell.version ≡ was.version = ap (λ (c : Cell). c.version) cell_is in
@@ -94,7 +98,7 @@ shows_counted from was image a cell low shape same its =
       valid = counts.valid.valid;
       its_key = sym (ap (λ (c : Cell). c.key) cell_is);
       its_value = sym (ap (λ (c : Cell). c.value) cell_is);
-      leads = sym (ap (λ (c : Cell). c.previous) cell_is);
+      leads = cut_again was.begin image.begin x.header.previous.0 up ∙ sym (ap (λ (c : Cell). from_or_none image.begin c.previous) cell_is);
       low = omega (arith, old, version);
       same = λ high. absurd (omega (arith, low, high));
     }

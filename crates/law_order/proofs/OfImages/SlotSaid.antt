@@ -5,6 +5,7 @@ use Rattle.std.proofs.lemmas.List.{length-take}
 use Rattle.std.proofs.lemmas.List.Elements.{All-map, All-nil, All-weaker}
 use Rattle.std.proofs.lemmas.List.FromFn.{length-map-range_with_len}
 use Rattle.std.specs.List.{range_with_len}
+use Rattle.std.specs.Prelude.{◌≢◌, ◌==◌, if◌then◌else◌, Bool, true, false}
 use Rattle.fkv_base.specs.Limits.{last_serial, max_disk_pages, max_page, min_page}
 use Rattle.fkv_base.specs.declared.numbers.Addr.{Addr}
 use Rattle.fkv_base.specs.declared.numbers.Serial.{Serial}
@@ -17,8 +18,10 @@ use Rattle.law_commit.specs.Below.fkv_keeper.Area.TheVariants as area
 use Rattle.law_commit.specs.Below.fkv_keeper.Checkpoint.{Checkpoint}
 use Rattle.law_opening.specs.Below.fkv_newest.Manifest.{Follows, HasLost, IsLostIn, Suits}
 use Rattle.law_opening.specs.Below.fkv_opening.TheOpened.{Opened}
-use Rattle.fkv_record.specs.Manifest.{said_in}
+use Rattle.fkv_record.proofs.Shown.{third_format}
+use Rattle.fkv_record.specs.Manifest.{newest_format, said_in}
 use Rattle.fkv_record.specs.Places.{most_triples}
+use Rattle.fkv_record.specs.declared.formats.Format.{Format}
 use Rattle.fkv_record.specs.declared.formats.Format.TheVariants as format
 use Rattle.fkv_record.specs.declared.lost_ranges.LostRange.{LostRange}
 use Rattle.fkv_record.specs.declared.lost_ranges.LostRanges.{LostRanges}
@@ -77,6 +80,9 @@ module _ (o : Opened) (n : Now) (flushed : ℕ) (c : BegunCommit) (fits : FitsLi
   pub small_first : c.parts.checkpoint.first.0 < 2 ^ 64
   small_first = let a = fits.upwards in let b = small_end in omega (arith, a, b)
 
+  pub small_begin : c.parts.begin.0 < 2 ^ 64
+  small_begin = let a = fits.before_scan in let b = small_first in omega (arith, a, b)
+
   pub small_number : c.number.0 < 2 ^ 64
   small_number = let a = fits.few in omega (arith, a)
 
@@ -97,15 +103,17 @@ module _ (o : Opened) (n : Now) (flushed : ℕ) (c : BegunCommit) (fits : FitsLi
     points = points_in n.shape c.points;
     checkpoint = c.parts.checkpoint.number.0;
     lost = lost_in c.parts.lost;
+    begin = c.parts.begin;
     number_fits = small_number;
     first_fits = small_first;
     end_fits = small_end;
     triples_fit = few_triples n.shape c.parts.checkpoint.triples fit;
     area_fits = small_area;
     checkpoint_fits = small_checkpoint;
+    begin_fits = small_begin;
   }
 
-  pub reads_so : said_in slot_read ≡ slot_said n.shape.sessions c.number c.parts.end c.parts.checkpoint c.points c.parts.lost
+  pub reads_so : said_in slot_read ≡ slot_said n.shape.sessions c.number c.parts.begin c.parts.end c.parts.checkpoint c.points c.parts.lost
   reads_so = refl
 
   -- its lost ranges lie in its log
@@ -135,15 +143,21 @@ module _ (o : Opened) (n : Now) (flushed : ℕ) (c : BegunCommit) (fits : FitsLi
         rising = subst (λ (x : List LostRange). AllPairs Follows x) (sym same) opened.rising;
       }
 
-  third_only : format.Third ≡ format.First → ⊥
-  third_only e = cc
+  -- it is written in neither the first format, nor in a specified store in the fourth
+  third_or_fourth : (b : Bool) → (if b then format.Third else format.Fourth) ≡ format.First → ⊥
+  third_or_fourth true e = cc
+  third_or_fourth false e = cc
+
+  third_only : (f : Format) → f ≡ format.Third → f ≢ format.Fourth
+  third_only f third fourth = cc
 
   -- a store of this shape can have it
-  pub suits_so : AreLostOpened o o.lost.items → Suits n.shape (c.number.0 % 2) format.Third slot_read
+  pub suits_so : AreLostOpened o o.lost.items → Suits n.shape (c.number.0 % 2) (newest_format slot_read) slot_read
   suits_so opened = record {
     number = record { few = fits.few; parity = refl };
     log = record { some = fits.some; upwards = fits.upwards; on_disk = end_on_disk };
-    checkpoint = record { few = fit; area = low_area c.parts.checkpoint.area; own_area = λ first. absurd (third_only first); no_newer = fits.no_newer; in_window = fits.in_window };
+    begin = record { some = fits.some_begin; before_scan = fits.before_scan; whole = λ specified. (let one = fits.whole specified in (one, third_only (newest_format slot_read) (third_format slot_read one))) };
+    checkpoint = record { few = fit; area = low_area c.parts.checkpoint.area; own_area = λ first. absurd (third_or_fourth (c.parts.begin.0 == 1) first); no_newer = fits.no_newer; in_window = fits.in_window };
     sessions = many n.shape c.points;
     lost = lost_so opened fits.lost;
   }

@@ -64,20 +64,22 @@ use Rattle.law_order.proofs.OfImages.WordsRead.{AllRead, Always, ReadsWord, alwa
 use Rattle.law_commit.specs.Below.law_world.Standing.Opening.{AreNumbersInTurn, IsNumberInTurn}
 
 -- ---- what is known below a tail
--- the tail and the commit's number with which the store was opened, and the tail now
+-- the begin, the tail and the commit's number with which the store was opened, and the tail now
 pub record Bounds : Type 0 where
+  pub begin : ℕ
   pub base : ℕ
   pub least : ℕ
   pub tail : ℕ
-  pub some : 1 ≤ base
+  pub some : 1 ≤ begin
+  pub on : begin ≤ base
   pub up : base ≤ tail
 
 abbrev pub raised : (t : Bounds) (tail : ℕ) → t.tail ≤ tail → Bounds
-raised t its_tail more = record { base = t.base; least = t.least; tail = its_tail; some = t.some; up = (let up = t.up in omega (arith, up, more)) }
+raised t its_tail more = record { begin = t.begin; base = t.base; least = t.least; tail = its_tail; some = t.some; on = t.on; up = (let up = t.up in omega (arith, up, more)) }
 
 -- of the newest finished commit, and of the one in hand
 abbrev pub LastBelow : Bounds → Finality → Type 0
-LastBelow t last = (1 ≤ last.checkpoint.first.0) × (last.checkpoint.first.0 ≤ t.tail) × (last.checkpoint.number.0 ≤ last.number.0) × (t.least ≤ last.number.0)
+LastBelow t last = (t.begin ≤ last.checkpoint.first.0) × (last.checkpoint.first.0 ≤ t.tail) × (last.checkpoint.number.0 ≤ last.number.0) × (t.least ≤ last.number.0)
 
 abbrev pub HandBelow : Bounds → Finality → Option Commit → Type 0
 HandBelow t last None = ⊤
@@ -99,7 +101,7 @@ Below t points last found = HandBelow t last found × TakenAbove points last fou
 -- the checkpoint that the commit in hand uses
 abbrev pub UsedBelow : Bounds → Checkpoint → Option Commit → Type 0
 UsedBelow t used None = ⊤
-UsedBelow t used (Some c) = (1 ≤ used.first.0) × (used.first.0 ≤ t.tail) × (used.number.0 ≤ c.number.0) × (used.first.0 ≤ c.end.0) × (t.base ≤ c.end.0) × (t.least < c.number.0)
+UsedBelow t used (Some c) = (t.begin ≤ used.first.0) × (used.first.0 ≤ t.tail) × (used.number.0 ≤ c.number.0) × (used.first.0 ≤ c.end.0) × (t.base ≤ c.end.0) × (t.least < c.number.0)
 
 -- as a commit starts, and as its end is sought
 abbrev pub StartsBelow : Bounds → Starting → Type 0
@@ -333,12 +335,12 @@ seek_on t s ask at is seeks found = still t s Seeks at (is, seeks)
 -- ---- it is written
 used_below : (t : Bounds) (c : Commit) (last : Finality) (copy : Option Copier) (kind : CommitKind) → HandBelow t last (Some c) → TakenAbove true last (Some c) → LastBelow t last → UsedBelow t (checkpoint_used c kind last copy) (Some c)
 used_below t c last copy Full hand taken is =
-    let some = t.some in
+    let on = t.on in
     let a = hand.0 in
     let b = hand.2 in
     let d = taken.0 in
     let e = is.3 in
-    (omega (arith, some, a), hand.1, omega arith, d, omega (arith, a, d), omega (arith, b, e))
+    (omega (arith, on, a), hand.1, omega arith, d, omega (arith, a, d), omega (arith, b, e))
 used_below t c last copy Log hand taken is =
     let a = hand.0 in
     let b = hand.2 in

@@ -21,10 +21,10 @@ use Rattle.law_commit.specs.Below.fkv_session.Sessions.{SessionState, is_busy, s
 use Rattle.law_commit.specs.Below.fkv_world.Moves.{session_moved}
 use Rattle.law_commit.specs.Below.fkv_world.Runs.{World, read_by_keeper, run}
 use Rattle.law_commit.specs.Below.fkv_world.World.{Event, Calls, Moves, Commits, Turns, KeeperMoves, Crashes, Now, seat_at, near, session_called}
-use Rattle.law_commit.specs.Below.law_refine.Mail.MailEvents.{begins, changed_by, asked_by, own_events, moved_events, begun_events, called_events, served_events, record_read, keeper_events, life_events, mail_events, mapped}
+use Rattle.law_commit.specs.Below.law_refine.Mail.MailEvents.{begins, changed_by, asked_by, own_events, moved_events, begun_events, called_events, loaded_events, served_events, record_gone, record_read, keeper_events, life_events, mail_events, mapped}
 use Rattle.law_commit.specs.Below.law_refine.Mail.Mailers.{IsAsFar, session_mailing}
 use Rattle.law_commit.specs.Below.law_refine.Mail.Reads.{mail_notes, mail_past}
-use Rattle.law_commit.specs.Below.law_refine.Mail.Servers.{serving_of, is_serving}
+use Rattle.law_commit.specs.Below.law_refine.Mail.Servers.{serving_of, begin_of, is_serving}
 use Rattle.law_commit.specs.Below.law_refine.Mail.Shows.{IsOpened, mail_opening, seen_by_mailbox}
 use Rattle.law_commit.proofs.Below.law_refine.OfMail.Lives.{life_shows}
 use Rattle.law_order.specs.Asked.Asked.{outstanding}
@@ -70,20 +70,25 @@ called_none n session number call None = tt
 called_none n session number call (Some s) =
     either_none (number == session) (begun_events n session call s) [] (either_none (is_busy s.step) [] (begins (session_mailing (session_called (seat_at n session) s call))) tt (begins_none _)) tt
 
-served_none : (given : MailRecord) (done : Bool) (addr : ℕ) (step : Serving) → NoMoves (served_events given done addr step)
-served_none given done addr serve.AtRest = tt
-served_none given done addr (serve.LoadsState session) = tt
-served_none given done addr (serve.LoadsAddress session) = either_none (nat_lt addr (2 ^ 48)) (Serves given ∷ Serves given ∷ []) [] tt tt
-served_none given done addr (serve.Reads session at) = either_none done (Serves given ∷ []) [] tt tt
-served_none given done addr (serve.StoresHeader session mail) = tt
-served_none given done addr (serve.StoresKey session mail) = tt
-served_none given done addr (serve.StoresValue session mail) = tt
-served_none given done addr (serve.StoresReady session) = tt
+loaded_none : (begin : ℕ) (given : MailRecord) (addr : ℕ) → NoMoves (loaded_events begin given addr)
+loaded_none begin given addr =
+    either_none (nat_lt addr begin) (Serves (record_gone begin) ∷ Serves (record_gone begin) ∷ Serves (record_gone begin) ∷ []) (if nat_lt addr (2 ^ 48) then Serves given ∷ Serves given ∷ [] else []) tt
+    (either_none (nat_lt addr (2 ^ 48)) (Serves given ∷ Serves given ∷ []) [] tt tt)
+
+served_none : (begin : ℕ) (given : MailRecord) (done : Bool) (addr : ℕ) (step : Serving) → NoMoves (served_events begin given done addr step)
+served_none begin given done addr serve.AtRest = tt
+served_none begin given done addr (serve.LoadsState session) = tt
+served_none begin given done addr (serve.LoadsAddress session) = loaded_none begin given addr
+served_none begin given done addr (serve.Reads session at) = either_none done (Serves given ∷ []) [] tt tt
+served_none begin given done addr (serve.StoresHeader session mail) = tt
+served_none begin given done addr (serve.StoresKey session mail) = tt
+served_none begin given done addr (serve.StoresValue session mail) = tt
+served_none begin given done addr (serve.StoresReady session) = tt
 
 keeper_none : (n : Now) (read : List ℕ) (session : ℕ) (done : Bool) → NoMoves (keeper_events n read session done)
 keeper_none n read session done =
-    either_none (is_serving session (serving_of n.keeper)) (served_events (record_read read) done (mailbox_of n.words session).addr (serving_of n.keeper)) (changed_by n.words (keeper_ask n.shape n.places n.keeper))
-    (served_none (record_read read) done (mailbox_of n.words session).addr (serving_of n.keeper)) (changed_none n.words (keeper_ask n.shape n.places n.keeper))
+    either_none (is_serving session (serving_of n.keeper)) (served_events (begin_of n.keeper) (record_read read) done (mailbox_of n.words session).addr (serving_of n.keeper)) (changed_by n.words (keeper_ask n.shape n.places n.keeper))
+    (served_none (begin_of n.keeper) (record_read read) done (mailbox_of n.words session).addr (serving_of n.keeper)) (changed_none n.words (keeper_ask n.shape n.places n.keeper))
 
 -- ---- the session is about to store that it asks, for the record at this address
 pub record IsAboutToAsk (opening : World) (session : ℕ) (events : List Event) (addr : Addr) : Type 0 where

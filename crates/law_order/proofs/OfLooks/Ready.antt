@@ -1,6 +1,6 @@
--- While a session loads the words of a record from its mailbox the mailbox is ready, and they are those of the record that was served last: the device gave it since it was asked for.
+-- While a session loads the words of a record from its mailbox the mailbox is ready, and they are those of the record that was served last: it was given since it was asked for.
 use Rattle.std.proofs.Common.{◌≡◌, ℕ, ◌∙◌, ap, subst, arith, List, [], ◌∷◌, Bool, true, false, inl, inr}
-use Rattle.std.specs.Prelude.{Option, Some, slice_get}
+use Rattle.std.specs.Prelude.{⊤, Option, Some, slice_get}
 use Rattle.fkv_base.specs.declared.numbers.Addr.{Addr}
 use Rattle.law_commit.specs.Below.fkv_pending.TheAttempting.TheVariants.{Looks}
 use Rattle.law_commit.specs.Below.fkv_pending.MailRecord.{MailRecord}
@@ -18,7 +18,7 @@ use Rattle.law_commit.specs.Below.law_local.Sessions.Known.{is_attempting}
 use Rattle.law_commit.specs.Below.fkv_world.Runs.{World, run}
 use Rattle.law_commit.specs.Below.fkv_world.World.{Event, Now}
 use Rattle.law_commit.specs.Below.law_refine.Mail.Mailers.{IsAsFar, attempt_mailing, session_mailing, sitting_mailing}
-use Rattle.law_commit.specs.Below.law_refine.Mail.Reads.{ReadSince, mail_notes, mail_past}
+use Rattle.law_commit.specs.Below.law_refine.Mail.Reads.{GivenSince, mail_notes, mail_past}
 use Rattle.law_commit.specs.Below.law_refine.Mail.Shows.{IsOpened, seen_by_mailbox}
 use Rattle.law_commit.proofs.Below.law_refine.OfMail.ReadSteps.{AllRead}
 use Rattle.law_commit.proofs.Below.law_refine.OfMail.LifeReads.{life_read}
@@ -43,6 +43,17 @@ ready_at b task (LoadsKey header) loads knows = knows.1
 ready_at b task (LoadsValue header key) loads knows = knows.1
 ready_at b task step loads knows = cc
 
+-- what it has loaded of it is what the mailbox has
+abbrev pub HasLoaded : Mailbox → Mailing → Type 0
+HasLoaded b (LoadsKey header) = b.header ≡ header
+HasLoaded b (LoadsValue header key) = b.header ≡ header
+HasLoaded b step = ⊤
+
+loaded_at : (b : Mailbox) (task : Option MailTask) (step : Mailing) → KnowsMail b task step → HasLoaded b step
+loaded_at b task (LoadsKey header) knows = knows.2
+loaded_at b task (LoadsValue header key) knows = knows.2
+loaded_at b task step knows = tt
+
 -- ---- the mailbox of the engine's world is that of its own
 box_same : (opening : World) (session : ℕ) (events : List Event) → IsOpened opening.now session
     → mailbox_of (seen_by_mailbox opening session events).words (seen_by_mailbox opening session events).session ≡ mailbox_of (run opening events).now.words session
@@ -51,14 +62,24 @@ box_same opening session events opened =
     ap (λ (words : List ℕ). mailbox_of words (seen_by_mailbox opening session events).session) shows.words
     ∙ ap (mailbox_of (run opening events).now.words) shows.session_same
 
-pub loads_ready : (opening : World) (session : ℕ) (events : List Event) (s : SessionState) (step : Mailing) → IsOpened opening.now session → slice_get (run opening events).now.sessions session ≡ Some s → session_mailing s ≡ Some step
-    → loads_word step ≡ true → (mailbox_of (run opening events).now.words session).state ≡ mail_ready
-loads_ready opening session events s step opened found under_way loads =
+knows_mail : (opening : World) (session : ℕ) (events : List Event) (s : SessionState) (step : Mailing) → IsOpened opening.now session → slice_get (run opening events).now.sessions session ≡ Some s → session_mailing s ≡ Some step
+    → KnowsMail (mailbox_of (run opening events).now.words session) (mail_past opening session events).task step
+knows_mail opening session events s step opened found under_way =
     let w : MailWorld = seen_by_mailbox opening session events in
     let past : MailPast = mail_past opening session events in
     let far : IsAsFar (Some step) w.mailing = subst (λ (its : Option Mailing). IsAsFar its w.mailing) under_way ((life_shows opening session events opened).mailing s found) in
     let knows : KnowsMail (mailbox_of w.words w.session) past.task step = subst (KnowsMail (mailbox_of w.words w.session) past.task) far.0 (life_sound opening session events opened).kept.session in
-    subst (λ (b : Mailbox). b.state ≡ mail_ready) (box_same opening session events opened) (ready_at (mailbox_of w.words w.session) past.task step loads knows)
+    subst (λ (b : Mailbox). KnowsMail b past.task step) (box_same opening session events opened) knows
+
+pub loads_ready : (opening : World) (session : ℕ) (events : List Event) (s : SessionState) (step : Mailing) → IsOpened opening.now session → slice_get (run opening events).now.sessions session ≡ Some s → session_mailing s ≡ Some step
+    → loads_word step ≡ true → (mailbox_of (run opening events).now.words session).state ≡ mail_ready
+loads_ready opening session events s step opened found under_way loads =
+    ready_at (mailbox_of (run opening events).now.words session) (mail_past opening session events).task step loads (knows_mail opening session events s step opened found under_way)
+
+pub has_loaded : (opening : World) (session : ℕ) (events : List Event) (s : SessionState) (step : Mailing) → IsOpened opening.now session → slice_get (run opening events).now.sessions session ≡ Some s → session_mailing s ≡ Some step
+    → HasLoaded (mailbox_of (run opening events).now.words session) step
+has_loaded opening session events s step opened found under_way =
+    loaded_at (mailbox_of (run opening events).now.words session) (mail_past opening session events).task step (knows_mail opening session events s step opened found under_way)
 
 -- ---- what was served last was asked for last
 record IsServedLast (its : MailRecord) (notes : List MailNote) : Type 0 where
@@ -86,12 +107,12 @@ ready_served b notes ready (inl stands) = let empty = stands.0 in absurd (omega 
 ready_served b notes ready (inr (inl stands)) = let asked = stands.0 in absurd (omega (arith, ready, asked))
 ready_served b notes ready (inr (inr stands)) = stands.1
 
--- so the record of a mailbox that is ready was served last, and it is what the device gave since it was asked for
+-- so the record of a mailbox that is ready was served last, and it was given since it was asked for
 pub record HasReady (opening : World) (session : ℕ) (events : List Event) (its : MailRecord) : Type 0 where
   pub addr : Addr
   pub before : List MailNote
   pub notes : mail_notes opening session events ≡ WasServed addr its ∷ HasAskedFor addr ∷ before
-  pub read : ReadSince opening session events addr its (HasAskedFor addr ∷ before)
+  pub given : GivenSince opening session events addr its (HasAskedFor addr ∷ before)
 
 pub ready_read : (opening : World) (session : ℕ) (events : List Event) → IsOpened opening.now session → (mailbox_of (run opening events).now.words session).state ≡ mail_ready
     → HasReady opening session events (record_in (mailbox_of (run opening events).now.words session))
@@ -104,4 +125,4 @@ ready_read opening session events opened ready =
     ready_served (mailbox_of n.words session) past.notes ready (subst (λ (b : Mailbox). Stands b past.notes) (box_same opening session events opened) sound.kept.stands) in
     let last = served_last (record_in (mailbox_of n.words session)) past.notes served sound.kept.turns in
     let all : AllRead opening session events (WasServed last.addr (record_in (mailbox_of n.words session)) ∷ HasAskedFor last.addr ∷ last.before) = subst (AllRead opening session events) last.form (life_read opening session opened events).all in
-    record { addr = last.addr; before = last.before; notes = last.form; read = all.0 }
+    record { addr = last.addr; before = last.before; notes = last.form; given = all.0 }

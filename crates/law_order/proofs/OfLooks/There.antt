@@ -21,8 +21,8 @@ use Rattle.law_commit.specs.Below.law_local.Sessions.Known.{is_attempting}
 use Rattle.law_commit.specs.Below.law_local.Tries.AttemptRows.{AttemptKnows, AttemptRow}
 use Rattle.law_commit.specs.Below.law_local.Tries.HeldRows.{SoughtKnows}
 use Rattle.law_commit.specs.Below.law_local.Tries.MailRows.{PutsSought}
-use Rattle.law_commit.specs.Below.law_local.Tries.OnWay.{ComesBelow}
-use Rattle.law_commit.specs.Below.law_local.Tries.TryRows.{head_in, key_in}
+use Rattle.law_commit.specs.Below.law_local.Tries.Floors.{ComesLive}
+use Rattle.law_commit.specs.Below.law_local.Tries.TryRows.{floor_in, head_in, key_in}
 use Rattle.law_commit.specs.Below.fkv_world.Runs.{World, run}
 use Rattle.law_commit.specs.Below.fkv_world.World.{Event}
 use Rattle.law_order.specs.Known.Begins.{BegunLife, home_of_world}
@@ -99,7 +99,9 @@ module _ (life : BegunLife) where
       let log : Log = log_behind events in
       let key : ℕ = key_in s.attempt.pending.request in
       let knows : AttemptKnows home log s.attempt = (known_now life.opening life.ghosts events known session s found).attempted attempts in
-      let comes : ComesBelow home log key (entry_addr it.entry) it.addr.0 (head_in s.attempt.seen) = subst (SoughtKnows home log key (head_in s.attempt.seen)) sought knows.pending.sought in
+      let floor : ℕ = floor_in s.attempt.pending.request in
+      let sought_so : ComesLive home log floor key (entry_addr it.entry) it.addr.0 (head_in s.attempt.seen) = subst (SoughtKnows home log floor key (head_in s.attempt.seen)) sought knows.pending.sought in
+      let comes = sought_so.comes in
       let held = run_held home life.map life.number life.ghosts (mapped life.opening events) life.begins.log enabled in
       let its = in_chain home log (home key) it.addr.0 held.chains comes.some comes.way.within in
       let head : s.seen.offsets.head.0 ≤ (levels_of (run life.opening events).now.words).flushed = head_flushed life.opening life.start events session s life.begins.store.now found (attempting_is s.step attempts) in

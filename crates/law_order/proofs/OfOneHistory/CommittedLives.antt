@@ -17,7 +17,7 @@ use Rattle.law_order.specs.Tickets.Few.{HasFewCalls}
 use Rattle.law_order.proofs.OfOneHistory.CommittedRun.{IsComputed, computed}
 use Rattle.law_order.proofs.OfOneHistory.CommittedWorld.{committed_opens, new_keeper}
 use Rattle.law_order.proofs.OfOneHistory.NewLives.{AreNew, HaveWorlds}
-use Rattle.law_order.proofs.OfOneHistory.WorkedLives.{OrderLaw, adds_fit, gives_fit, has_session, ordered_life}
+use Rattle.law_order.proofs.OfOneHistory.WorkedLives.{OrderLaw, adds_fit, gives_fit, has_floor, has_session, ordered_life}
 use Rattle.law_order.proofs.OfOneHistory.WorkedShape.{shape}
 use Rattle.law_order.proofs.OfOneHistory.WorkedWorld.{worked_now}
 
@@ -69,7 +69,7 @@ committed_life worlds created opened holds law =
     let opens : IsOpeningWorld o n = (worlds o).1 in
     let s : SessionState = has_session o n new opens in
     let its : Life = record { bytes = bytes; opened = o; world = worked_now (new_keeper n.keeper) s s; events = committed_events } in
-    let life : IsLife its = record { store = (holds bytes shape o made).1 new; begins = committed_opens o new n s s opens; fits = committed_fit.all; few = few } in
+    let life : IsLife its = record { store = (holds bytes shape o made).1 new; begins = committed_opens o new n s s (has_floor o n new opens) (has_floor o n new opens) opens; fits = committed_fit.all; few = few } in
     let is : IsComputed n.keeper s s bytes = computed n.keeper s s bytes in
     record {
       its = its;
@@ -93,6 +93,6 @@ crashed_life worlds created opened holds =
     let opens : IsOpeningWorld o n = (worlds o).1 in
     let s : SessionState = has_session o n new opens in
     let its : Life = record { bytes = bytes; opened = o; world = worked_now (new_keeper n.keeper) s s; events = crashed_events } in
-    let life : IsLife its = record { store = (holds bytes shape o made).1 new; begins = committed_opens o new n s s opens; fits = crashed_fit.all; few = few_then } in
+    let life : IsLife its = record { store = (holds bytes shape o made).1 new; begins = committed_opens o new n s s (has_floor o n new opens) (has_floor o n new opens) opens; fits = crashed_fit.all; few = few_then } in
     let is : IsComputed n.keeper s s bytes = computed n.keeper s s bytes in
     record { its = its; shape = shape; is_new = record { life = life; created = made; store = new }; events = refl; begun = is.begun; effects = is.effects_then }

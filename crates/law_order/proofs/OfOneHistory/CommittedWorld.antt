@@ -26,7 +26,7 @@ abbrev pub new_checkpoint : Checkpoint
 new_checkpoint = record { number = record { 0 = 0 }; first = record { 0 = 1 }; triples = 0; area = First }
 
 abbrev pub new_finality : Finality
-new_finality = record { number = record { 0 = 0 }; points = record { 0 = 0 } ∷ record { 0 = 0 } ∷ []; checkpoint = new_checkpoint; gates = (true, false) }
+new_finality = record { number = record { 0 = 0 }; begin = record { 0 = 1 }; points = record { 0 = 0 } ∷ record { 0 = 0 } ∷ []; checkpoint = new_checkpoint; gates = (true, false) }
 
 abbrev pub new_keeper : KeeperState → KeeperState
 new_keeper k = record k {
@@ -85,24 +85,28 @@ module _ (o : Opened) (new : IsNewStore shape o) where
   points_are = same_serials o.points.items (record { 0 = 0 } ∷ record { 0 = 0 } ∷ []) new.points
 
   finality_is : newest_commit o ≡ new_finality
-  finality_is = λ i. record { number = number i; points = points_are i; checkpoint = checkpoint_is i; gates = (new.gate_0 i, new.gate_1 i) }
+  finality_is = λ i. record { number = number i; begin = begin i; points = points_are i; checkpoint = checkpoint_is i; gates = (new.gate_0 i, new.gate_1 i) }
     where
       number : o.number ≡ record { 0 = 0 }
       number = version_is o.number (record { 0 = 0 }) new.number
+
+      begin : o.begin ≡ record { 0 = 1 }
+      begin = addr_is o.begin (record { 0 = 1 }) new.begin
 
   two_sessions : 2 ≡ o.shape.sessions
   unfolding shape
   two_sessions = ap (λ (s : Shape). s.sessions) (sym new.its_shape)
 
-  keeper_opens : (n : Now) (one other : SessionState) → IsOpeningWorld o n → IsNewKeeper o.shape (newest_commit o) o.lost.items (record { shape = shape; places = places; state = new_keeper n.keeper })
+  keeper_opens : (n : Now) (one other : SessionState) → one.floor ≡ o.begin → other.floor ≡ o.begin → IsOpeningWorld o n → IsNewKeeper o.shape (newest_commit o) o.lost.items (record { shape = shape; places = places; state = new_keeper n.keeper })
   unfolding worked_now
-  keeper_opens n one other its =
+  keeper_opens n one other floor second its =
       let was = its.its_keeper in
-      let there = (world_opens o new n one other its).its_keeper in
+      let there = (world_opens o new n one other floor second its).its_keeper in
       record {
         its_shape = there.its_shape;
         its_places = there.its_places;
         newest = sym finality_is;
+        serves_from = was.serves_from;
         used = sym checkpoint_is;
         class = its_class o new;
         in_hand = sym new.lost;
@@ -121,10 +125,10 @@ module _ (o : Opened) (new : IsNewStore shape o) where
         none_rest = refl;
       }
 
-  pub committed_opens : (n : Now) (one other : SessionState) → IsOpeningWorld o n → IsOpeningWorld o (worked_now (new_keeper n.keeper) one other)
+  pub committed_opens : (n : Now) (one other : SessionState) → one.floor ≡ o.begin → other.floor ≡ o.begin → IsOpeningWorld o n → IsOpeningWorld o (worked_now (new_keeper n.keeper) one other)
   unfolding worked_now
-  committed_opens n one other its =
-      let there = world_opens o new n one other its in
+  committed_opens n one other floor second its =
+      let there = world_opens o new n one other floor second its in
       record {
         its_shape = there.its_shape;
         its_places = there.its_places;
@@ -132,6 +136,6 @@ module _ (o : Opened) (new : IsNewStore shape o) where
         no_actions = there.no_actions;
         seats = there.seats;
         its_sessions = there.its_sessions;
-        its_keeper = keeper_opens n one other its;
+        its_keeper = keeper_opens n one other floor second its;
         goes_on = refl;
       }

@@ -63,7 +63,11 @@ some_session [] some = absurd (omega (arith, some))
 some_session (s ∷ sessions) some = s
 
 pub has_session : (o : Opened) (n : Now) → IsNewStore shape o → IsOpeningWorld o n → SessionState
-has_session o n new its = some_session n.sessions (omega (arith, its.seats, o.shape.limits.some_session))
+has_session o n new its = record (some_session n.sessions (omega (arith, its.seats, o.shape.limits.some_session))) { floor = o.begin }
+
+pub has_floor : (o : Opened) (n : Now) (new : IsNewStore shape o) (its : IsOpeningWorld o n) → (has_session o n new its).floor ≡ o.begin
+unfolding has_session
+has_floor o n new its = refl
 
 as_worked : (its : Life) → IsLife its → IsCreated shape its.bytes → IsNewStore shape its.opened → (k : KeeperState) (s : SessionState) → its.world ≡ worked_now (resting_keeper k) s s → BeginsAsWorked its
 unfolding worked_now
@@ -89,7 +93,7 @@ worked_life worlds created opened holds law =
     let s : SessionState = has_session o n new opens in
     let keeper : KeeperState = resting_keeper n.keeper in
     let its : Life = record { bytes = bytes; opened = o; world = worked_now keeper s s; events = worked_events } in
-    let life : IsLife its = record { store = (holds bytes shape o made).1 new; begins = world_opens o new n s s opens; fits = fits; few = few } in
+    let life : IsLife its = record { store = (holds bytes shape o made).1 new; begins = world_opens o new n s s (has_floor o n new opens) (has_floor o n new opens) opens; fits = fits; few = few } in
     record {
       its = its;
       begins = as_worked its life made new n.keeper s refl;

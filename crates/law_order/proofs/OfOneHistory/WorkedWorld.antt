@@ -14,7 +14,7 @@ use Rattle.fkv_record.specs.Points.{serial_numbers}
 use Rattle.fkv_entries.specs.declared.home_entries.HomeEntry.{HomeEntry}
 use Rattle.fkv_entries.specs.Room.{bucket_words}
 use Rattle.law_opening.specs.Below.fkv_filling.Filled.{AreByTag, IsFilled, all_needed, filled_by, link_words, links_behind}
-use Rattle.law_commit.specs.Below.fkv_keeper.Keeping.{KeeperState}
+use Rattle.law_commit.specs.Below.fkv_keeper.Keeping.{Finality, KeeperState}
 use Rattle.law_commit.specs.Below.fkv_keeper.NewKeepers.{ArePlacesOfStore, IsNewKeeper}
 use Rattle.law_opening.specs.Below.fkv_opening.Opening.{opening_limit, point_of}
 use Rattle.law_opening.specs.Below.fkv_opening.TheOpened.{Opened}
@@ -128,18 +128,19 @@ module _ (o : Opened) (new : IsNewStore shape o) where
   its_words : AreWordsOfOpened o first_words
   its_words = record { index = replicate 8 0; taken = 0; filled = is_filled; whole = words_are }
 
-  session_opens : (its : SessionState) (number : ℕ) → IsOpeningSession o number (first_session its)
+  session_opens : (its : SessionState) (number : ℕ) → its.floor ≡ o.begin → IsOpeningSession o number (first_session its)
   unfolding addr_at
-  session_opens its number = record {
+  session_opens its number floor = record {
     opened = record { awake = refl; none_wait = refl; no_ticket = refl; no_orphan = refl; no_spare = refl; no_asks = refl; no_effect = refl; none_finished = refl; none_in_hand = refl; serial_fits = omega arith };
     serial = sym (point number);
+    floor = floor;
     saw = record { phase = refl; version = omega (arith, new.number); head = one_addr o.warm warm; read_only = one_addr o.tail new.tail };
   }
 
-  sessions_open : (one other : SessionState) (number : ℕ) (s : SessionState) → slice_get (first_session one ∷ first_session other ∷ []) number ≡ Some s → IsOpeningSession o number s
-  sessions_open one other zero s found = let same : first_session one ≡ s = cc in subst (λ (its : SessionState). IsOpeningSession o 0 its) same (session_opens one 0)
-  sessions_open one other (suc zero) s found = let same : first_session other ≡ s = cc in subst (λ (its : SessionState). IsOpeningSession o 1 its) same (session_opens other 1)
-  sessions_open one other (suc (suc more)) s found = absurd (cc)
+  sessions_open : (one other : SessionState) (number : ℕ) (s : SessionState) → one.floor ≡ o.begin → other.floor ≡ o.begin → slice_get (first_session one ∷ first_session other ∷ []) number ≡ Some s → IsOpeningSession o number s
+  sessions_open one other zero s floor second found = let same : first_session one ≡ s = cc in subst (λ (its : SessionState). IsOpeningSession o 0 its) same (session_opens one 0 floor)
+  sessions_open one other (suc zero) s floor second found = let same : first_session other ≡ s = cc in subst (λ (its : SessionState). IsOpeningSession o 1 its) same (session_opens other 1 second)
+  sessions_open one other (suc (suc more)) s floor second found = absurd (cc)
 
   pub its_class : Specified ≡ o.shape.class
   unfolding shape
@@ -152,13 +153,14 @@ module _ (o : Opened) (new : IsNewStore shape o) where
         its_shape = sym new.its_shape;
         its_places = subst (λ (s : Shape). ArePlacesOfStore s places) (sym new.its_shape) places_fit;
         newest = was.newest;
+        serves_from = ap (λ (last : Finality). last.begin) was.newest;
         used = was.used;
         class = its_class;
         in_hand = sym new.lost;
         its_sessions = was.its_sessions;
         sought = was.sought;
         no_call = refl;
-        turns_rest = was.turns_rest;
+        turns_rest = refl;
         no_commit = refl;
         no_copy = was.no_copy;
         not_entered = was.not_entered;
@@ -170,15 +172,15 @@ module _ (o : Opened) (new : IsNewStore shape o) where
         none_rest = refl;
       }
 
-  pub world_opens : (n : Now) (one other : SessionState) → IsOpeningWorld o n → IsOpeningWorld o (worked_now (resting_keeper n.keeper) one other)
+  pub world_opens : (n : Now) (one other : SessionState) → one.floor ≡ o.begin → other.floor ≡ o.begin → IsOpeningWorld o n → IsOpeningWorld o (worked_now (resting_keeper n.keeper) one other)
   unfolding worked_now shape
-  world_opens n one other its = record {
+  world_opens n one other floor second its = record {
     its_shape = sym new.its_shape;
     its_places = subst (λ (s : Shape). ArePlacesOfStore s places) (sym new.its_shape) places_fit;
     its_words = its_words;
     no_actions = refl;
     seats = seats;
-    its_sessions = sessions_open one other;
+    its_sessions = λ number s found. sessions_open one other number s floor second found;
     its_keeper = keeper_opens n its;
     goes_on = refl;
   }

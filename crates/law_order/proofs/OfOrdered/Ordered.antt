@@ -6,16 +6,19 @@ use Rattle.law_commit.specs.Below.fkv_world.Runs.{World, run}
 use Rattle.law_commit.specs.Below.fkv_world.World.{Event}
 use Rattle.law_commit.specs.Below.law_refine.Calls.Calls.{event_adds}
 use Rattle.law_order.specs.Known.Answered.{EachAnswered, acted_ghosts}
-use Rattle.law_order.specs.Known.Begins.{BegunLife, home_of_world}
+use Rattle.law_order.specs.Known.Begins.{BegunLife, begin_in, home_of_world}
+use Rattle.law_order.specs.Known.Floors.{AttemptsGoFrom}
 use Rattle.law_order.specs.Known.Knows.{AllKnowBehind, AreKnown}
 use Rattle.law_order.specs.Known.Told.{AreToldTruly, TicketsAreApart}
 use Rattle.law_order.proofs.OfKnown.Begun.{begun_known}
 use Rattle.law_commit.specs.Below.law_refine.Events.GhostEvents.{life_ghosts, mapped}
-use Rattle.law_order.proofs.OfLooks.Truth.{looks_true}
+use Rattle.law_order.proofs.OfLooks.Looks.{NoneGone}
+use Rattle.law_order.proofs.OfLooks.Truth.{looks_true, takes_there, tells_upto}
 use Rattle.law_order.proofs.OfEnabled.Changes.{changes_published}
 use Rattle.law_order.proofs.OfEnabled.Own.{own_enabled}
 use Rattle.law_order.proofs.OfReads.LifeReads.{answers_enabled, reads_begin_so, reads_go_on}
 use Rattle.law_commit.specs.Below.law_refine.Records.Changes.{AreChangesPublished}
+use Rattle.law_commit.specs.Below.law_refine.Seen.Floors.{TellsUpto}
 use Rattle.law_order.specs.Apart.Given.{Given}
 use Rattle.law_order.specs.Apart.Lives.{NoneHasShifted, OpensApart}
 use Rattle.law_order.proofs.OfApart.Begins.{begins_apart}
@@ -28,11 +31,12 @@ use Rattle.law_order.specs.Served.Fits.{CallsFit, CellsFit}
 use Rattle.law_order.specs.Served.Served.{ServedShow}
 use Rattle.law_opening.proofs.OfChanges.OfDevice.There.{CallsLaw}
 use Rattle.law_opening.proofs.OfChanges.OfDevice.Words.{WordsLaw}
-use Rattle.law_order.proofs.OfServed.Served.{served_show}
+use Rattle.law_order.proofs.OfServed.Served.{attempts_go, served_show}
 use Rattle.law_order.proofs.OfTold.Enabled.{lines_enabled, mapped_crashed}
 use Rattle.law_order.proofs.OfTruth.Truth.{words_true}
 use Rattle.law_order.specs.Ordered.Keeps.{KeepsOrder}
 use Rattle.law_order.specs.Ordered.Met.{AllReadsSeek, MeetsItsReads, PollsTryNoRead}
+use Rattle.law_order.proofs.OfOrdered.Floors.{begins_first, begins_then}
 use Rattle.law_order.proofs.OfOrdered.Met.{reads_met}
 use Rattle.law_order.proofs.OfOrdered.Seeking.{AllSeekSo, seeking_all, seeking_first, seeking_polls, seeking_then}
 
@@ -45,6 +49,7 @@ begins_ordered life = record {
   known = begun_known life;
   reads = reads_begin_so life;
   apart = begins_apart life;
+  begin = begins_first life;
 }
 
 -- ---- what is known at each moment so far, and at the next one
@@ -61,12 +66,19 @@ module _ (calls : CallsLaw) (words : WordsLaw) (given : Given) (life : BegunLife
   abbrev H : ℕ → ℕ
   H = home_of_world life.opening
 
+  served : (before : List Event) → CallsFit before → KeepsOrder life.opening life.ghosts before → ServedShow life.opening life.ghosts before
+  served before fits its = served_show calls words life before cells fits its.enabled its.published
+
+  go : (before : List Event) → CallsFit before → AttemptsGoFrom (begin_in life.opening) (run life.opening before).now
+  go before fits = attempts_go calls words life before cells fits
+
   -- What the words of the store tell sessions is true: so is what they load from their mailboxes, which the device has given as the log has it.
   told_truly : (before : List Event) → CallsFit before → KeepsOrder life.opening life.ghosts before → AreToldTruly H (life_ghosts life.opening life.ghosts before).log (run life.opening before).now
-  told_truly before fits its =
-      let served : ServedShow life.opening life.ghosts before = served_show calls words life before cells fits its.enabled its.published in
-      words_true life before its.enabled its.published its.known
-      (looks_true life before its.enabled its.published its.known served)
+  told_truly before fits its = words_true life before its.enabled its.published its.known (looks_true life before its.enabled its.known (go before fits) (served before fits its))
+
+  -- who is told a begin there is told none above it
+  told_upto : (before : List Event) → CallsFit before → KeepsOrder life.opening life.ghosts before → TellsUpto (begin_in (run life.opening before)) (run life.opening before).now
+  told_upto before fits its = tells_upto life before its.enabled its.known (go before fits) (served before fits its)
 
   -- All that the event is to the log is enabled: what its session does there, and the lines that it tells. After a crash it is nothing.
   event_enabled : (before : List Event) (event : Event) → TicketsAreApart life.opening (event ∷ before) → KeepsOrder life.opening life.ghosts before
@@ -75,7 +87,7 @@ module _ (calls : CallsLaw) (words : WordsLaw) (given : Given) (life : BegunLife
   event_enabled before event apart its truly published = by_crash (run life.opening before).now.crashed refl
     where
       answered : EachAnswered H (acted_ghosts life.opening life.ghosts before event) (event_adds life.opening before event)
-      answered = answers_enabled life before event its.enabled its.known apart truly its.reads
+      answered = answers_enabled life before event its.enabled its.known its.begin apart truly its.reads
 
       by_crash : (crashed : Bool) → (run life.opening before).now.crashed ≡ crashed → AreEnabled H life.ghosts (mapped life.opening (event ∷ before))
       by_crash true over = subst (AreEnabled H life.ghosts) (sym (mapped_crashed life.opening before event over)) its.enabled
@@ -99,9 +111,10 @@ module _ (calls : CallsLaw) (words : WordsLaw) (given : Given) (life : BegunLife
       record {
         enabled = enabled;
         published = published;
-        known = known_on life.opening life.ghosts before event its.known (rows_go_on life before event given opens its.apart enabled its.known truly);
-        reads = reads_go_on life before event its.enabled its.known apart truly its.reads enabled;
-        apart = apart_goes_on given life opens before event enabled (λ session s found. known_now life.opening life.ghosts before its.known session s found) truly none its.apart;
+        known = known_on life.opening life.ghosts before event its.known (rows_go_on life before event given opens its.apart its.begin enabled its.known truly);
+        reads = reads_go_on life before event its.enabled its.known its.begin apart truly its.reads enabled;
+        apart = apart_goes_on given life opens before event enabled (λ session s found. known_now life.opening life.ghosts before its.known session s found) truly none its.apart its.begin;
+        begin = begins_then life before event enabled (told_upto before fits.1 its) its.begin;
       }
 
   goes_on : (before : List Event) (event : Event) → CallsFit (event ∷ before) → TicketsAreApart life.opening (event ∷ before) → Going before → Going (event ∷ before)
@@ -134,7 +147,9 @@ module _ (calls : CallsLaw) (words : WordsLaw) (given : Given) (life : BegunLife
   seek_through [] fits apart = seeking_first life
   seek_through (event ∷ before) fits apart =
       let earlier : TicketsAreApart life.opening before = apart_before life.opening before event apart in
-      seeking_then life before event (life_meets before fits.1 earlier) (seek_through before fits.1 earlier)
+      let its : KeepsOrder life.opening life.ghosts before = life_goes before fits.1 earlier in
+      let none : NoneGone (run life.opening before).now = takes_there life before its.enabled its.known (go before fits.1) (served before fits.1 its) in
+      seeking_then life before event (life_meets before fits.1 earlier) none (seek_through before fits.1 earlier)
 
   pub life_seek : (events : List Event) → CallsFit events → TicketsAreApart life.opening events → AllReadsSeek life.opening events
   life_seek events fits apart = seeking_all life.opening events (seek_through events fits apart)

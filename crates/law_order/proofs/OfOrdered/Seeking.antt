@@ -8,9 +8,11 @@ use Rattle.law_commit.specs.Below.fkv_ops.Occasion.{Occasion}
 use Rattle.law_commit.specs.Below.fkv_ops.Occasion.TheVariants.{Call as AtCall, Poll as AtPoll}
 use Rattle.law_commit.specs.Below.fkv_ops.Bounds.{bounds_of}
 use Rattle.law_commit.specs.Below.fkv_ops.Seen.{Seen}
-use Rattle.law_commit.specs.Below.fkv_pending.TheAttempting.TheVariants.{Tries}
+use Rattle.fkv_epoch.proofs.Shown.{some_same}
+use Rattle.law_commit.specs.Below.fkv_pending.TheAttempting.TheVariants.{Looks, Tries}
 use Rattle.law_commit.specs.Below.fkv_pending.PendingRequest.{PendingRequest}
 use Rattle.law_commit.specs.Below.fkv_pending.Attempting.{AttemptState, attempt_ask, attempt_begun, is_poll}
+use Rattle.law_commit.specs.Below.fkv_pending.Mailing.{mail_ask, mail_next}
 use Rattle.law_commit.specs.Below.fkv_pending.Pending.{with_latch}
 use Rattle.law_commit.proofs.Below.fkv_pending.Shown.{AttemptRestsOrAsks, attempt_begun_rests, attempt_rests}
 use Rattle.fkv_plane.specs.declared.asks.Ask.TheVariants.{Done}
@@ -19,6 +21,7 @@ use Rattle.law_commit.proofs.Below.fkv_session.Shown.{attempt_ends}
 use Rattle.law_commit.specs.Below.fkv_world.Moves.{Near, session_moved}
 use Rattle.law_commit.specs.Below.fkv_world.Runs.{World, run}
 use Rattle.law_commit.specs.Below.fkv_world.World.{Event, Now, near, seat_at}
+use Rattle.law_commit.proofs.Below.fkv_world.Shown.{is_over}
 use Rattle.law_commit.specs.Below.fkv_ops.Requests.{is_read}
 use Rattle.law_commit.specs.Below.law_local.Sessions.Inputs.{AttemptsBy, IsAttemptInPoll}
 use Rattle.law_commit.specs.Below.law_local.Sessions.Known.{KnowsRequests, attempt_after, catch_after, caught_up_at, is_accepted, is_attempting, with_op}
@@ -29,7 +32,9 @@ use Rattle.law_order.specs.Known.Begins.{BegunLife}
 use Rattle.law_order.specs.Known.Told.{reply_in}
 use Rattle.law_order.specs.Ordered.Met.{AllReadsSeek, MeetsItsReads, PollsTryNoRead, SeeksOne}
 use Rattle.law_order.specs.Rows.Asked.{SeeksWhereAsked}
-use Rattle.law_order.proofs.OfOrdered.Waits.{MeetsTry, SeeksBy, Waits, WaitsRow, attempt_begun_waits, attempt_waits}
+use Rattle.law_order.proofs.OfOrdered.Waits.{LooksThere, MeetsTry, SeeksBy, Waits, WaitsRow, attempt_begun_waits, attempt_waits}
+use Rattle.law_order.proofs.OfLooks.Looks.{NoneGone, look_asks}
+use Rattle.law_order.proofs.OfLooks.Ready.{look_mailing}
 use Rattle.law_order.proofs.OfRows.Asks.{anew_seeks}
 use Rattle.law_opening.proofs.OfChanges.OfSessions.Attempting.{life_attempts}
 use Rattle.law_commit.proofs.Below.law_refine.OfSeen.Alone.{moves_alone}
@@ -67,12 +72,13 @@ comes_one k a its comes so = subst (WaitsRow a) (attempt_ends k.places k.number 
 begun_so : (k : Seat) (pending : PendingRequest) (seen : Seen) (occasion : Occasion) (spare : ℕ) (is_orphaned : Bool) → SeeksWhereAsked pending → (is_poll occasion ≡ true → SeeksOne pending) → WaitsSo (attempt_begun k.places (bits_of k) pending seen occasion spare is_orphaned)
 begun_so k pending seen occasion spare is_orphaned asked one = (attempt_begun_rests k.places (bits_of k) pending seen occasion spare is_orphaned, attempt_begun_waits k.places (bits_of k) pending seen occasion spare is_orphaned asked one)
 
-next_so : (k : Seat) (s : SessionState) (reply : ℕ) → (is_attempting s.step ≡ true → s.attempt.step ≡ Tries → MeetsTry k.places (room_of k) s.attempt reply) → AllSo s → AllSo (session_next k s reply)
-next_so k s reply met all =
+next_so : (k : Seat) (s : SessionState) (reply : ℕ) → (is_attempting s.step ≡ true → s.attempt.step ≡ Tries → MeetsTry k.places (room_of k) s.attempt reply)
+    → (is_attempting s.step ≡ true → s.attempt.step ≡ Looks → LooksThere k.number s.attempt reply) → AllSo s → AllSo (session_next k s reply)
+next_so k s reply met there all =
     next_known SeeksOne SeeksOne WaitsSo WaitsSo k s reply all
     (record {
       waits = λ pending its. its;
-      attempts = λ attempting its. (attempt_rests k.places (bits_of k) (room_of k) k.number s.attempt reply its.0, attempt_waits k.places (bits_of k) (room_of k) k.number s.attempt reply its.0 (met attempting) its.1);
+      attempts = λ attempting its. (attempt_rests k.places (bits_of k) (room_of k) k.number s.attempt reply its.0, attempt_waits k.places (bits_of k) (room_of k) k.number s.attempt reply its.0 (met attempting) (there attempting) its.1);
       accepts = λ has_shifted its at comes accepted after. accepted_one (attempt_after k s reply).pending has_shifted its accepted (comes_one k (attempt_after k s reply) its comes after);
       keeps = λ index its at comes waits after. kept_one (attempt_after k s reply).pending its waits (comes_one k (attempt_after k s reply) its comes after);
       hands_over = λ polling pending spare is_orphaned seeks. begun_so k pending s.seen AtPoll spare is_orphaned (λ read asked. seeks read) (λ poll. seeks);
@@ -113,7 +119,7 @@ seeking_polls life events all session s index found at tries = by_read (is_read 
     by_read true e = absurd (row.1 (ap is_poll in_poll.goes.its_occasion) e)
     by_read false e = refl
 
-module _ (life : BegunLife) (before : List Event) (event : Event) (met : MeetsItsReads life.opening before) (all : AllSeekSo life.opening before) where
+module _ (life : BegunLife) (before : List Event) (event : Event) (met : MeetsItsReads life.opening before) (none : NoneGone (run life.opening before).now) (all : AllSeekSo life.opening before) where
   abbrev W : World
   W = run life.opening before
 
@@ -124,21 +130,35 @@ module _ (life : BegunLife) (before : List Event) (event : Event) (met : MeetsIt
     abbrev K : Seat
     K = seat_at N session
 
-    moved : after ≡ (session_moved K (near N s)).machine → (calm : Bool) → is_calm s.step ≡ calm → AllSo after
-    moved is true e = subst AllSo (sym is) (calm_known SeeksOne WaitsSo K (near N s) e (all session s was))
-    moved is false e =
+    -- nobody is told that a record is gone
+    there : N.crashed ≡ false → is_attempting s.step ≡ true → s.attempt.step ≡ Looks → LooksThere session s.attempt (reply_in N session s)
+    there alive attempting looks its takes = none alive session its (record {
+      taker = s;
+      there = was;
+      step = s.attempt.mailing;
+      under_way = look_mailing s s.step attempting looks;
+      takes = ap (λ (reply : ℕ). mail_ask session (mail_next s.attempt.mailing reply)) (sym (look_asks N session s attempting looks)) ∙ takes;
+    })
+
+    moved : N.crashed ≡ false → after ≡ (session_moved K (near N s)).machine → (calm : Bool) → is_calm s.step ≡ calm → AllSo after
+    moved alive is true e = subst AllSo (sym is) (calm_known SeeksOne WaitsSo K (near N s) e (all session s was))
+    moved alive is false e =
         let busy = not_calm s.step e in
         subst AllSo (sym (is ∙ ap (λ (x : Near SessionState). x.machine) (moves_alone life.opening life.start before session s life.begins.store.now was busy.0 busy.1)))
-        (next_so K s (reply_in N session s) (λ attempting tries its ends read. met session s its was attempting tries read ends) (all session s was))
+        (next_so K s (reply_in N session s) (λ attempting tries its ends read. met session s its was attempting tries read ends) (there alive) (all session s was))
 
-    comes : SessionComes W session s after → AllSo after
-    comes (Stays is) = subst AllSo (sym is) (all session s was)
-    comes (Begins its idle is) = subst AllSo (sym is) (call_so K s its idle (all session s was))
-    comes (Steps is) = moved is (is_calm s.step) refl
+    comes : N.crashed ≡ false → SessionComes W session s after → AllSo after
+    comes alive (Stays is) = subst AllSo (sym is) (all session s was)
+    comes alive (Begins its idle is) = subst AllSo (sym is) (call_so K s its idle (all session s was))
+    comes alive (Steps is) = moved alive is (is_calm s.step) refl
 
     goes : AllSo after
     unfolding run
-    goes = comes (session_comes W event session s after was is_now)
+    goes = by_crash N.crashed refl
+      where
+        by_crash : (c : Bool) → N.crashed ≡ c → AllSo after
+        by_crash true over = subst AllSo (some_same s after (sym was ∙ (sym (ap (λ (x : World). slice_get x.now.sessions session) (is_over W event over)) ∙ is_now))) (all session s was)
+        by_crash false alive = comes alive (session_comes W event session s after was is_now)
 
   pub seeking_then : AllSeekSo life.opening (event ∷ before)
   unfolding run

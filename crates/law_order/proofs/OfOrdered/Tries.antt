@@ -27,8 +27,8 @@ use Rattle.law_commit.specs.Below.fkv_ops.WalkAnswer.TheVariants as walk
 use Rattle.law_commit.specs.Below.fkv_ops.TheWalking.{Walking}
 use Rattle.law_commit.specs.Below.fkv_ops.TheWalking.TheVariants.{Ended, Finds, HasFound, LoadsValue, Meets}
 use Rattle.law_commit.specs.Below.fkv_ops.HeaderWords.{header_said}
-use Rattle.law_commit.specs.Below.fkv_ops.Requests.{is_read}
-use Rattle.law_commit.specs.Below.fkv_ops.Trying.{TryState, answer_ledto, ends, has_walked, is_prepare, is_above, must_shift, told_value, try_ask, try_next, trying_ask, trying_next, walk_ledto, walked, is_next_marked, walks}
+use Rattle.law_commit.specs.Below.fkv_ops.Requests.{is_chain_end, is_read}
+use Rattle.law_commit.specs.Below.fkv_ops.Trying.{TryState, answer_ledto, awaits, ends, has_walked, is_prepare, is_above, must_shift, told_value, try_ask, try_next, trying_ask, trying_next, walk_ledto, walked, is_next_marked, walks}
 use Rattle.law_commit.specs.Below.fkv_ops.Values.{value_of}
 use Rattle.law_commit.specs.Below.fkv_ops.Walking.{WalkState, find_ledto, first_met, load_ledto, reached, record_met, slot_found, walk_ask, walk_next, walking_ask, walking_next}
 use Rattle.fkv_plane.specs.declared.asks.Ask.{Ask}
@@ -238,10 +238,17 @@ module _ (p : Places) where
   either_met true one other e met = met
   either_met false one other e met = cc
 
+  both_met : (b : Bool) (one other : TryState) → EndsMet one → EndsMet other → EndsMet (if b then one else other)
+  both_met true one other first second = first
+  both_met false one other first second = second
+
   walked_met : (t : TryState) (its : WalkAnswer) → is_read t.request.op ≡ true → t.has_shared ≡ false → t.has_exclusive ≡ false → IsWalkMet its → EndsMet (walked p t its)
   walked_met t (walk.Found addr version) reads shared alone met = either_met (is_read t.request.op) _ _ reads (λ its e. cc)
   walked_met t walk.Nowhere reads shared alone met = either_met (is_read t.request.op) _ _ reads (end_met t answer.Absent reads shared alone tt)
-  walked_met t (walk.OnDisk addr) reads shared alone met = either_met (is_read t.request.op) _ _ reads (end_met t (answer.AwaitsDisk (record { entry = t.walk.entry; addr = addr })) reads shared alone tt)
+  walked_met t (walk.OnDisk addr) reads shared alone met =
+      let end : Bool = is_chain_end t.request.floor addr in
+      either_met (is_read t.request.op) (if end then ends p t answer.Absent else awaits p t addr) _ reads
+      (both_met end (ends p t answer.Absent) (awaits p t addr) (end_met t answer.Absent reads shared alone tt) (end_met t (answer.AwaitsDisk (record { entry = t.walk.entry; addr = addr })) reads shared alone tt))
   walked_met t its reads shared alone met = absurd met
 
   -- a read doesn't shift

@@ -1,4 +1,4 @@
--- An attempt of a read that waits leaves it with a record that it seeks.
+-- An attempt of a read that waits leaves it with a record that it seeks, as long as it isn't told that this is gone.
 use Rattle.std.proofs.Common.{◌≡◌, ℕ, ◌∙◌, refl, sym, ap, subst, Bool, true, false}
 use Rattle.std.specs.Prelude.{◌==◌, ◌&&◌, ⊤, if◌then◌else◌, Option, Some, None}
 use Rattle.std.specs.Option.{is_some}
@@ -13,7 +13,7 @@ use Rattle.law_commit.specs.Below.fkv_ops.Seen.{Seen}
 use Rattle.law_commit.specs.Below.fkv_ops.TheTrying.{Trying}
 use Rattle.law_commit.specs.Below.fkv_ops.TheTrying.TheVariants as trying
 use Rattle.law_commit.specs.Below.fkv_ops.HeaderWords.{header_said}
-use Rattle.law_commit.specs.Below.fkv_ops.Requests.{is_read}
+use Rattle.law_commit.specs.Below.fkv_ops.Requests.{is_chain_end, is_read}
 use Rattle.law_commit.specs.Below.fkv_ops.Trying.{TryState, told_value, try_ask, try_next, trying_ask}
 use Rattle.law_commit.specs.Below.fkv_ops.Values.{value_of}
 use Rattle.law_commit.proofs.Below.fkv_ops.Shown.{TryRestsOrAsks, is_try_end, try_done, try_rests}
@@ -25,8 +25,8 @@ use Rattle.law_commit.specs.Below.fkv_pending.MailRecord.{MailRecord}
 use Rattle.law_commit.specs.Below.fkv_pending.MailTask.TheVariants.{Take}
 use Rattle.law_commit.specs.Below.fkv_pending.TheMailing.TheVariants.{LoadsState}
 use Rattle.law_commit.specs.Below.fkv_pending.PendingRequest.{PendingRequest}
-use Rattle.law_commit.specs.Below.fkv_pending.Attempting.{AttemptState, attempt_begun, attempt_ended, attempt_next, attempting_next, awaits_record, goes_on, held_kept, held_of, is_poll, is_seeking_read, look_ledto, moved_on, new_attempt, not_ready, put_ledto, puts, puts_addr, read_on, record_taken, tried, tries, try_ledto, waits_for_disk}
-use Rattle.law_commit.specs.Below.fkv_pending.Mailing.{mail_ask, mail_next}
+use Rattle.law_commit.specs.Below.fkv_pending.Attempting.{AttemptState, attempt_begun, attempt_ended, attempt_next, attempting_next, awaits_record, goes_anew, goes_on, held_kept, held_of, is_poll, is_seeking_read, look_ledto, mail_taken, moved_on, new_attempt, not_ready, put_ledto, puts, puts_addr, read_on, record_taken, tried, tries, try_ledto, waits_for_disk}
+use Rattle.law_commit.specs.Below.fkv_pending.Mailing.{begin_told, is_gone, mail_ask, mail_next}
 use Rattle.law_commit.specs.Below.fkv_pending.Pending.{with_asked, with_held, with_latch, with_sought}
 use Rattle.law_commit.proofs.Below.fkv_pending.Shown.{AttemptAsksAt, AttemptRestsOrAsks}
 use Rattle.fkv_plane.specs.declared.asks.Ask.{Ask}
@@ -95,14 +95,23 @@ unfolding with_sought
 read_waits a its Spoiled some = puts_waits a some
 read_waits a its (Says previous version) some =
     let on : AttemptState = record a { pending = with_sought a.pending (moved_on a.pending.sought previous) } in
-    either (its.key.0 == (key_of a.pending.request.op).0) (attempt_ended a (told_value (value_of its.value))) (if previous.0 == 0 then attempt_ended a answer.Absent else puts on) (λ e. told_waits a (value_of its.value))
-    (λ e. either (previous.0 == 0) (attempt_ended a answer.Absent) (puts on) (λ f. tt) (λ f. puts_waits on (moved_some a.pending.sought previous some)))
+    let ends : Bool = is_chain_end a.pending.request.floor previous in
+    either (its.key.0 == (key_of a.pending.request.op).0) (attempt_ended a (told_value (value_of its.value))) (if ends then attempt_ended a answer.Absent else puts on) (λ e. told_waits a (value_of its.value))
+    (λ e. either ends (attempt_ended a answer.Absent) (puts on) (λ f. tt) (λ f. puts_waits on (moved_some a.pending.sought previous some)))
 
 taken_waits : (p : Places) (bits : ℕ) (a : AttemptState) (its : MailRecord) (said : HeaderSaid) → SeeksWhereAsked a.pending → SeeksOne a.pending → Waits (record_taken p bits a its said)
 unfolding with_held
 taken_waits p bits a its said asked one =
     let holds : AttemptState = record a { pending = with_held a.pending (held_of a.pending.sought its said) } in
     either (is_seeking_read a) (read_on a its said) (tries p bits holds) (λ e. read_waits a its said (seeking (is_poll a.occasion) (is_read a.pending.request.op) (is_some a.pending.sought) e)) (λ e. (held_seeks a.pending (held_of a.pending.sought its said) asked, not_seeking (is_poll a.occasion) (is_read a.pending.request.op) (is_some a.pending.sought) e (λ poll read. one read)))
+
+not_both : {A : Type 0} (c : Bool) → c ≡ false → c ≡ true → A
+not_both c one other = cc
+
+mail_waits : (p : Places) (bits : ℕ) (a : AttemptState) (its : MailRecord) → is_gone its ≡ false → SeeksWhereAsked a.pending → SeeksOne a.pending → Waits (mail_taken p bits a its)
+mail_waits p bits a its there asked one =
+    either (is_gone its) (goes_anew p bits a (begin_told its)) (record_taken p bits a its (header_said its.header)) (λ gone. not_both (is_gone its) there gone)
+    (λ e. taken_waits p bits a its (header_said its.header) asked one)
 
 ready_waits : (p : Places) (bits : ℕ) (a : AttemptState) → SeeksWhereAsked a.pending → SeeksOne a.pending → Waits (not_ready p bits a)
 ready_waits p bits a asked one = either (is_seeking_read a) (waits_for_disk a) (tries p bits a) (λ e read. seeking (is_poll a.occasion) (is_read a.pending.request.op) (is_some a.pending.sought) e) (λ e. (asked, not_seeking (is_poll a.occasion) (is_read a.pending.request.op) (is_some a.pending.sought) e (λ poll read. one read)))
@@ -111,11 +120,15 @@ none_asked : (pending : PendingRequest) → SeeksWhereAsked (with_asked pending 
 unfolding with_asked
 none_asked pending = λ read asked. cc
 
-look_waits : (p : Places) (bits : ℕ) (a : AttemptState) (ask : Ask MailAnswer) → a.step ≡ Looks → SeeksWhereAsked a.pending × SeeksOne a.pending → Waits (look_ledto p bits a ask)
+-- none that is taken is gone
+abbrev pub TakesNoGone : Ask MailAnswer → Type 0
+TakesNoGone ask = (its : MailRecord) → ask ≡ Done (mail.Taken its) → is_gone its ≡ false
+
+look_waits : (p : Places) (bits : ℕ) (a : AttemptState) (ask : Ask MailAnswer) → a.step ≡ Looks → TakesNoGone ask → SeeksWhereAsked a.pending × SeeksOne a.pending → Waits (look_ledto p bits a ask)
 unfolding look_ledto with_asked
-look_waits p bits a (Done (mail.Taken its)) at asked = taken_waits p bits (record a { is_emptied = true; pending = with_asked a.pending false }) its (header_said its.header) (none_asked a.pending) asked.1
-look_waits p bits a (Done other) at asked = ready_waits p bits a asked.0 asked.1
-look_waits p bits a ask at asked = subst (WaitsRow a) (sym at) asked
+look_waits p bits a (Done (mail.Taken its)) at there asked = mail_waits p bits (record a { is_emptied = true; pending = with_asked a.pending false }) its (there its refl) (none_asked a.pending) asked.1
+look_waits p bits a (Done other) at there asked = ready_waits p bits a asked.0 asked.1
+look_waits p bits a ask at there asked = subst (WaitsRow a) (sym at) asked
 
 -- ---- the try
 awaits_waits : (a : AttemptState) (its : DiskRecord) → SeeksWhereAsked a.pending → Waits (awaits_record a its)
@@ -164,16 +177,20 @@ put_waits a ask at so = subst (WaitsRow a) (sym at) so
 abbrev pub MeetsTry : Places → ℕ → AttemptState → ℕ → Type 0
 MeetsTry p room a reply = (its : TryAnswer) → (try_next p room a.trial reply).step ≡ trying.Ended its → MetIfRead a.pending its
 
-row_waits : (p : Places) (bits room session : ℕ) (a : AttemptState) (step : Attempting) (reply : ℕ) → a.step ≡ step → AttemptAsksAt a step → (a.step ≡ Tries → MeetsTry p room a reply) → WaitsRow a step → Waits (attempting_next p bits room session (record a { effect = None }) step reply)
-unfolding attempting_next
-row_waits p bits room session a (Ended its) reply at rests met row = subst (WaitsRow (record a { effect = None })) (sym at) row
-row_waits p bits room session a Looks reply at rests met row = look_waits p bits (record a { effect = None; mailing = mail_next a.mailing reply }) (mail_ask session (mail_next a.mailing reply)) at row
-row_waits p bits room session a Tries reply at rests met row =
-    led_waits p (record a { effect = (try_next p room a.trial reply).effect; trial = try_next p room a.trial reply }) (try_ask p (try_next p room a.trial reply)) at refl (try_rests p room a.trial reply rests.0) (met at) row
-row_waits p bits room session a Puts reply at rests met row = put_waits (record a { effect = None; mailing = mail_next a.mailing reply }) (mail_ask session (mail_next a.mailing reply)) at row
+-- what its reply takes from the mailbox is there
+abbrev pub LooksThere : ℕ → AttemptState → ℕ → Type 0
+LooksThere session a reply = TakesNoGone (mail_ask session (mail_next a.mailing reply))
 
-pub attempt_waits : (p : Places) (bits room session : ℕ) (a : AttemptState) (reply : ℕ) → AttemptRestsOrAsks a → (a.step ≡ Tries → MeetsTry p room a reply) → Waits a → Waits (attempt_next p bits room session a reply)
-attempt_waits p bits room session a reply rests met row = row_waits p bits room session a a.step reply refl rests met row
+row_waits : (p : Places) (bits room session : ℕ) (a : AttemptState) (step : Attempting) (reply : ℕ) → a.step ≡ step → AttemptAsksAt a step → (a.step ≡ Tries → MeetsTry p room a reply) → (a.step ≡ Looks → LooksThere session a reply) → WaitsRow a step → Waits (attempting_next p bits room session (record a { effect = None }) step reply)
+unfolding attempting_next
+row_waits p bits room session a (Ended its) reply at rests met there row = subst (WaitsRow (record a { effect = None })) (sym at) row
+row_waits p bits room session a Looks reply at rests met there row = look_waits p bits (record a { effect = None; mailing = mail_next a.mailing reply }) (mail_ask session (mail_next a.mailing reply)) at (there at) row
+row_waits p bits room session a Tries reply at rests met there row =
+    led_waits p (record a { effect = (try_next p room a.trial reply).effect; trial = try_next p room a.trial reply }) (try_ask p (try_next p room a.trial reply)) at refl (try_rests p room a.trial reply rests.0) (met at) row
+row_waits p bits room session a Puts reply at rests met there row = put_waits (record a { effect = None; mailing = mail_next a.mailing reply }) (mail_ask session (mail_next a.mailing reply)) at row
+
+pub attempt_waits : (p : Places) (bits room session : ℕ) (a : AttemptState) (reply : ℕ) → AttemptRestsOrAsks a → (a.step ≡ Tries → MeetsTry p room a reply) → (a.step ≡ Looks → LooksThere session a reply) → Waits a → Waits (attempt_next p bits room session a reply)
+attempt_waits p bits room session a reply rests met there row = row_waits p bits room session a a.step reply refl rests met there row
 
 -- and how it begins
 pub attempt_begun_waits : (p : Places) (bits : ℕ) (pending : PendingRequest) (seen : Seen) (occasion : Occasion) (spare : ℕ) (is_orphaned : Bool) → SeeksWhereAsked pending → (is_poll occasion ≡ true → SeeksOne pending)

@@ -7,6 +7,7 @@ use Rattle.fkv_map.specs.declared.history.HistoryEntry.{HistoryEntry}
 use Rattle.fkv_map.specs.Map.{Map}
 use Rattle.fkv_map.specs.History.{AreAtMost, IsLegal, IsWhole, content, kept, point_of}
 use Rattle.fkv_map.proofs.Shown.{content-append, IsLegal-append, kept-append, kept_again, kept_by_more, whole_of_lives}
+use Rattle.law_opening.specs.Lives.Laws.{ForgottenReachFar}
 use Rattle.law_order.specs.Images.Laws.Read.{ImagesReachFar}
 use Rattle.law_order.specs.OneHistory.EachLife.{InEachLife, IsLife, Life}
 use Rattle.law_order.specs.Prefix.Law.{AreLives, BeginsWithKept, HoldsPrefix, IsKeptOf, LivesFollow, LivesReachFar, RecoversPrefix, first_of, history_so_far, kept_of_all, map_of, points_of}
@@ -59,12 +60,13 @@ one_more its earlier rest follow whole risen legal pairs =
       risen = λ session. omega (arith, follow.risen session, risen session);
     }
 
--- the first life begins with an image that reaches far, and each other one with an image that such a life has left
-pub lives_reach_far : ImagesReachFar → LivesReachFar
-lives_reach_far far its [] lives = lives.1
-lives_reach_far far its (earlier ∷ rest) lives =
+-- the first life begins with an image that reaches far, and each other one with one that may be found behind such a life
+pub lives_reach_far : ImagesReachFar → ForgottenReachFar → LivesReachFar
+lives_reach_far far forgotten its [] lives = lives.1
+lives_reach_far far forgotten its (earlier ∷ rest) lives =
     let own : IsLife earlier = (let older = lives.2 in older.0) in
-    far earlier.opened earlier.world earlier.bytes earlier.events its.bytes own.store own.begins (lives_reach_far far earlier rest lives.2) lives.1
+    let found = lives.1 in
+    forgotten found.image its.bytes found.agrees (far earlier.opened earlier.world earlier.bytes earlier.events found.image own.store own.begins (lives_reach_far far forgotten earlier rest lives.2) found.left)
 
 module _ (reaches : LivesReachFar) (recovers : InEachLife RecoversPrefix) where
   -- an image that a life leaves

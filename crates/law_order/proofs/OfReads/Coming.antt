@@ -52,7 +52,7 @@ use Rattle.law_commit.specs.Below.fkv_session.Sitting.{Sitting}
 use Rattle.law_commit.specs.Below.fkv_session.Sitting.TheVariants.{Idle, Attempts, CatchesUp, ClearsMail, Polls, StoresOwing, Turns, StoresCut, Leaves, LoadsDurable}
 use Rattle.law_commit.specs.Below.fkv_session.CatchingUp.{CatchState, refresh_begun, wake_begun, catch_ask, latched, latch_marked, catching_requests}
 use Rattle.law_commit.specs.Below.fkv_session.OwnTurns.{own_turn_ask, own_turn_begun, own_turn_given}
-use Rattle.law_commit.specs.Below.fkv_session.Sessions.{SessionState, Seat, bits_of, session_ask, answers, answers_after_turn, refuses, request_in_hand, attempts, polls_request, polls_at, update_done, is_no_room, with_request, serial_taken, ticket_after, name_of, accepts, shifts, attempted, attempt_left, attempt_ledto, caught_up, catch_ledto, clear_ledto, finished_of, is_finished, is_owed, request_finished, finishes_request, lacks_room, keeps_request, poll_ledto, turn_ledto, leave_ledto, attempt_moved, caught, own_turn_moved, sitting_next, session_next, sitting_given, session_given, is_word_ask, asks_after, refusal_of, op_begun, refresh_call, poll_begun, poll_call, sleep_call, wake_call, call_begun, session_begun}
+use Rattle.law_commit.specs.Below.fkv_session.Sessions.{SessionState, Seat, bits_of, session_ask, answers, answers_after_turn, refuses, request_in_hand, attempts, polls_request, polls_at, update_done, is_no_room, with_request, serial_taken, ticket_after, name_of, accepts, shifts, attempted, attempt_left, poll_left, attempt_ledto, caught_up, catch_ledto, clear_ledto, finished_of, is_finished, is_owed, request_finished, finishes_request, lacks_room, keeps_request, poll_ledto, turn_ledto, leave_ledto, attempt_moved, caught, own_turn_moved, sitting_next, session_next, sitting_given, session_given, is_word_ask, asks_after, refusal_of, op_begun, refresh_call, poll_begun, poll_call, sleep_call, wake_call, call_begun, session_begun}
 use Rattle.law_commit.proofs.Below.fkv_session.Shown.{IsUpdateEnd}
 use Rattle.law_commit.specs.Below.law_local.Sessions.Known.{attempt_after, attempt_comes_to}
 use Rattle.law_commit.proofs.Below.law_local.OfSessions.Lists.{all_behind, all_left, all_set, but_one}
@@ -328,7 +328,7 @@ poll_comes : (r : SessionReadings) (k : Seat) (s : SessionState) (i : ℕ) (ask 
 unfolding poll_ledto
 poll_comes r k s i (Done its) at but goes all ends =
     let end = ends its refl in
-    either_comes r (is_finished its) (finishes_request k (attempt_left s) i its) (keeps_request k (attempt_left s) i its) (λ e. finishes_come r k (attempt_left s) i its but all (end.finished e)) (λ e. keeps_come r k (attempt_left s) i its but all (end.waits e))
+    either_comes r (is_finished its) (finishes_request k (poll_left s) i its) (keeps_request k (poll_left s) i its) (λ e. finishes_come r k (poll_left s) i its but all (end.finished e)) (λ e. keeps_come r k (poll_left s) i its but all (end.waits e))
 poll_comes r k s i ask at but goes all ends = still r s (Polls i) at (but, goes, all)
 
 -- ---- each other state

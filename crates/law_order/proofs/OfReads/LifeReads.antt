@@ -12,6 +12,7 @@ use Rattle.law_commit.specs.Below.fkv_session.Sessions.{SessionState, Seat, IsOp
 use Rattle.law_commit.proofs.Below.fkv_session.Shown.{IsTold, IsUnderWay, run_told}
 use Rattle.law_commit.specs.Below.law_local.Sessions.Inputs.{AttemptsSo}
 use Rattle.law_commit.specs.Below.law_local.Sessions.Known.{is_attempting}
+use Rattle.law_commit.specs.Below.law_local.Tries.TryRows.{floor_in}
 use Rattle.law_commit.proofs.Below.law_local.OfSessions.SessionInputs.{run_so}
 use Rattle.law_commit.proofs.Below.law_local.OfTries.OnWay.{orderly}
 use Rattle.fkv_epoch.proofs.Shown.{some_same}
@@ -23,13 +24,15 @@ use Rattle.law_commit.specs.Below.fkv_world.World.{Event, seat_at}
 use Rattle.law_commit.proofs.Below.fkv_world.Shown.{is_over, same_seat, session_runs}
 use Rattle.law_commit.specs.Below.law_refine.Calls.Calls.{event_adds}
 use Rattle.law_order.specs.Known.Answered.{EachAnswered, acted_ghosts}
-use Rattle.law_order.specs.Known.Begins.{BegunLife, home_of_world}
+use Rattle.law_order.specs.Known.Begins.{BegunLife, begin_in, home_of_world}
+use Rattle.law_order.specs.Known.Floors.{GoesByBegin}
 use Rattle.law_order.specs.Known.Knows.{AreKnown}
 use Rattle.law_order.specs.Known.Told.{AreToldTruly, NamesAreApart, TicketsAreApart}
 use Rattle.law_commit.specs.Below.law_refine.Events.GhostEvents.{life_ghosts, mapped, moved_ghosts, own_ghosts, serials_in}
 use Rattle.law_commit.specs.Below.law_refine.Events.Lines.{lines_added}
 use Rattle.law_commit.proofs.Below.law_refine.OfEvents.RequestNames.{life_named}
 use Rattle.law_order.specs.Reads.Reads.{readings_of, SitsReads, SessionReads, ReadsKnown, AreReadsKnown}
+use Rattle.law_order.proofs.OfKnown.Begins.{live_below}
 use Rattle.law_order.proofs.OfKnown.Newest.{known_now}
 use Rattle.law_order.proofs.OfReads.Coming.{IsFreshly}
 use Rattle.law_order.proofs.OfReads.Life.{IsAnsweredSo, life_next, life_over, rests_so, begins_so, goes_so}
@@ -98,11 +101,11 @@ run_under_way k first own opened attempting = by_step (session_run k first own).
 
 -- ---- the step of a session
 moment_facts : (life : BegunLife) (before : List Event) (event : Event) → AreEnabled (home_of_world life.opening) life.ghosts (mapped life.opening before)
-    → AreKnown life.opening life.ghosts before → TicketsAreApart life.opening (event ∷ before)
+    → AreKnown life.opening life.ghosts before → GoesByBegin life.opening life.ghosts before → TicketsAreApart life.opening (event ∷ before)
     → AreToldTruly (home_of_world life.opening) (life_ghosts life.opening life.ghosts before).log (run life.opening before).now → AreReadsKnown life.opening life.ghosts before
     → (its : Goes (run life.opening before) event)
     → StepFacts (home_of_world life.opening) (life_ghosts life.opening life.ghosts before) (seat_at (run life.opening before).now its.number) (run life.opening before).past.trace (run life.opening before).now.words its.s
-moment_facts life before event enabled known apart truly reads its =
+moment_facts life before event enabled known begin apart truly reads its =
     let w : World = run life.opening before in
     let k : Seat = seat_at w.now its.number in
     let first = first_of life.opening before its.number its.s its.found in
@@ -113,6 +116,8 @@ moment_facts life before event enabled known apart truly reads its =
     record {
       busy = its.busy;
       orderly = orderly (home_of_world life.opening) life.map (life_ghosts life.opening life.ghosts before).log (run_held (home_of_world life.opening) life.map life.number life.ghosts (mapped life.opening before) life.begins.log enabled);
+      live = λ attempting.
+          live_below (begin_in w) (floor_in its.s.attempt.pending.request) (home_of_world life.opening) (life_ghosts life.opening life.ghosts before).log ((begin.floors its.number its.s its.found).theirs.attempted attempting) begin.live;
       knows = (known_now life.opening life.ghosts before known its.number its.s its.found).attempted;
       says = truly its.number its.s its.found;
       inputs = subst (λ (x : Seat). AttemptsSo x its.s) (sym seat) (subst (AttemptsSo (seat_at life.opening.now its.number)) (sym same) (run_so (seat_at life.opening.now its.number) first.0 own opened));
@@ -134,15 +139,15 @@ goes_own : (w : World) (event : Event) (its : Goes w event) → own_ghosts w eve
 goes_own w event its = ap (own_ghosts w) its.is ∙ ap (moved_ghosts w its.number) its.found
 
 alive_so : (life : BegunLife) (before : List Event) (event : Event) → AreEnabled (home_of_world life.opening) life.ghosts (mapped life.opening before)
-    → AreKnown life.opening life.ghosts before → TicketsAreApart life.opening (event ∷ before)
+    → AreKnown life.opening life.ghosts before → GoesByBegin life.opening life.ghosts before → TicketsAreApart life.opening (event ∷ before)
     → AreToldTruly (home_of_world life.opening) (life_ghosts life.opening life.ghosts before).log (run life.opening before).now → AreReadsKnown life.opening life.ghosts before
     → Turn (run life.opening before) event → IsAnsweredSo life.opening life.ghosts before event
-alive_so life before event enabled known apart truly reads (Rests quiet own stay) =
+alive_so life before event enabled known begin apart truly reads (Rests quiet own stay) =
     rests_so life.opening life.ghosts before event quiet own stay (λ n s found. life_numbered life.opening before n s life.begins.world found) (reads_now life.opening life.ghosts before reads)
-alive_so life before event enabled known apart truly reads (BeginsOne its) =
+alive_so life before event enabled known begin apart truly reads (BeginsOne its) =
     begins_so life.opening life.ghosts before event its (begins_own (run life.opening before) event its) (λ n s found. life_numbered life.opening before n s life.begins.world found) (reads_now life.opening life.ghosts before reads)
-alive_so life before event enabled known apart truly reads (GoesOne its) =
-    goes_so life.opening life.ghosts before event its (goes_own (run life.opening before) event its) (moment_facts life before event enabled known apart truly reads its)
+alive_so life before event enabled known begin apart truly reads (GoesOne its) =
+    goes_so life.opening life.ghosts before event its (goes_own (run life.opening before) event its) (moment_facts life before event enabled known begin apart truly reads its)
     (freshly life.opening before event apart its) (λ n s found. life_numbered life.opening before n s life.begins.world found) (reads_now life.opening life.ghosts before reads)
 
 -- ---- after a crash nothing is told
@@ -156,22 +161,22 @@ over_adds opening before event over =
 
 -- ---- what is shown
 pub answers_enabled : (life : BegunLife) (before : List Event) (event : Event) → AreEnabled (home_of_world life.opening) life.ghosts (mapped life.opening before)
-    → AreKnown life.opening life.ghosts before → TicketsAreApart life.opening (event ∷ before)
+    → AreKnown life.opening life.ghosts before → GoesByBegin life.opening life.ghosts before → TicketsAreApart life.opening (event ∷ before)
     → AreToldTruly (home_of_world life.opening) (life_ghosts life.opening life.ghosts before).log (run life.opening before).now → AreReadsKnown life.opening life.ghosts before
     → EachAnswered (home_of_world life.opening) (acted_ghosts life.opening life.ghosts before event) (event_adds life.opening before event)
 unfolding run
-answers_enabled life before event enabled known apart truly reads = by_crash (run life.opening before).now.crashed refl
+answers_enabled life before event enabled known begin apart truly reads = by_crash (run life.opening before).now.crashed refl
   where
     by_crash : (crashed : Bool) → (run life.opening before).now.crashed ≡ crashed → EachAnswered (home_of_world life.opening) (acted_ghosts life.opening life.ghosts before event) (event_adds life.opening before event)
     by_crash true over = subst (EachAnswered (home_of_world life.opening) (acted_ghosts life.opening life.ghosts before event)) (sym (over_adds life.opening before event over)) tt
-    by_crash false alive = (alive_so life before event enabled known apart truly reads (turn_of (run life.opening before) event alive)).each
+    by_crash false alive = (alive_so life before event enabled known begin apart truly reads (turn_of (run life.opening before) event alive)).each
 
 reads_go : (life : BegunLife) (before : List Event) (event : Event) → AreEnabled (home_of_world life.opening) life.ghosts (mapped life.opening before)
-    → AreKnown life.opening life.ghosts before → TicketsAreApart life.opening (event ∷ before)
+    → AreKnown life.opening life.ghosts before → GoesByBegin life.opening life.ghosts before → TicketsAreApart life.opening (event ∷ before)
     → AreToldTruly (home_of_world life.opening) (life_ghosts life.opening life.ghosts before).log (run life.opening before).now → AreReadsKnown life.opening life.ghosts before
     → ReadsKnown life.opening life.ghosts (event ∷ before)
 unfolding run
-reads_go life before event enabled known apart truly reads = by_crash (run life.opening before).now.crashed refl
+reads_go life before event enabled known begin apart truly reads = by_crash (run life.opening before).now.crashed refl
   where
     by_crash : (crashed : Bool) → (run life.opening before).now.crashed ≡ crashed → ReadsKnown life.opening life.ghosts (event ∷ before)
     by_crash true over = λ n s found.
@@ -181,15 +186,15 @@ reads_go life before event enabled known apart truly reads = by_crash (run life.
         (reads_now life.opening life.ghosts before reads n s (sym (ap (λ (x : World). slice_get x.now.sessions n) same) ∙ found)))
     by_crash false alive = λ n s found.
         subst (λ (g : Ghosts). SessionReads g.reads (happens (run life.opening before) event).past.trace n s) (sym (life_next life.opening life.ghosts before event alive))
-        ((alive_so life before event enabled known apart truly reads (turn_of (run life.opening before) event alive)).known n s found)
+        ((alive_so life before event enabled known begin apart truly reads (turn_of (run life.opening before) event alive)).known n s found)
 
 pub reads_go_on : (life : BegunLife) (before : List Event) (event : Event) → AreEnabled (home_of_world life.opening) life.ghosts (mapped life.opening before)
-    → AreKnown life.opening life.ghosts before → TicketsAreApart life.opening (event ∷ before)
+    → AreKnown life.opening life.ghosts before → GoesByBegin life.opening life.ghosts before → TicketsAreApart life.opening (event ∷ before)
     → AreToldTruly (home_of_world life.opening) (life_ghosts life.opening life.ghosts before).log (run life.opening before).now → AreReadsKnown life.opening life.ghosts before
     → AreEnabled (home_of_world life.opening) life.ghosts (mapped life.opening (event ∷ before)) → AreReadsKnown life.opening life.ghosts (event ∷ before)
 unfolding AreReadsKnown
-reads_go_on life before event enabled known apart truly reads later =
-    (reads, reads_go life before event enabled known apart truly reads)
+reads_go_on life before event enabled known begin apart truly reads later =
+    (reads, reads_go life before event enabled known begin apart truly reads)
 
 -- ---- as the life begins
 idle_sits : (opening : World) (ghosts : Ghosts) (n : ℕ) (s : SessionState) (step : Sitting) → is_busy step ≡ false → s.requests ≡ [] → SitsReads (readings_of ghosts.reads opening.past.trace n) s step

@@ -5,6 +5,7 @@ use Rattle.std.proofs.lemmas.Option.{slice_get-map}
 use Rattle.std.specs.Option.{option_map}
 use Rattle.fkv_map.specs.declared.operations.Op.{Op}
 use Rattle.fkv_map.specs.Keys.{key_of, as_number}
+use Rattle.law_log.specs.Begins.{Live}
 use Rattle.law_log.specs.Ghosts.{Ghosts, GhostEvent, Reading, ghost_run}
 use Rattle.fkv_plane.specs.declared.asks.Ask.TheVariants.{Done}
 use Rattle.fkv_plane.specs.Passing.{is_done}
@@ -33,7 +34,7 @@ use Rattle.law_commit.proofs.Below.law_local.OfSessions.AttemptInputs.{attempt_g
 use Rattle.law_commit.specs.Below.law_local.Tries.AttemptRows.{AttemptKnows, IsTrueOfAttempt}
 use Rattle.law_commit.specs.Below.law_local.Tries.OnWay.{IsOrderly}
 use Rattle.law_commit.specs.Below.law_local.Tries.ReadRows.{SoughtReads, AnsweredReads, AttemptReads}
-use Rattle.law_commit.specs.Below.law_local.Tries.TryRows.{key_in}
+use Rattle.law_commit.specs.Below.law_local.Tries.TryRows.{floor_in, key_in}
 use Rattle.law_commit.proofs.Below.law_local.OfTries.ReadAttempts.{attempt_reads}
 use Rattle.law_commit.specs.Below.fkv_world.Past.{Traced}
 use Rattle.law_order.specs.Known.Told.{AreApart}
@@ -50,6 +51,7 @@ use Rattle.law_order.proofs.OfReads.Touched.{AllTouch, IsItsRead, untouched, val
 -- what is known of an attempt that is replied to
 pub record Replied (home : ℕ → ℕ) (g : Ghosts) (k : Seat) (a : AttemptState) (reply : ℕ) : Type 0 where
   pub orderly : IsOrderly home g.log
+  pub live : Live (floor_in a.pending.request) home g.log
   pub knows : AttemptKnows home g.log a
   pub says : IsTrueOfAttempt home g.log k.places a a.step reply
   pub asks : is_done (attempt_ask k.places k.number a) ≡ false
@@ -70,7 +72,7 @@ own_reads home g k reader a reply its read goes =
     let same : key_in after.pending.request ≡ key_in a.pending.request = ap (λ (op : Op). (key_of op).0) keeps.op in
     subst (λ key. AttemptReads key ((moved_ghosts_of home g k reader a reply).reads reader) after after.step) (sym same)
     (subst (λ reading. AttemptReads (key_in a.pending.request) reading after after.step) (sym (attempt_moves home g k reader a reply read its.knows.row))
-    (attempt_reads home g.log k.places (bits_of k) (room_of k) k.number (g.reads reader) a reply its.orderly its.knows read its.asks its.says goes))
+    (attempt_reads home g.log k.places (bits_of k) (room_of k) k.number (g.reads reader) a reply its.orderly its.live its.knows read its.asks its.says goes))
 
 -- how it ends
 ended_at : (home : ℕ → ℕ) (g : Ghosts) (k : Seat) (a : AttemptState) (reply : ℕ) (its : TryAnswer) → Replied home g k a reply → attempt_ask k.places k.number (after_reply k a reply) ≡ Done its → (after_reply k a reply).step ≡ Ended its

@@ -23,8 +23,8 @@ use Rattle.law_commit.specs.Below.fkv_ops.TheTrying.TheVariants as try
 use Rattle.law_commit.specs.Below.fkv_ops.WalkAnswer.{WalkAnswer}
 use Rattle.law_commit.specs.Below.fkv_ops.WalkAnswer.TheVariants as walk
 use Rattle.law_commit.specs.Below.fkv_ops.HeaderWords.{header_said}
-use Rattle.law_commit.specs.Below.fkv_ops.Requests.{is_read}
-use Rattle.law_commit.specs.Below.fkv_ops.Trying.{TryState, with_latch, is_wait, ended_without, ends_so as ends_now, ends_by, is_bounded, ends, full_at, walked, has_walked, must_shift, walk_ledto, told_value, answer_ledto, trying_ask, try_ask, trying_next, try_next}
+use Rattle.law_commit.specs.Below.fkv_ops.Requests.{is_chain_end, is_read}
+use Rattle.law_commit.specs.Below.fkv_ops.Trying.{TryState, awaits, with_latch, is_wait, ended_without, ends_so as ends_now, ends_by, is_bounded, ends, full_at, walked, has_walked, must_shift, walk_ledto, told_value, answer_ledto, trying_ask, try_ask, trying_next, try_next}
 use Rattle.law_commit.specs.Below.fkv_ops.Values.{value_of}
 use Rattle.law_commit.specs.Below.fkv_ops.Walking.{walk_on, walk_ask, walk_next}
 use Rattle.law_commit.specs.Below.fkv_pending.TheAttempting.{Attempting}
@@ -32,9 +32,9 @@ use Rattle.law_commit.specs.Below.fkv_pending.TheAttempting.TheVariants.{Ended, 
 use Rattle.law_commit.specs.Below.fkv_pending.MailAnswer.{MailAnswer}
 use Rattle.law_commit.specs.Below.fkv_pending.MailAnswer.TheVariants as mail
 use Rattle.law_commit.specs.Below.fkv_pending.MailRecord.{MailRecord}
-use Rattle.law_commit.specs.Below.fkv_pending.Mailing.{mail_ask, mail_next}
-use Rattle.law_commit.specs.Below.fkv_pending.Pending.{with_sought, with_held, with_latch as with_shared, with_asked}
-use Rattle.law_commit.specs.Below.fkv_pending.Attempting.{AttemptState, attempting_ask, attempt_ask, attempt_ended, waits_for_disk, puts_addr, puts, tries, is_seeking_read, held_of, moved_on, read_on, record_taken, look_ledto, held_kept, awaits_record, tried, try_ledto, put_ledto, mail_moved, try_moved, attempting_next, attempt_next}
+use Rattle.law_commit.specs.Below.fkv_pending.Mailing.{begin_told, is_gone, mail_ask, mail_next}
+use Rattle.law_commit.specs.Below.fkv_pending.Pending.{with_sought, with_held, with_latch as with_shared, with_asked, without_gone}
+use Rattle.law_commit.specs.Below.fkv_pending.Attempting.{AttemptState, attempting_ask, attempt_ask, attempt_ended, waits_for_disk, puts_addr, puts, tries, is_seeking_read, held_of, moved_on, read_on, record_taken, goes_anew, mail_taken, look_ledto, held_kept, awaits_record, tried, try_ledto, put_ledto, mail_moved, try_moved, attempting_next, attempt_next}
 use Rattle.law_commit.specs.Below.law_local.Tries.AttemptRows.{AttemptRow}
 use Rattle.law_commit.specs.Below.law_local.Tries.TryRows.{TryRow}
 use Rattle.law_order.proofs.OfReads.Coming.{IsReadEnd}
@@ -80,7 +80,10 @@ told_so (Some value) = tt
 walked_so : (p : Places) (t : TryState) (its : WalkAnswer) → is_read t.request.op ≡ true → EndsSo (walked p t its).step
 walked_so p t (walk.Found addr version) read = then_so (is_read t.request.op) (record t { walk = walk_on t.walk; step = try.LoadsAnswer }) _ read tt
 walked_so p t walk.Nowhere read = then_so (is_read t.request.op) (ends p t answer.Absent) _ read (ends_so p t answer.Absent tt)
-walked_so p t (walk.OnDisk addr) read = then_so (is_read t.request.op) (ends p t (answer.AwaitsDisk (record { entry = t.walk.entry; addr = addr }))) _ read (ends_so p t (answer.AwaitsDisk (record { entry = t.walk.entry; addr = addr })) tt)
+walked_so p t (walk.OnDisk addr) read =
+    let end : Bool = is_chain_end t.request.floor addr in
+    then_so (is_read t.request.op) (if end then ends p t answer.Absent else awaits p t addr) _ read
+    (either_so end (ends p t answer.Absent) (awaits p t addr) (ends_so p t answer.Absent tt) (ends_so p t (answer.AwaitsDisk (record { entry = t.walk.entry; addr = addr })) tt))
 walked_so p t (walk.Value value) read = ends_so p t (answer.Wait reason.Contended) tt
 walked_so p t walk.Full read = ends_so p t (full_at t.occasion answer.IndexFull) (full_so t.occasion)
 walked_so p t walk.Kept read = ends_so p t (full_at t.occasion answer.IndexFull) (full_so t.occasion)
@@ -172,15 +175,21 @@ read_on_ends : (a : AttemptState) (its : MailRecord) (said : HeaderSaid) → Att
 read_on_ends a its Spoiled = puts_end a a.pending.sought
 read_on_ends a its (Says previous version) =
     either_ends (its.key.0 == (key_of a.pending.request.op).0) (attempt_ended a (told_value (value_of its.value))) _ (told_so (value_of its.value))
-    (either_ends (previous.0 == 0) (attempt_ended a answer.Absent) (puts (record a { pending = with_sought a.pending (moved_on a.pending.sought previous) })) tt
+    (either_ends (is_chain_end a.pending.request.floor previous) (attempt_ended a answer.Absent) (puts (record a { pending = with_sought a.pending (moved_on a.pending.sought previous) })) tt
     (puts_end (record a { pending = with_sought a.pending (moved_on a.pending.sought previous) }) (with_sought a.pending (moved_on a.pending.sought previous)).sought))
 
 taken_ends : (p : Places) (bits : ℕ) (a : AttemptState) (its : MailRecord) (said : HeaderSaid) → AttemptEndsSo (record_taken p bits a its said).step
 taken_ends p bits a its said = either_ends (is_seeking_read a) (read_on a its said) (tries p bits (record a { pending = with_held a.pending (held_of a.pending.sought its said) })) (read_on_ends a its said) tt
 
+mail_ends : (p : Places) (bits : ℕ) (a : AttemptState) (its : MailRecord) → AttemptEndsSo (mail_taken p bits a its).step
+mail_ends p bits a its =
+    let anew : AttemptState = record a { pending = without_gone a.pending (begin_told its) } in
+    either_ends (is_gone its) (goes_anew p bits a (begin_told its)) (record_taken p bits a its (header_said its.header)) (either_ends (is_seeking_read a) (waits_for_disk anew) (tries p bits anew) tt tt)
+    (taken_ends p bits a its (header_said its.header))
+
 look_ends : (p : Places) (bits : ℕ) (a : AttemptState) (ask : Ask MailAnswer) → a.step ≡ Looks → AttemptEndsSo (look_ledto p bits a ask).step
 unfolding look_ledto
-look_ends p bits a (Done (mail.Taken its)) at = taken_ends p bits (record a { is_emptied = true; pending = with_asked a.pending false }) its (header_said its.header)
+look_ends p bits a (Done (mail.Taken its)) at = mail_ends p bits (record a { is_emptied = true; pending = with_asked a.pending false }) its
 look_ends p bits a (Done other) at = either_ends (is_seeking_read a) (waits_for_disk a) (tries p bits a) tt tt
 look_ends p bits a ask at = subst AttemptEndsSo (sym at) tt
 

@@ -1,6 +1,7 @@
 -- A step of a session, with the drain slot that it turns to behind it, leaves its reads as far as its control state says.
 use Rattle.std.proofs.Common.{◌≡◌, ℕ, zero, suc, ◌∙◌, refl, sym, ap, subst, true, false, List, [], ◌∷◌, ◌++◌}
 use Rattle.std.specs.Prelude.{Option, Some, None}
+use Rattle.law_log.specs.Begins.{Live}
 use Rattle.law_log.specs.Ghosts.{Ghosts, GhostEvent, Tells, FindsEntry, TakesValue, ghost_run}
 use Rattle.fkv_plane.specs.declared.actions.Action.{Action}
 use Rattle.fkv_plane.specs.declared.asks.Ask.{Ask}
@@ -23,6 +24,7 @@ use Rattle.law_commit.specs.Below.law_local.Sessions.Inputs.{AttemptsSo}
 use Rattle.law_commit.specs.Below.law_local.Sessions.Known.{is_attempting}
 use Rattle.law_commit.proofs.Below.law_local.OfSessions.SessionInputs.{attempt_at_call, attempt_in_poll}
 use Rattle.law_commit.specs.Below.law_local.Tries.AttemptRows.{AttemptKnows, IsTrueOfAttempt}
+use Rattle.law_commit.specs.Below.law_local.Tries.TryRows.{floor_in}
 use Rattle.law_commit.specs.Below.law_local.Tries.OnWay.{IsOrderly}
 use Rattle.law_commit.specs.Below.fkv_world.Moves.{Near}
 use Rattle.law_commit.specs.Below.fkv_world.OwnEvents.{session_got, session_slots, session_steps}
@@ -45,6 +47,7 @@ use Rattle.law_order.proofs.OfReads.Touched.{touches, AllTouch, IsItsRead, attem
 pub record StepFacts (home : ℕ → ℕ) (g : Ghosts) (k : Seat) (trace : List Traced) (words : List ℕ) (s : SessionState) : Type 0 where
   pub busy : is_busy s.step ≡ true
   pub orderly : IsOrderly home g.log
+  pub live : is_attempting s.step ≡ true → Live (floor_in s.attempt.pending.request) home g.log
   pub knows : is_attempting s.step ≡ true → AttemptKnows home g.log s.attempt
   pub says : is_attempting s.step ≡ true → IsTrueOfAttempt home g.log k.places s.attempt s.attempt.step (reply_to words (session_ask k s))
   pub inputs : AttemptsSo k s
@@ -127,6 +130,7 @@ sitting_moves home g k trace words s (Attempts has_shifted) at facts asks =
     call_moves home g k trace s has_shifted (reply_to words (session_ask k s))
     (record {
       orderly = facts.orderly;
+      live = facts.live (ap is_attempting at);
       knows = facts.knows (ap is_attempting at);
       says = facts.says (ap is_attempting at);
       asks = sym (passed_done (attempt_ask k.places k.number s.attempt) told.Slept) ∙ (sym (ap (λ (x : Sitting). is_done (sitting_ask k s x)) at) ∙ asks);
@@ -137,6 +141,7 @@ sitting_moves home g k trace words s (Polls index) at facts asks =
     poll_moves home g k trace s index (reply_to words (session_ask k s))
     (record {
       orderly = facts.orderly;
+      live = facts.live (ap is_attempting at);
       knows = facts.knows (ap is_attempting at);
       says = facts.says (ap is_attempting at);
       asks = sym (passed_done (attempt_ask k.places k.number s.attempt) told.Slept) ∙ (sym (ap (λ (x : Sitting). is_done (sitting_ask k s x)) at) ∙ asks);

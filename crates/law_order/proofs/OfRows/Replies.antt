@@ -6,6 +6,7 @@ use Rattle.fkv_map.specs.declared.operations.Call.{Call}
 use Rattle.fkv_map.specs.declared.operations.Op.{Op}
 use Rattle.fkv_map.specs.Map.{IsReserved, is_reserved}
 use Rattle.fkv_map.proofs.Shown.{free_by_test}
+use Rattle.law_log.specs.Begins.{Live}
 use Rattle.law_log.specs.Ghosts.{Log}
 use Rattle.law_commit.specs.Below.fkv_ops.Occasion.TheVariants.{Call as AtCall, Poll as AtPoll}
 use Rattle.law_commit.specs.Below.fkv_ops.Bounds.{bounds_of}
@@ -29,7 +30,7 @@ use Rattle.law_commit.proofs.Below.law_local.OfSessions.Known.{begun_known, next
 use Rattle.law_commit.specs.Below.law_local.Tries.AttemptRows.{AttemptKnows, IsTrueOfAttempt, PendingKnows}
 use Rattle.law_commit.specs.Below.law_local.Tries.HeldRows.{SoughtKnows}
 use Rattle.law_commit.specs.Below.law_local.Tries.OnWay.{IsOrderly}
-use Rattle.law_commit.specs.Below.law_local.Tries.TryRows.{MarksTell, NoneLaterPast, RequestKnows, head_in, key_in}
+use Rattle.law_commit.specs.Below.law_local.Tries.TryRows.{MarksTell, NoneLaterPast, RequestKnows, floor_in, head_in, key_in}
 use Rattle.law_commit.proofs.Below.law_local.OfTries.AttemptSteps.{attempt_begins, attempt_leads}
 use Rattle.law_order.specs.Rows.Asked.{SeeksWhereAsked, AttemptSeeks}
 use Rattle.law_order.proofs.OfRows.Seeks.{attempt_seeks, attempt_begun_seeks}
@@ -65,12 +66,12 @@ module _ (home : ℕ → ℕ) where
   -- of a request that waits, whatever latch it has
   record WaitsFree (log : Log) (seen : Seen) (pending : PendingRequest) : Type 0 where
     request : RequestKnows home log pending.request seen
-    sought : SoughtKnows home log (key_in pending.request) (head_in seen) pending.sought
+    sought : SoughtKnows home log (floor_in pending.request) (key_in pending.request) (head_in seen) pending.sought
     seeks : SeeksWhereAsked pending
 
   free_latch : (log : Log) (seen : Seen) (pending : PendingRequest) → WaitsFree log seen pending → WaitsFree log seen (with_latch pending true)
   unfolding with_latch
-  free_latch log seen pending its = record { request = record { plain = its.request.plain; low = its.request.low; held = its.request.held }; sought = its.sought; seeks = its.seeks }
+  free_latch log seen pending its = record { request = record { plain = its.request.plain; low = its.request.low; low_floor = its.request.low_floor; held = its.request.held }; sought = its.sought; seeks = its.seeks }
 
   -- ---- an attempt begins
   hands_over : (log : Log) (k : Seat) (seen : Seen) → IsHandedOver k seen (WaitsSo log seen) (TriesSo log)
@@ -79,18 +80,18 @@ module _ (home : ℕ → ℕ) where
     attempt_begun_seeks k.places (bits_of k) pending seen AtPoll spare is_orphaned knows.1,
   )
 
-  begins_anew : (log : Log) (k : Seat) (s : SessionState) (seen : Seen) → (IsReserved s.op → ⊥) → head_in seen ≤ log.fixed → IsKnownAnew k (request_in_hand s) seen (TriesSo log)
-  begins_anew log k s seen plain low spare is_orphaned = (
-    attempt_begins home log k.places (bits_of k) (request_in_hand s) seen (AtCall (bounds_of k.shape)) spare is_orphaned (record { request = record { plain = plain; low = low; held = tt }; sought = tt; unlatched = λ read. refl }) (λ read asked. never asked),
+  begins_anew : (log : Log) (k : Seat) (s : SessionState) (seen : Seen) → (IsReserved s.op → ⊥) → head_in seen ≤ log.fixed → s.floor.0 ≤ log.fixed → IsKnownAnew k (request_in_hand s) seen (TriesSo log)
+  begins_anew log k s seen plain low floor spare is_orphaned = (
+    attempt_begins home log k.places (bits_of k) (request_in_hand s) seen (AtCall (bounds_of k.shape)) spare is_orphaned (record { request = record { plain = plain; low = low; low_floor = floor; held = tt }; sought = tt; unlatched = λ read. refl }) (λ read asked. never asked),
     attempt_begun_seeks k.places (bits_of k) (request_in_hand s) seen (AtCall (bounds_of k.shape)) spare is_orphaned (λ read asked. never asked),
   )
 
   -- ---- a call begins
-  pub call_so : (log : Log) (k : Seat) (s : SessionState) (its : Call) → is_busy s.step ≡ false → head_in s.seen ≤ log.fixed → KnowsSo log s.seen s → KnowsSo log s.seen (session_begun k s its)
-  call_so log k s its idle low knows =
+  pub call_so : (log : Log) (k : Seat) (s : SessionState) (its : Call) → is_busy s.step ≡ false → head_in s.seen ≤ log.fixed → s.floor.0 ≤ log.fixed → KnowsSo log s.seen s → KnowsSo log s.seen (session_begun k s its)
+  call_so log k s its idle low floor knows =
       begun_known (WaitsSo log s.seen) (TriesSo log) k s its idle knows
       (record {
-        calls = λ made is none. begins_anew log k (with_op s made) s.seen (free_by_test made (not_refused s made none)) low;
+        calls = λ made is none. begins_anew log k (with_op s made) s.seen (free_by_test made (not_refused s made none)) low floor;
         polls = λ is awake. hands_over log k s.seen;
       })
 
@@ -101,6 +102,9 @@ module _ (home : ℕ → ℕ) where
       pub inputs : AttemptsSo k s
       pub newest : is_attempting s.step ≡ true → s.attempt.step ≡ Tries → NoneLaterPast home log k.places s.attempt.trial reply
       pub marks : is_attempting s.step ≡ true → s.attempt.step ≡ Tries → MarksTell log k.places s.attempt.trial reply
+      -- the log does without what lies below the floor of what is attempted, and all below the session's is fixed
+      pub live : is_attempting s.step ≡ true → Live (floor_in s.attempt.pending.request) home log
+      pub floor : s.floor.0 ≤ log'.fixed
       pub says : is_attempting s.step ≡ true → IsTrueOfAttempt home log k.places s.attempt s.attempt.step reply
       -- what is known stays
       pub waiting : (pending : PendingRequest) → PendingKnows home log pending s.seen → PendingKnows home log' pending s.seen
@@ -114,7 +118,7 @@ module _ (home : ℕ → ℕ) where
       goes : (attempting : is_attempting s.step ≡ true) → TriesSo log s.attempt → TriesSo log' (attempt_after k s reply)
       goes attempting its = (
         facts.trying attempting
-            (attempt_leads home log k.places (bits_of k) (room_of k) k.number s.attempt reply facts.orderly (facts.newest attempting) (facts.marks attempting) its.0 (facts.says attempting)),
+            (attempt_leads home log k.places (bits_of k) (room_of k) k.number s.attempt reply facts.orderly (facts.live attempting) (facts.newest attempting) (facts.marks attempting) its.0 (facts.says attempting)),
         attempt_seeks k.places (bits_of k) (room_of k) k.number s.attempt reply its.1,
       )
 
@@ -171,7 +175,7 @@ module _ (home : ℕ → ℕ) where
                 accepts = λ has_shifted told e comes accepted after. tt;
                 keeps = λ index told e comes waits after. tt;
                 hands_over = λ polling. never (sym (ap is_polling at) ∙ polling);
-                begins_anew = λ its shifts done. begins_anew log' k (caught_up_at k s reply) (catch_after k s reply).seen (facts.plain shifts) (facts.caught its shifts done);
+                begins_anew = λ its shifts done. begins_anew log' k (caught_up_at k s reply) (catch_after k s reply).seen (facts.plain shifts) (facts.caught its shifts done) facts.floor;
                 latches = λ cause pending e its. tt;
               })
 

@@ -2,6 +2,7 @@
 use Rattle.std.proofs.Common.{◌≡◌, ◌≢◌, ℕ, ◌<◌, ◌≤◌, ◌∙◌, List, ◌∷◌, refl, arith, ap, sym, subst, Bool, true, false, eqb-true}
 use Rattle.std.specs.Prelude.{Some, None, slice_get}
 use Rattle.fkv_map.specs.Map.{is_reserved}
+use Rattle.law_log.specs.Begins.{Live}
 use Rattle.law_log.specs.Chains.{value_at, version_at}
 use Rattle.law_log.specs.Ghosts.{Changes, Log, log_after}
 use Rattle.law_log.specs.Enabled.{AreEnabled}
@@ -28,7 +29,7 @@ use Rattle.law_commit.specs.Below.law_local.Tries.AttemptRows.{AttemptKnows, IsT
 use Rattle.law_commit.specs.Below.law_local.Tries.Kept.{ChangesLog, KeepsSource, Swaps}
 use Rattle.law_commit.specs.Below.law_local.Tries.Kept.{Changes as ChangesOne}
 use Rattle.law_commit.specs.Below.law_local.Tries.Replies.{IsTrueReply}
-use Rattle.law_commit.specs.Below.law_local.Tries.TryRows.{cell_of, head_in}
+use Rattle.law_commit.specs.Below.law_local.Tries.TryRows.{cell_of, floor_in, head_in}
 use Rattle.law_commit.proofs.Below.law_local.OfTries.OwnEvents.{attempt_needs}
 use Rattle.law_commit.proofs.Below.law_local.OfTries.OnWay.{orderly}
 use Rattle.law_commit.proofs.Below.law_local.OfTries.AttemptGrows.{pending_later}
@@ -37,10 +38,12 @@ use Rattle.law_commit.specs.Below.fkv_world.Runs.{World, run}
 use Rattle.law_commit.specs.Below.fkv_world.Actors.{is_of_session}
 use Rattle.law_commit.specs.Below.fkv_world.World.{Calls, Event, Moves, Now, near, seat_at}
 use Rattle.law_commit.proofs.Below.fkv_world.Shown.{same_seat, session_apart}
-use Rattle.law_order.specs.Known.Begins.{BegunLife, home_of_world}
+use Rattle.law_order.specs.Known.Begins.{BegunLife, begin_in, home_of_world}
+use Rattle.law_order.specs.Known.Floors.{GoesByBegin}
 use Rattle.law_order.specs.Known.Knows.{AllKnowBehind, AreKnown, SessionKnows}
 use Rattle.law_order.specs.Known.Told.{AreToldTruly, reply_in}
 use Rattle.law_commit.specs.Below.law_refine.Events.GhostEvents.{life_ghosts, mapped}
+use Rattle.law_order.proofs.OfKnown.Begins.{begin_fixed, begin_same, live_below}
 use Rattle.law_order.proofs.OfKnown.Newest.{known_now}
 use Rattle.law_opening.proofs.OfChanges.OfSessions.Attempting.{life_attempts}
 use Rattle.law_opening.proofs.OfChanges.OfSessions.Calm.{calm_known, is_calm, not_calm}
@@ -89,7 +92,7 @@ both P P' Q Q' s one other = record {
 }
 
 module _ (life : BegunLife) (before : List Event) (event : Event)
-    (given : Given) (opens : OpensApart life) (all_apart : AllApartBehind life.opening life.ghosts before) (enabled : AreEnabled (home_of_world life.opening) life.ghosts (mapped life.opening (event ∷ before))) (known : AreKnown life.opening life.ghosts before)
+    (given : Given) (opens : OpensApart life) (all_apart : AllApartBehind life.opening life.ghosts before) (begin : GoesByBegin life.opening life.ghosts before) (enabled : AreEnabled (home_of_world life.opening) life.ghosts (mapped life.opening (event ∷ before))) (known : AreKnown life.opening life.ghosts before)
     (told : AreToldTruly (home_of_world life.opening) (life_ghosts life.opening life.ghosts before).log (run life.opening before).now) where
   abbrev W : World
   W = run life.opening before
@@ -141,6 +144,18 @@ module _ (life : BegunLife) (before : List Event) (event : Event)
 
     below : head_in after.seen ≤ L'.fixed
     below = life_head_fixed life.opening life.start life.ghosts (event ∷ before) session after life.begins.store.now life.begins.fixed is_now
+
+    -- no floor lies above the begin, below which all is fixed
+    floor_fixed : s.floor.0 ≤ L'.fixed
+    floor_fixed =
+        let own = (begin.floors session s was).own in
+        let first : begin_in W ≡ begin_in life.opening = begin_same life before in
+        let same : begin_in (run life.opening (event ∷ before)) ≡ begin_in life.opening = begin_same life (event ∷ before) in
+        let fixed = begin_fixed life (event ∷ before) in
+        omega (arith, own, first, same, fixed)
+
+    live : is_attempting s.step ≡ true → Live (floor_in s.attempt.pending.request) H L
+    live attempting = live_below (begin_in W) (floor_in s.attempt.pending.request) H L ((begin.floors session s was).theirs.attempted attempting) begin.live
 
     knows : KnowsSo H L s.seen s
     knows =
@@ -196,6 +211,8 @@ module _ (life : BegunLife) (before : List Event) (event : Event)
         inputs = subst (λ (k : Seat). AttemptsSo k s) (sym (same_seat life.opening before session)) (life_attempts life.opening before session s life.begins.world was);
         newest = λ attempting tries. passes given life opens before enabled_so session s was attempting tries (all_know session s was) (all_apart session s was) (says attempting tries);
         marks = λ attempting tries. marks given life opens before enabled_so session s was attempting tries (all_know session s was) (all_apart session s was) (says attempting tries);
+        live = live;
+        floor = floor_fixed;
         says = λ attempting. told session s was attempting;
         waiting = waiting;
         trying = λ attempting its. attempt_stays life before event (attempt_after K s reply) enabled leaves_own its;
@@ -215,7 +232,7 @@ module _ (life : BegunLife) (before : List Event) (event : Event)
 
       comes : SessionComes W session s after → KnowsSo H L' s.seen after
       comes (Stays is) = subst (KnowsSo H L' s.seen) (sym is) stays
-      comes (Begins its idle is) = subst (KnowsSo H L' s.seen) (sym is) (call_so H L' K s its idle (omega (arith, rises, below)) stays)
+      comes (Begins its idle is) = subst (KnowsSo H L' s.seen) (sym is) (call_so H L' K s its idle (omega (arith, rises, below)) floor_fixed stays)
       comes (Steps is) = moved is (is_calm s.step) refl
 
     goes : (b : Bool) → is_of_session session event ≡ b → KnowsSo H L' s.seen after

@@ -2,6 +2,7 @@
 use Rattle.std.proofs.Common.{◌≡◌, ℕ, ◌∙◌, refl, sym, ap, subst, Bool, true, false}
 use Rattle.std.specs.Prelude.{◌==◌, if◌then◌else◌, Option, Some, None}
 use Rattle.std.specs.Option.{is_some}
+use Rattle.fkv_base.specs.declared.numbers.Addr.{Addr}
 use Rattle.fkv_map.specs.Keys.{key_of}
 use Rattle.fkv_plane.specs.declared.asks.Ask.{Ask}
 use Rattle.fkv_plane.specs.declared.asks.Ask.TheVariants.{Done}
@@ -15,6 +16,7 @@ use Rattle.law_commit.specs.Below.fkv_ops.HeldRecord.{HeldRecord}
 use Rattle.law_commit.specs.Below.fkv_ops.Occasion.{Occasion}
 use Rattle.law_commit.specs.Below.fkv_ops.Seen.{Seen}
 use Rattle.law_commit.specs.Below.fkv_ops.HeaderWords.{header_said}
+use Rattle.law_commit.specs.Below.fkv_ops.Requests.{is_chain_end}
 use Rattle.law_commit.specs.Below.fkv_ops.Values.{value_of}
 use Rattle.law_commit.specs.Below.fkv_ops.Trying.{told_value, try_ask}
 use Rattle.law_commit.specs.Below.fkv_pending.TheAttempting.{Attempting}
@@ -25,9 +27,9 @@ use Rattle.law_commit.specs.Below.fkv_pending.MailRecord.{MailRecord}
 use Rattle.law_commit.specs.Below.fkv_pending.MailTask.TheVariants.{Take}
 use Rattle.law_commit.specs.Below.fkv_pending.TheMailing.TheVariants.{LoadsState}
 use Rattle.law_commit.specs.Below.fkv_pending.PendingRequest.{PendingRequest}
-use Rattle.law_commit.specs.Below.fkv_pending.Mailing.{mail_ask, mail_next}
-use Rattle.law_commit.specs.Below.fkv_pending.Pending.{with_sought, with_held, with_latch, with_asked}
-use Rattle.law_commit.specs.Below.fkv_pending.Attempting.{AttemptState, attempt_begun, attempt_ended, waits_for_disk, puts_addr, puts, tries, is_seeking_read, goes_on, held_of, moved_on, read_on, record_taken, not_ready, look_ledto, held_kept, awaits_record, tried, try_ledto, put_ledto, mail_moved, try_moved, attempting_next, attempt_next, new_attempt}
+use Rattle.law_commit.specs.Below.fkv_pending.Mailing.{begin_told, is_gone, mail_ask, mail_next}
+use Rattle.law_commit.specs.Below.fkv_pending.Pending.{with_sought, with_held, with_latch, with_asked, without_gone}
+use Rattle.law_commit.specs.Below.fkv_pending.Attempting.{AttemptState, attempt_begun, attempt_ended, waits_for_disk, puts_addr, puts, tries, is_seeking_read, goes_on, held_of, moved_on, read_on, record_taken, goes_anew, mail_taken, not_ready, look_ledto, held_kept, awaits_record, tried, try_ledto, put_ledto, mail_moved, try_moved, attempting_next, attempt_next, new_attempt}
 use Rattle.law_order.specs.Rows.Asked.{SeeksWhereAsked, SeeksAt, AttemptSeeks}
 
 -- ---- a request as it changes
@@ -82,21 +84,41 @@ read_seeks : (a : AttemptState) (its : MailRecord) (said : HeaderSaid) → Seeks
 read_seeks a its Spoiled pending = puts_seeks a pending
 read_seeks a its (Says previous version) pending =
     let on : AttemptState = record a { pending = with_sought a.pending (moved_on a.pending.sought previous) } in
-    let below : AttemptState = if previous.0 == 0 then attempt_ended a answer.Absent else puts on in
+    let ends : Bool = is_chain_end a.pending.request.floor previous in
+    let below : AttemptState = if ends then attempt_ended a answer.Absent else puts on in
     either_seeks (its.key.0 == (key_of a.pending.request.op).0) (attempt_ended a (told_value (value_of its.value))) below (ended_seeks a (told_value (value_of its.value)) pending)
-    (either_seeks (previous.0 == 0) (attempt_ended a answer.Absent) (puts on) (ended_seeks a answer.Absent pending) (puts_seeks on (moved_seeks a.pending a.pending.sought previous refl pending)))
+    (either_seeks ends (attempt_ended a answer.Absent) (puts on) (ended_seeks a answer.Absent pending) (puts_seeks on (moved_seeks a.pending a.pending.sought previous refl pending)))
 
 record_seeks : (p : Places) (bits : ℕ) (a : AttemptState) (its : MailRecord) (said : HeaderSaid) → SeeksWhereAsked a.pending → AttemptSeeks (record_taken p bits a its said)
 record_seeks p bits a its said pending =
     let holds : AttemptState = record a { pending = with_held a.pending (held_of a.pending.sought its said) } in
     either_seeks (is_seeking_read a) (read_on a its said) (tries p bits holds) (read_seeks a its said pending) (tries_seeks p bits holds (held_seeks a.pending (held_of a.pending.sought its said) pending))
 
+lost_seeks : (pending : PendingRequest) (begin : Addr) → pending.has_asked ≡ false → SeeksWhereAsked (without_gone pending begin)
+unfolding without_gone
+lost_seeks pending begin none = λ read asked. cc
+
+anew_seeks : (p : Places) (bits : ℕ) (a : AttemptState) (begin : Addr) → a.pending.has_asked ≡ false → AttemptSeeks (goes_anew p bits a begin)
+anew_seeks p bits a begin none =
+    let its : AttemptState = record a { pending = without_gone a.pending begin } in
+    let pending : SeeksWhereAsked its.pending = lost_seeks a.pending begin none in
+    either_seeks (is_seeking_read a) (waits_for_disk its) (tries p bits its) (ended_seeks its _ pending) (tries_seeks p bits its pending)
+
+mail_seeks : (p : Places) (bits : ℕ) (a : AttemptState) (its : MailRecord) → a.pending.has_asked ≡ false → SeeksWhereAsked a.pending → AttemptSeeks (mail_taken p bits a its)
+mail_seeks p bits a its none pending =
+    either_seeks (is_gone its) (goes_anew p bits a (begin_told its)) (record_taken p bits a its (header_said its.header)) (anew_seeks p bits a (begin_told its) none)
+    (record_seeks p bits a its (header_said its.header) pending)
+
+none_asked : (pending : PendingRequest) → (with_asked pending false).has_asked ≡ false
+unfolding with_asked
+none_asked pending = refl
+
 waits_seeks : (p : Places) (bits : ℕ) (a : AttemptState) → SeeksWhereAsked a.pending → AttemptSeeks (not_ready p bits a)
 waits_seeks p bits a pending = either_seeks (is_seeking_read a) (waits_for_disk a) (tries p bits a) (ended_seeks a _ pending) (tries_seeks p bits a pending)
 
 look_seeks : (p : Places) (bits : ℕ) (a : AttemptState) (ask : Ask MailAnswer) → a.step ≡ Looks → SeeksWhereAsked a.pending → AttemptSeeks (look_ledto p bits a ask)
 unfolding look_ledto
-look_seeks p bits a (Done (mail.Taken its)) at pending = record_seeks p bits (record a { is_emptied = true; pending = with_asked a.pending false }) its (header_said its.header) (taken_seeks a.pending)
+look_seeks p bits a (Done (mail.Taken its)) at pending = mail_seeks p bits (record a { is_emptied = true; pending = with_asked a.pending false }) its (none_asked a.pending) (taken_seeks a.pending)
 look_seeks p bits a (Done other) at pending = waits_seeks p bits a pending
 look_seeks p bits a ask at pending = seeks_at a Looks at pending tt
 

@@ -20,7 +20,7 @@ use Rattle.law_commit.specs.Below.fkv_world.World.{Event, Now}
 use Rattle.law_commit.specs.Below.law_local.Tries.AttemptRows.{PendingKnows}
 use Rattle.law_commit.specs.Below.law_local.Tries.HeldRows.{SoughtKnows}
 use Rattle.law_commit.specs.Below.law_local.Tries.ReadRows.{SoughtReads}
-use Rattle.law_commit.specs.Below.law_local.Tries.TryRows.{head_in, key_in}
+use Rattle.law_commit.specs.Below.law_local.Tries.TryRows.{floor_in, head_in, key_in}
 use Rattle.law_log.specs.Chains.{value_at}
 use Rattle.law_log.specs.Enabled.{AreEnabled, IsLineEnabled, IsOpened}
 use Rattle.law_log.specs.Ghosts.{Ghosts, GhostEvent, HasValue, Log, Reading, Tells, Walks, first_from, ghost_run}
@@ -85,15 +85,15 @@ record IsSettledHere (home : ℕ → ℕ) (log : Log) (reading : Reading) : Type
   is : reading ≡ Walks key seen from
   at : IsSettledAt home log key from (value_at (log.cells (first_from home log key from)))
 
-sought_settled : (home : ℕ → ℕ) (m : Map) (log : Log) (key low : ℕ) (reading : Reading) (sought : Option DiskRecord) → Held home m log → is_some sought ≡ true → SoughtReads key reading sought → SoughtKnows home log key low sought → low ≤ log.fixed
+sought_settled : (home : ℕ → ℕ) (m : Map) (log : Log) (floor key low : ℕ) (reading : Reading) (sought : Option DiskRecord) → Held home m log → is_some sought ≡ true → SoughtReads key reading sought → SoughtKnows home log floor key low sought → low ≤ log.fixed
     → IsSettledHere home log reading
-sought_settled home m log key low reading None held some goes knows high = cc
-sought_settled home m log key low reading (Some it) held some goes knows high = record {
+sought_settled home m log floor key low reading None held some goes knows high = cc
+sought_settled home m log floor key low reading (Some it) held some goes knows high = record {
   key = key;
   seen = goes.0;
   from = entry_addr it.entry;
   is = goes.1;
-  at = record { begins = knows.way.begins; fixed = fixed_from home log key (entry_addr it.entry) it.addr.0 low held.chains knows high; its_value = refl };
+  at = record { begins = knows.comes.way.begins; fixed = fixed_from home log key (entry_addr it.entry) it.addr.0 low held.chains knows.comes high; its_value = refl };
 }
 
 -- a session that rests polls none
@@ -125,7 +125,7 @@ module _ (begins : BeginsItsLife) (keeps : InEachLife KeepsItsOrder) (seeks : In
     };
     settled =
         subst (λ (t : ℕ). IsSettledHere home (life_ghosts opening ghosts events).log ((life_ghosts opening ghosts events).reads (read_waiting number t (run opening events).past.trace))) its_ticket
-        (sought_settled home map_of (life_ghosts opening ghosts events).log (key_in waiting.pending.request) (head_in waiting.s.seen) ((life_ghosts opening ghosts events).reads (read_waiting number (ticket_of waiting.pending.name) (run opening events).past.trace)) waiting.pending.sought
+        (sought_settled home map_of (life_ghosts opening ghosts events).log (floor_in waiting.pending.request) (key_in waiting.pending.request) (head_in waiting.s.seen) ((life_ghosts opening ghosts events).reads (read_waiting number (ticket_of waiting.pending.name) (run opening events).past.trace)) waiting.pending.sought
         (run_held home map_of o.number.0 ghosts (mapped opening events) start.log order.enabled)
         ((seeks (life_of bytes o n events) is_life).0 number waiting.s waiting.index waiting.pending waiting.found waiting.got (not_polling waiting.s.step waiting.index waiting.idle) read)
         so.1 knows.sought knows.request.low);

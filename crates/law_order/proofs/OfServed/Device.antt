@@ -5,7 +5,7 @@ use Rattle.law_commit.specs.Below.fkv_world.Runs.{run}
 use Rattle.law_commit.specs.Below.fkv_world.World.{Event}
 use Rattle.law_opening.proofs.OfChanges.Openings.{linked_log}
 use Rattle.law_opening.specs.Changes.Fits.{CellsFit}
-use Rattle.law_opening.specs.Changes.Laws.{BeginsFitting}
+use Rattle.law_opening.specs.Changes.Laws.{BeginsFitting, BeginsLinked}
 use Rattle.law_commit.proofs.Below.law_world.OfGuarded.Worlds.{life_shows}
 use Rattle.law_order.specs.Known.Begins.{BegunLife, home_of_world}
 use Rattle.law_commit.proofs.Below.law_refine.OfEvents.Fixed.{ghost_fixed}
@@ -14,21 +14,25 @@ use Rattle.law_commit.specs.Below.law_refine.Events.GhostEvents.{life_ghosts, sa
 some_start : (fixed safe start : ℕ) → 0 < fixed → fixed ≡ safe → safe ≡ start → 0 < start
 some_start fixed safe start some one other = omega (arith, some, one, other)
 
+pub begins_linked : (life : BegunLife) → BeginsLinked life.opening life.start life.lists life.ghosts
+begins_linked life = record {
+  world = life.begins.world;
+  now = life.begins.store.now;
+  some = some_start life.ghosts.log.fixed (safe_at life.opening.now) life.start life.begins.log.some_fixed life.begins.fixed life.begins.store.now.words.safe_read_only;
+  index = life.begins.index;
+  unborn = life.begins.unborn;
+  reserves = life.begins.reserves;
+  heads = life.begins.heads;
+  linked = linked_log (home_of_world life.opening) life.ghosts.log life.begins.log.chains;
+  warm = life.begins.warm;
+}
+
 pub begins_fitting : (life : BegunLife) → CellsFit life.ghosts.log → BeginsFitting life.opening life.start life.lists life.ghosts
 begins_fitting life fits = record {
-  linked = record {
-    world = life.begins.world;
-    now = life.begins.store.now;
-    some = some_start life.ghosts.log.fixed (safe_at life.opening.now) life.start life.begins.log.some_fixed life.begins.fixed life.begins.store.now.words.safe_read_only;
-    index = life.begins.index;
-    unborn = life.begins.unborn;
-    reserves = life.begins.reserves;
-    heads = life.begins.heads;
-    linked = linked_log (home_of_world life.opening) life.ghosts.log life.begins.log.chains;
-    warm = life.begins.warm;
-  };
+  linked = begins_linked life;
   store = life.begins.store;
   mailboxes = life.begins.mailboxes;
+  floors = life.begins.floors;
   device = life.begins.device;
   fits = fits;
   no_history = life.begins.log.no_history;

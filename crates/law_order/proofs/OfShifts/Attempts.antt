@@ -1,6 +1,7 @@
 -- An attempt ends as a shift just where its try does.
 use Rattle.std.proofs.Common.{◌≡◌, ℕ, ◌∙◌, refl, sym, ap, subst, Bool, true, false}
 use Rattle.std.specs.Prelude.{◌==◌, ⊤, if◌then◌else◌, Option, Some, None}
+use Rattle.fkv_base.specs.declared.numbers.Addr.{Addr}
 use Rattle.fkv_map.specs.Keys.{key_of}
 use Rattle.law_commit.specs.Below.fkv_ops.DiskRecord.{DiskRecord}
 use Rattle.law_commit.specs.Below.fkv_ops.TryAnswer.{TryAnswer}
@@ -12,7 +13,7 @@ use Rattle.law_commit.specs.Below.fkv_ops.Occasion.{Occasion}
 use Rattle.law_commit.specs.Below.fkv_ops.Request.{Request}
 use Rattle.law_commit.specs.Below.fkv_ops.Seen.{Seen}
 use Rattle.law_commit.specs.Below.fkv_ops.HeaderWords.{header_said}
-use Rattle.law_commit.specs.Below.fkv_ops.Requests.{is_read}
+use Rattle.law_commit.specs.Below.fkv_ops.Requests.{is_chain_end, is_read}
 use Rattle.law_commit.specs.Below.fkv_ops.Trying.{is_prepare, told_value, try_ask, try_next}
 use Rattle.law_commit.specs.Below.fkv_ops.Values.{value_of}
 use Rattle.law_commit.specs.Below.fkv_ops.TheTrying.{Trying}
@@ -27,10 +28,10 @@ use Rattle.law_commit.specs.Below.fkv_pending.MailRecord.{MailRecord}
 use Rattle.law_commit.specs.Below.fkv_pending.MailTask.TheVariants.{Take}
 use Rattle.law_commit.specs.Below.fkv_pending.TheMailing.TheVariants.{LoadsState}
 use Rattle.law_commit.specs.Below.fkv_pending.PendingRequest.{PendingRequest}
-use Rattle.law_commit.specs.Below.fkv_pending.Attempting.{AttemptState, attempt_begun, attempt_ended, attempt_next, attempting_next, awaits_record, goes_on, held_kept, held_of, is_seeking_read, look_ledto, moved_on, new_attempt, not_ready, put_ledto, puts, puts_addr, read_on, record_taken, tried, tries, try_ledto, waits_for_disk}
-use Rattle.law_commit.specs.Below.fkv_pending.Mailing.{mail_ask, mail_next}
+use Rattle.law_commit.specs.Below.fkv_pending.Attempting.{AttemptState, attempt_begun, attempt_ended, attempt_next, attempting_next, awaits_record, goes_anew, goes_on, held_kept, held_of, is_seeking_read, look_ledto, mail_taken, moved_on, new_attempt, not_ready, put_ledto, puts, puts_addr, read_on, record_taken, tried, tries, try_ledto, waits_for_disk}
+use Rattle.law_commit.specs.Below.fkv_pending.Mailing.{begin_told, is_gone, mail_ask, mail_next}
 use Rattle.law_commit.proofs.Below.fkv_pending.Shown.{AttemptAsksAt, AttemptRestsOrAsks}
-use Rattle.law_commit.specs.Below.fkv_pending.Pending.{with_asked, with_held, with_latch, with_sought}
+use Rattle.law_commit.specs.Below.fkv_pending.Pending.{with_asked, with_held, with_latch, with_sought, without_gone}
 use Rattle.fkv_plane.specs.declared.asks.Ask.{Ask}
 use Rattle.fkv_plane.specs.declared.asks.Ask.TheVariants.{Done}
 use Rattle.fkv_plane.specs.declared.places.Places.{Places}
@@ -57,7 +58,8 @@ ends_so X F p t its rests asks row = by_step t.step (sym (try_done p t rests) �
     by_step (trying.Ended told) end e so = let same : told ≡ its = cc in subst (IsShift X F) same so
     by_step step end e so = cc
 
-module _ (X F : Type 0) (C : PendingRequest → Type 0) (asked : (pending : PendingRequest) (b : Bool) → C pending → C (with_asked pending b)) (held : (pending : PendingRequest) (its : Option HeldRecord) → C pending → C (with_held pending its)) (p : Places) where
+module _ (X F : Type 0) (C : PendingRequest → Type 0) (asked : (pending : PendingRequest) (b : Bool) → C pending → C (with_asked pending b)) (held : (pending : PendingRequest) (its : Option HeldRecord) → C pending → C (with_held pending its))
+    (lost : (pending : PendingRequest) (begin : Addr) → C pending → C (without_gone pending begin)) (p : Places) where
   abbrev Row : AttemptState → Type 0
   Row a = AttemptRow X F C p a a.step
 
@@ -83,20 +85,30 @@ module _ (X F : Type 0) (C : PendingRequest → Type 0) (asked : (pending : Pend
   read_row a its Spoiled = puts_row a
   read_row a its (Says previous version) =
       let on : AttemptState = record a { pending = with_sought a.pending (moved_on a.pending.sought previous) } in
-      either (its.key.0 == (key_of a.pending.request.op).0) (attempt_ended a (told_value (value_of its.value))) (if previous.0 == 0 then attempt_ended a answer.Absent else puts on) (told_row a (value_of its.value))
-      (either (previous.0 == 0) (attempt_ended a answer.Absent) (puts on) tt (puts_row on))
+      let ends : Bool = is_chain_end a.pending.request.floor previous in
+      either (its.key.0 == (key_of a.pending.request.op).0) (attempt_ended a (told_value (value_of its.value))) (if ends then attempt_ended a answer.Absent else puts on) (told_row a (value_of its.value))
+      (either ends (attempt_ended a answer.Absent) (puts on) tt (puts_row on))
 
   taken_row : (bits : ℕ) (a : AttemptState) (its : MailRecord) (said : HeaderSaid) → C a.pending → Row (record_taken p bits a its said)
   taken_row bits a its said came =
       let holds : AttemptState = record a { pending = with_held a.pending (held_of a.pending.sought its said) } in
       either (is_seeking_read a) (read_on a its said) (tries p bits holds) (read_row a its said) (tries_row bits holds (held a.pending (held_of a.pending.sought its said) came))
 
+  anew_row : (bits : ℕ) (a : AttemptState) (begin : Addr) → C a.pending → Row (goes_anew p bits a begin)
+  anew_row bits a begin came =
+      let its : AttemptState = record a { pending = without_gone a.pending begin } in
+      either (is_seeking_read a) (waits_for_disk its) (tries p bits its) tt (tries_row bits its (lost a.pending begin came))
+
+  mail_row : (bits : ℕ) (a : AttemptState) (its : MailRecord) → C a.pending → Row (mail_taken p bits a its)
+  mail_row bits a its came =
+      either (is_gone its) (goes_anew p bits a (begin_told its)) (record_taken p bits a its (header_said its.header)) (anew_row bits a (begin_told its) came) (taken_row bits a its (header_said its.header) came)
+
   ready_row : (bits : ℕ) (a : AttemptState) → C a.pending → Row (not_ready p bits a)
   ready_row bits a came = either (is_seeking_read a) (waits_for_disk a) (tries p bits a) tt (tries_row bits a came)
 
   look_row : (bits : ℕ) (a : AttemptState) (ask : Ask MailAnswer) → a.step ≡ Looks → C a.pending → Row (look_ledto p bits a ask)
   unfolding look_ledto
-  look_row bits a (Done (mail.Taken its)) at came = taken_row bits (record a { is_emptied = true; pending = with_asked a.pending false }) its (header_said its.header) (asked a.pending false came)
+  look_row bits a (Done (mail.Taken its)) at came = mail_row bits (record a { is_emptied = true; pending = with_asked a.pending false }) its (asked a.pending false came)
   look_row bits a (Done other) at came = ready_row bits a came
   look_row bits a ask at came = subst (AttemptRow X F C p a) (sym at) came
 

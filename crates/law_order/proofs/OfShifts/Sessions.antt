@@ -3,6 +3,7 @@ use Rattle.std.proofs.Common.{◌≡◌, ◌⊎◌, inl, inr, ℕ, ◌+◌, ◌�
 use Rattle.std.specs.Prelude.{⊤, ◌||◌, ◌==◌, Option, Some, None, if◌then◌else◌, not, slice_get, slice_set}
 use Rattle.fkv_base.specs.declared.faults.Fault.{Fault}
 use Rattle.fkv_base.specs.declared.faults.Fault.TheVariants as fault
+use Rattle.fkv_base.specs.declared.numbers.Addr.{Addr}
 use Rattle.fkv_map.specs.declared.operations.Call.{Call}
 use Rattle.fkv_map.specs.declared.operations.Call.TheVariants as call
 use Rattle.fkv_map.specs.declared.operations.Op.{Op}
@@ -24,7 +25,7 @@ use Rattle.law_commit.specs.Below.fkv_pending.TheMailing.TheVariants.{LoadsState
 use Rattle.law_commit.specs.Below.fkv_pending.PendingRequest.{PendingRequest}
 use Rattle.law_commit.specs.Below.fkv_pending.Attempting.{AttemptState, attempt_ask, attempt_begun, attempt_next}
 use Rattle.law_commit.specs.Below.fkv_pending.Mailing.{mail_ask, mail_next}
-use Rattle.law_commit.specs.Below.fkv_pending.Pending.{with_asked, with_held}
+use Rattle.law_commit.specs.Below.fkv_pending.Pending.{with_asked, with_held, without_gone}
 use Rattle.law_commit.proofs.Below.fkv_pending.Shown.{AttemptRestsOrAsks, attempt_begun_rests, attempt_rests}
 use Rattle.fkv_plane.specs.declared.asks.Ask.{Ask}
 use Rattle.fkv_plane.specs.declared.asks.Ask.TheVariants.{Done}
@@ -37,7 +38,7 @@ use Rattle.law_commit.specs.Below.fkv_session.Sitting.{Sitting}
 use Rattle.law_commit.specs.Below.fkv_session.Sitting.TheVariants.{Attempts, CatchesUp, ClearsMail, Idle, Leaves, LoadsDurable, Polls, StoresCut, StoresOwing, Turns}
 use Rattle.law_commit.specs.Below.fkv_session.CatchingUp.{catch_ask, refresh_begun, wake_begun}
 use Rattle.law_commit.specs.Below.fkv_session.OwnTurns.{own_turn_begun}
-use Rattle.law_commit.specs.Below.fkv_session.Sessions.{Seat, SessionState, accepts, answers, answers_after_turn, asks_after, attempt_left, attempt_ledto, attempt_moved, attempted, attempts, bits_of, call_begun, catch_ledto, caught, clear_ledto, finishes_request, is_finished, is_no_room, is_owed, is_word_ask, keeps_request, lacks_room, leave_ledto, op_begun, own_turn_moved, poll_begun, poll_call, poll_ledto, polls_at, polls_request, refresh_call, refusal_of, refuses, request_finished, request_in_hand, room_of, serial_taken, session_ask, session_begun, session_next, shifts, sitting_next, sleep_call, ticket_after, turn_ledto, update_done, wake_call, with_request}
+use Rattle.law_commit.specs.Below.fkv_session.Sessions.{Seat, SessionState, accepts, answers, answers_after_turn, asks_after, attempt_left, attempt_ledto, attempt_moved, attempted, attempts, bits_of, call_begun, catch_ledto, caught, clear_ledto, finishes_request, is_finished, is_no_room, is_owed, is_word_ask, keeps_request, lacks_room, leave_ledto, op_begun, own_turn_moved, poll_begun, poll_call, poll_ledto, poll_left, polls_at, polls_request, refresh_call, refusal_of, refuses, request_finished, request_in_hand, room_of, serial_taken, session_ask, session_begun, session_next, shifts, sitting_next, sleep_call, ticket_after, turn_ledto, update_done, wake_call, with_request}
 use Rattle.law_commit.specs.Below.fkv_session.Shares.{is_shift}
 use Rattle.law_commit.proofs.Below.fkv_session.Shown.{attempt_ends}
 use Rattle.fkv_words.specs.PhaseWords.{phase_said}
@@ -61,6 +62,10 @@ come_asked seen pending b come = come
 come_held : (seen : Seen) (pending : PendingRequest) (its : Option HeldRecord) → Come seen pending → Come seen (with_held pending its)
 unfolding with_held
 come_held seen pending its come = come
+
+come_lost : (seen : Seen) (pending : PendingRequest) (begin : Addr) → Come seen pending → Come seen (without_gone pending begin)
+unfolding without_gone
+come_lost seen pending begin come = come
 
 pub record Shifting (X F : Type 0) (C : PendingRequest → Type 0) (k : Seat) (a : AttemptState) : Type 0 where
   pub rests : AttemptRestsOrAsks a
@@ -97,7 +102,7 @@ module _ (top : ℕ) (k : Seat) where
   begun_call : (X : Type 0) (s : SessionState) (seen : Seen) → Shifting X ⊤ Any k (attempt_begun k.places (bits_of k) (request_in_hand s) seen (AtCall (bounds_of k.shape)) s.spare s.is_orphaned)
   begun_call X s seen = record {
     rests = attempt_begun_rests k.places (bits_of k) (request_in_hand s) seen (AtCall (bounds_of k.shape)) s.spare s.is_orphaned;
-    row = attempt_begins_row X ⊤ Any (λ pending b its. tt) (λ pending held its. tt) k.places (bits_of k) (request_in_hand s) seen (AtCall (bounds_of k.shape)) s.spare s.is_orphaned tt;
+    row = attempt_begins_row X ⊤ Any (λ pending b its. tt) (λ pending held its. tt) (λ pending begin its. tt) k.places (bits_of k) (request_in_hand s) seen (AtCall (bounds_of k.shape)) s.spare s.is_orphaned tt;
   }
 
   -- a poll begins what waits
@@ -105,7 +110,7 @@ module _ (top : ℕ) (k : Seat) where
   settled s (Polls i) at come (inl goes) = goes
   settled s (Polls i) at come (inr begins) = subst (Shifting ⊥ ⊥ (Come s.seen) k) (sym begins.is) (record {
     rests = attempt_begun_rests k.places (bits_of k) begins.pending s.seen AtPoll begins.spare begins.is_orphaned;
-    row = attempt_begins_row ⊥ ⊥ (Come s.seen) (come_asked s.seen) (come_held s.seen) k.places (bits_of k) begins.pending s.seen AtPoll begins.spare begins.is_orphaned (come i i begins.pending at begins.waits);
+    row = attempt_begins_row ⊥ ⊥ (Come s.seen) (come_asked s.seen) (come_held s.seen) (come_lost s.seen) k.places (bits_of k) begins.pending s.seen AtPoll begins.spare begins.is_orphaned (come i i begins.pending at begins.waits);
   })
   settled s (Attempts false) at come row = row
   settled s (Attempts true) at come row = row
@@ -198,7 +203,7 @@ module _ (top : ℕ) (k : Seat) where
 
   poll_leads : (s : SessionState) (i : ℕ) (ask : Ask TryAnswer) → s.step ≡ Polls i → Shifting ⊥ ⊥ (Come s.seen) k s.attempt → Leads (poll_ledto k s i ask)
   unfolding poll_ledto
-  poll_leads s i (Done its) at knows = either (is_finished its) (finishes_request k (attempt_left s) i its) (keeps_request k (attempt_left s) i its) (finishes_lead (attempt_left s) i its) (keeps_lead (attempt_left s) i its)
+  poll_leads s i (Done its) at knows = either (is_finished its) (finishes_request k (poll_left s) i its) (keeps_request k (poll_left s) i its) (finishes_lead (poll_left s) i its) (keeps_lead (poll_left s) i its)
   poll_leads s i ask at knows = still s (Polls i) at (inl knows)
 
   turned_leads : (s : SessionState) (its : Told) (ask : Ask (Unit {0})) → s.step ≡ Turns its → Leads (turn_ledto s its ask)
@@ -223,20 +228,20 @@ module _ (top : ℕ) (k : Seat) where
     next = attempt_next k.places (bits_of k) (room_of k) k.number s.attempt reply
 
     goes : (X F : Type 0) (C : PendingRequest → Type 0) → ((pending : PendingRequest) (b : Bool) → C pending → C (with_asked pending b)) → ((pending : PendingRequest) (its : Option HeldRecord) → C pending → C (with_held pending its))
-        → (s.attempt.step ≡ Tries → C s.attempt.pending → ShiftsBy X F k.places s.attempt.trial reply) → Shifting X F C k s.attempt → Shifting X F C k next
-    goes X F C asked held by knows = record {
+        → ((pending : PendingRequest) (begin : Addr) → C pending → C (without_gone pending begin)) → (s.attempt.step ≡ Tries → C s.attempt.pending → ShiftsBy X F k.places s.attempt.trial reply) → Shifting X F C k s.attempt → Shifting X F C k next
+    goes X F C asked held lost by knows = record {
       rests = attempt_rests k.places (bits_of k) (room_of k) k.number s.attempt reply knows.rests;
-      row = attempt_shifts X F C asked held k.places (bits_of k) (room_of k) k.number s.attempt reply knows.rests by knows.row;
+      row = attempt_shifts X F C asked held lost k.places (bits_of k) (room_of k) k.number s.attempt reply knows.rests by knows.row;
     }
 
     first_next : s.step ≡ Attempts false → Shifting (HasPassed top s.seen) ⊤ Any k s.attempt → Shifting (HasPassed top s.seen) ⊤ Any k next
-    first_next at knows = goes (HasPassed top s.seen) ⊤ Any (λ pending b its. tt) (λ pending held its. tt) (λ tries its. so.first at tries) knows
+    first_next at knows = goes (HasPassed top s.seen) ⊤ Any (λ pending b its. tt) (λ pending held its. tt) (λ pending begin its. tt) (λ tries its. so.first at tries) knows
 
     second_next : s.step ≡ Attempts true → is_prepare s.seen.phase ≡ false → Shifting ⊥ ⊤ Any k s.attempt → Shifting ⊥ ⊤ Any k next
-    second_next at other knows = goes ⊥ ⊤ Any (λ pending b its. tt) (λ pending held its. tt) (λ tries its. so.second at tries other) knows
+    second_next at other knows = goes ⊥ ⊤ Any (λ pending b its. tt) (λ pending held its. tt) (λ pending begin its. tt) (λ tries its. so.second at tries other) knows
 
     poll_next : (i : ℕ) → s.step ≡ Polls i → Shifting ⊥ ⊥ (Come s.seen) k s.attempt → Shifting ⊥ ⊥ (Come s.seen) k next
-    poll_next i at knows = goes ⊥ ⊥ (Come s.seen) (come_asked s.seen) (come_held s.seen) (λ tries its. so.polls i at tries its) knows
+    poll_next i at knows = goes ⊥ ⊥ (Come s.seen) (come_asked s.seen) (come_held s.seen) (come_lost s.seen) (λ tries its. so.polls i at tries its) knows
 
     sits_lead : (asks : ℕ) (step : Sitting) → s.step ≡ step → SitsRow top k s step → Leads (sitting_next k (record s { asks = asks; effect = None }) step reply)
     unfolding sitting_next

@@ -1,6 +1,6 @@
 -- A try ends as a shift at two places alone: where it can't take its share, and where its walk ends.
 use Rattle.std.proofs.Common.{◌≡◌, ◌⊎◌, inl, inr, ℕ, refl, sym, subst, Bool, true, false}
-use Rattle.std.specs.Prelude.{◌==◌, ◌&&◌, ⊤, nat_le, not, if◌then◌else◌, Option, Some, None}
+use Rattle.std.specs.Prelude.{◌==◌, ◌&&◌, ◌||◌, ⊤, nat_le, not, if◌then◌else◌, Option, Some, None}
 use Rattle.fkv_base.specs.declared.numbers.Addr.{Addr}
 use Rattle.fkv_base.specs.declared.numbers.Version.{Version}
 use Rattle.fkv_latch.specs.declared.latching.LatchAnswer.{LatchAnswer}
@@ -34,7 +34,7 @@ use Rattle.law_commit.specs.Below.fkv_ops.TheTrying.TheVariants.{Appends, Change
 use Rattle.law_commit.specs.Below.fkv_ops.WalkAnswer.{WalkAnswer}
 use Rattle.law_commit.specs.Below.fkv_ops.WalkAnswer.TheVariants as walk
 use Rattle.law_commit.specs.Below.fkv_ops.Appending.{append_ask, append_next}
-use Rattle.law_commit.specs.Below.fkv_ops.Requests.{is_blind, is_read}
+use Rattle.law_commit.specs.Below.fkv_ops.Requests.{is_blind, is_chain_end, is_read}
 use Rattle.law_commit.specs.Below.fkv_ops.Trying.{TryState, answer_ledto, append_ledto, appends, awaits, changes, copies, copies_from, count_loaded, current_ledto, ended_without, ends, ends_by, ends_so as ends_now, exclusive_dropped, exclusive_ledto, full_at, has_walked, held_used, is_bounded, is_own_version, is_wait, met_disk, met_nowhere, met_record, must_count, must_shift, new_try, old_ledto, region_met, shared_dropped, shared_ledto, tail_loaded, taken_loaded, takes_effect, told_value, try_begun, try_next, trying_next, walk_ledto, walked, walks, wants_exclusive, wants_shared, with_latch, is_next_marked, is_still_in, phase_loaded, is_surely_own}
 use Rattle.law_commit.specs.Below.fkv_ops.Values.{value_of}
 use Rattle.law_commit.specs.Below.fkv_ops.Walking.{walk_ask, walk_next, walk_on}
@@ -146,9 +146,10 @@ module _ (X F : Type 0) (p : Places) where
   unfolding held_used
   held_row t addr None = awaits_row t addr
   held_row t addr (Some held) =
-      either (held.entry == t.walk.entry) (if held.key.0 == (key_of t.request.op).0 then copies p t (Known held.value) false else if held.previous.0 == 0 then copies p t (Known absent_word) false else awaits p t held.previous) (awaits p t addr)
-      (either (held.key.0 == (key_of t.request.op).0) (copies p t (Known held.value) false) (if held.previous.0 == 0 then copies p t (Known absent_word) false else awaits p t held.previous) (copies_row t (Known held.value) false)
-      (either (held.previous.0 == 0) (copies p t (Known absent_word) false) (awaits p t held.previous) (copies_row t (Known absent_word) false) (awaits_row t held.previous)))
+      let end : Bool = is_chain_end t.request.floor held.previous in
+      either (held.entry == t.walk.entry) (if held.key.0 == (key_of t.request.op).0 then copies p t (Known held.value) false else if end then copies p t (Known absent_word) false else awaits p t held.previous) (awaits p t addr)
+      (either (held.key.0 == (key_of t.request.op).0) (copies p t (Known held.value) false) (if end then copies p t (Known absent_word) false else awaits p t held.previous) (copies_row t (Known held.value) false)
+      (either end (copies p t (Known absent_word) false) (awaits p t held.previous) (copies_row t (Known absent_word) false) (awaits_row t held.previous)))
       (awaits_row t addr)
 
   nowhere_row : (t : TryState) → Row (met_nowhere p t)
@@ -167,8 +168,10 @@ module _ (X F : Type 0) (p : Places) where
 
   disk_row : (t : TryState) (addr : Addr) → Row (met_disk p t addr)
   disk_row t addr =
-      either (is_read t.request.op) (awaits p t addr) (if is_blind t.request.op then copies p t (Known absent_word) false else held_used p t addr t.request.held) (awaits_row t addr)
-      (either (is_blind t.request.op) (copies p t (Known absent_word) false) (held_used p t addr t.request.held) (copies_row t (Known absent_word) false) (held_row t addr t.request.held))
+      let end : Bool = is_chain_end t.request.floor addr in
+      either (is_read t.request.op) (if end then ends p t answer.Absent else awaits p t addr) (if is_blind t.request.op || end then copies p t (Known absent_word) false else held_used p t addr t.request.held)
+      (either end (ends p t answer.Absent) (awaits p t addr) (ends_row t answer.Absent tt) (awaits_row t addr))
+      (either (is_blind t.request.op || end) (copies p t (Known absent_word) false) (held_used p t addr t.request.held) (copies_row t (Known absent_word) false) (held_row t addr t.request.held))
 
   changes_row : (t : TryState) (addr : Addr) → Row (changes t addr)
   changes_row t addr = either (is_blind t.request.op) (record t { step = SwapsValue addr }) (record t { walk = walk_on t.walk; step = LoadsCurrent addr }) tt tt

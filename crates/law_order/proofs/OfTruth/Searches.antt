@@ -23,6 +23,7 @@ use Rattle.law_commit.specs.Below.fkv_pending.TheAttempting.TheVariants.{Looks, 
 use Rattle.law_commit.specs.Below.fkv_pending.Attempting.{AttemptState}
 use Rattle.law_commit.specs.Below.law_local.Tries.AttemptRows.{AttemptRow}
 use Rattle.law_commit.specs.Below.law_local.Tries.MailRows.{IsTrueOfLook}
+use Rattle.law_commit.specs.Below.law_local.Tries.TryRows.{floor_in}
 use Rattle.law_commit.specs.Below.law_local.Tries.Replies.{LeadsToHead, EndsAtHead}
 use Rattle.law_commit.specs.Below.law_local.Tries.TryRows.{TryRow}
 use Rattle.law_commit.specs.Below.law_local.Tries.WordsShow.{WalkSearches, TrySearches, AttemptMeets}
@@ -58,7 +59,7 @@ try_searches home log p head reply request t step same begins row finds = tt
 
 -- ---- so the attempt meets the log
 pub attempt_meets : (home : ℕ → ℕ) (log : Log) (p : Places) (head reply : ℕ) (a : AttemptState) (step : Attempting) → BeginsFor home log head (key_of a.pending.request.op) → AttemptRow home log a step
-    → FindsBy p head reply (attempt_part a step).work → (step ≡ Looks → IsTrueOfLook log a.pending.sought a.mailing reply) → AttemptMeets home log p a step reply
+    → FindsBy p head reply (attempt_part a step).work → (step ≡ Looks → IsTrueOfLook log (floor_in a.pending.request) a.pending.sought a.mailing reply) → AttemptMeets home log p a step reply
 attempt_meets home log p head reply a Looks begins row finds look = look refl
 attempt_meets home log p head reply a Tries begins row finds look = try_searches home log p head reply a.pending.request a.trial a.trial.step row.its_request begins row.knows.row finds
 attempt_meets home log p head reply a step begins row finds look = tt

@@ -1,6 +1,7 @@
 -- What a commit of a life names, so that a store of its shape can have its slot.
 use Rattle.std.specs.Prelude.{◌≡◌, ◌⊎◌, ℕ, ◌<◌, ◌≤◌, List, [], length}
 use Rattle.fkv_base.specs.Limits.{last_version}
+use Rattle.fkv_base.specs.declared.classes.StoreClass.TheVariants.{Specified}
 use Rattle.fkv_base.specs.declared.commits.CommitKind.TheVariants.{Full}
 use Rattle.law_commit.specs.Below.fkv_keeper.LastCommits.{slot_place}
 use Rattle.law_commit.specs.Below.fkv_manifest.Newest.{slot_in}
@@ -30,8 +31,9 @@ abbrev pub NamesItsLost : Opened → Now → BegunCommit → Type 0
 NamesItsLost o n c = NamesNone o c ⊎ NamesLost n c
 
 -- A commit of a life is newer than the opening's, and not of the last version. Its checkpoint is its own or an older one, and it lies in the window of that. Its log ends at or above the opened
--- tail and the address where the scan begins, and at or below the address up to which the log is flushed. A checkpoint that it has made has room. If it uses
--- the checkpoint with which the store was opened, it names the lost ranges of then.
+-- tail and the address where the scan begins, and at or below the address up to which the log is flushed. Its log begins where that of the opened store does: at the
+-- first record or above it, not above the address where the scan begins, and in a specified store at the first record. A checkpoint that it has made has room. If it
+-- uses the checkpoint with which the store was opened, it names the lost ranges of then.
 pub record FitsLife (o : Opened) (n : Now) (flushed : ℕ) (c : BegunCommit) : Type 0 where
   pub few : c.number.0 < last_version
   pub newer : o.number.0 < c.number.0
@@ -41,6 +43,10 @@ pub record FitsLife (o : Opened) (n : Now) (flushed : ℕ) (c : BegunCommit) : T
   pub upwards : c.parts.checkpoint.first.0 ≤ c.parts.end.0
   pub later : o.tail.0 ≤ c.parts.end.0
   pub is_flushed : c.parts.end.0 ≤ flushed
+  pub begins : c.parts.begin ≡ o.begin
+  pub some_begin : 1 ≤ c.parts.begin.0
+  pub before_scan : c.parts.begin.0 ≤ c.parts.checkpoint.first.0
+  pub whole : n.shape.class ≡ Specified → c.parts.begin.0 ≡ 1
   pub room : c.parts.kind ≡ Full → c.parts.checkpoint.triples ≤ most_triples n.shape
   pub lost : NamesItsLost o n c
   pub as_opened : c.parts.checkpoint ≡ n.keeper.last.checkpoint → c.parts.lost ≡ n.keeper.lost

@@ -19,7 +19,7 @@ begun_so_far n bytes events = life_begun (beginning n bytes) events
 
 -- the slot of a commit, as the keeper writes it
 abbrev pub slot_of : Shape → BegunCommit → List ℕ
-slot_of shape c = slot_written shape.sessions c.number c.parts.end c.parts.checkpoint c.points c.parts.lost
+slot_of shape c = slot_written shape.sessions c.number c.parts.begin c.parts.end c.parts.checkpoint c.points c.parts.lost
 
 -- these are the bytes of its slot: as they are written, or as the store was opened with them
 abbrev pub AreSlotOf : Shape → List ℕ → BegunCommit → BegunCommit → List ℕ → Type 0

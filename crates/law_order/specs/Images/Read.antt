@@ -14,7 +14,7 @@ use Rattle.law_order.specs.Images.Opened.{newest_in}
 
 -- A slot says what the keeper writes for this commit, which fits its life.
 pub record SaysCommit (o : Opened) (n : Now) (flushed : ℕ) (c : BegunCommit) (newest : Newest) : Type 0 where
-  pub said : said_in newest.slot ≡ slot_said n.shape.sessions c.number c.parts.end c.parts.checkpoint c.points c.parts.lost
+  pub said : said_in newest.slot ≡ slot_said n.shape.sessions c.number c.parts.begin c.parts.end c.parts.checkpoint c.points c.parts.lost
   pub fits : FitsLife o n flushed c
 
 -- Or it is the one with which the store was opened, of the commit of then.

@@ -20,9 +20,9 @@ pub record ShowsGivenUp (image : scan.Log) (a : ℕ) (cell : Cell) : Type 0 wher
   pub leads : (let x = held in x.header.previous.0 ≡ cell.previous)
   pub falls : cell.previous < a
 
--- Below the flushed offset it shows each published record, those that the store was opened with too, and each that was given up in the life. So recovery passes over
+-- From its begin to below the flushed offset it shows each published record, those that the store was opened with too, and each that was given up in the life. So recovery passes over
 -- that, if its version is at most the one after the commit's.
 pub record ShowsFlushed (o : Opened) (n : Now) (bytes : List ℕ) (events : List Event) (image : scan.Log) : Type 0 where
-  pub published : (a : ℕ) (cell : Cell) → (let beside = ghosts_beside o n bytes events in beside.log.cells a ≡ Published cell) → a < flushed_so_far n bytes events → ShowsCell o.tail.0 image a cell
+  pub published : (a : ℕ) (cell : Cell) → (let beside = ghosts_beside o n bytes events in beside.log.cells a ≡ Published cell) → image.begin ≤ a → a < flushed_so_far n bytes events → ShowsCell o.tail.0 image a cell
   pub given_up : (a : ℕ) (cell : Cell) → (let beside = ghosts_beside o n bytes events in beside.log.cells a ≡ Dropped cell) → o.tail.0 ≤ a → a < flushed_so_far n bytes events → ShowsGivenUp image a cell
   pub dropped : (a : ℕ) (cell : Cell) → (let beside = ghosts_beside o n bytes events in beside.log.cells a ≡ Dropped cell) → o.tail.0 ≤ a → a < flushed_so_far n bytes events → cell.version ≤ image.version + 1 → ShowsDropped image a cell

@@ -1,8 +1,11 @@
 -- What a life begins with, beside the log of the order law.
-use Rattle.std.specs.Prelude.{◌≡◌, ℕ, ◌<◌, List}
+use Rattle.std.specs.Prelude.{◌≡◌, ℕ, ◌<◌, ◌≤◌, List, slice_get, Some}
 use Rattle.fkv_map.specs.Map.{Map}
 use Rattle.law_opening.specs.Changes.Images.{IsInImage}
+use Rattle.law_opening.specs.Changes.Laws.{begin_at}
 use Rattle.law_commit.specs.Floor.Stands.{OpensSeen}
+use Rattle.law_commit.specs.Below.fkv_session.Sessions.{SessionState}
+use Rattle.law_log.specs.Begins.{IsAbove}
 use Rattle.law_log.specs.Chains.{Cell, Published}
 use Rattle.law_log.specs.Ghosts.{Ghosts}
 use Rattle.law_log.specs.Enabled as order
@@ -20,10 +23,18 @@ use Rattle.law_commit.specs.Below.law_refine.Records.Warm.{MemoryShowsLog}
 abbrev pub home_of_world : World → ℕ → ℕ
 home_of_world w = home_in w.now.shape.bucket_bits
 
+-- the address at which its log begins
+abbrev pub begin_in : World → ℕ
+begin_in w = begin_at w.now
+
+-- each session has it as its floor
+abbrev pub GoByBegin : World → Type 0
+GoByBegin w = (session : ℕ) (s : SessionState) → slice_get w.now.sessions session ≡ Some s → s.floor ≡ w.now.keeper.last.begin
+
 -- A store was just opened, with its records' end at `start`: to the engine, the guard, the index (whose overflow buckets follow in these lists) and each
 -- mailbox. It rests, as each session has seen. The log is one with which the order law begins, from a map and in a version of its own; it has fixed what lies below the
 -- safe read-only offset, its chains begin where the entries of the index lead, memory has its records from the closed offset up, and the image that the device
--- holds has each of them.
+-- holds has each of them. None lies below the address at which the log begins, by which each session goes.
 pub record BeginsLife (opening : World) (start : ℕ) (lists : ℕ → List ℕ) (m : Map) (number : ℕ) (ghosts : Ghosts) : Type 0 where
   pub world : IsOpenedWorld opening
   pub store : IsOpenedStore opening start
@@ -36,7 +47,10 @@ pub record BeginsLife (opening : World) (start : ℕ) (lists : ℕ → List ℕ)
   pub reserves : ReservesNothing ghosts
   pub heads : LeadToHeads opening.now lists ghosts.log
   pub warm : MemoryShowsLog opening start ghosts.log
-  pub device : (a : ℕ) (cell : Cell) → ghosts.log.cells a ≡ Published cell → IsInImage opening.now.shape opening.past.opened a cell
+  pub device : (a : ℕ) (cell : Cell) → ghosts.log.cells a ≡ Published cell → IsInImage (begin_in opening) opening.now.shape opening.past.opened a cell
+  pub above : IsAbove (begin_in opening) ghosts.log
+  pub before_end : begin_in opening ≤ start
+  pub floors : GoByBegin opening
 
 -- A life as the order law begins it: its world, where its records end, and its overflow buckets. Beside it stands the log, with the map from which that begins
 -- and the number of the map's version.

@@ -9,6 +9,7 @@ use Rattle.law_commit.specs.Below.fkv_session.Sessions.{SessionState, session_as
 use Rattle.law_commit.specs.Below.law_local.Sessions.Known.{is_attempting}
 use Rattle.law_commit.specs.Below.law_local.Tries.AttemptRows.{IsTrueOfAttempt}
 use Rattle.law_commit.specs.Below.law_local.Tries.MailRows.{IsTrueOfLook}
+use Rattle.law_commit.specs.Below.law_local.Tries.TryRows.{floor_in}
 use Rattle.law_commit.specs.Below.fkv_world.Runs.{World, run}
 use Rattle.law_commit.specs.Below.fkv_world.World.{Event, Now, seat_at}
 
@@ -25,7 +26,7 @@ AreToldTruly home log n = (session : ℕ) (s : SessionState) → slice_get n.ses
 
 -- so it is of what is loaded from the mailbox
 abbrev pub LooksTruly : Log → Now → ℕ → SessionState → Type 0
-LooksTruly log n session s = is_attempting s.step ≡ true → s.attempt.step ≡ Looks → IsTrueOfLook log s.attempt.pending.sought s.attempt.mailing (reply_in n session s)
+LooksTruly log n session s = is_attempting s.step ≡ true → s.attempt.step ≡ Looks → IsTrueOfLook log (floor_in s.attempt.pending.request) s.attempt.pending.sought s.attempt.mailing (reply_in n session s)
 
 abbrev pub LookTruly : Log → Now → Type 0
 LookTruly log n = (session : ℕ) (s : SessionState) → slice_get n.sessions session ≡ Some s → LooksTruly log n session s

@@ -9,6 +9,7 @@ use Rattle.law_commit.specs.Below.fkv_world.World.{Event, Now}
 use Rattle.law_opening.specs.Log.OpeningLog.{opening_ghosts}
 use Rattle.law_order.specs.Apart.Lives.{AllApartBehind}
 use Rattle.law_order.specs.Known.Begins.{home_of_world}
+use Rattle.law_order.specs.Known.Floors.{GoesByBegin}
 use Rattle.law_order.specs.Known.Knows.{AreKnown}
 use Rattle.law_commit.specs.Below.law_refine.Events.GhostEvents.{mapped}
 use Rattle.law_order.specs.Reads.Reads.{AreReadsKnown}
@@ -23,6 +24,8 @@ pub record KeepsOrder (opening : World) (ghosts : Ghosts) (events : List Event) 
   pub reads : AreReadsKnown opening ghosts events
   -- at this moment its sessions keep updates apart from those of other versions
   pub apart : AllApartBehind opening ghosts events
+  -- and the log does without what lies below its begin, by which they go
+  pub begin : GoesByBegin opening ghosts events
 
 -- so it is with a life of an opened store, beside the log of its image
 abbrev pub KeepsItsOrder : Opened → Now → List ℕ → List Event → Type 0

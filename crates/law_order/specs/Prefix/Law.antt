@@ -21,6 +21,7 @@ use Rattle.law_commit.specs.BegunCommits.{AreInTurn, BegunCommit}
 use Rattle.law_commit.specs.FinishedCommits.{commits_finished, commits_told, told_of}
 use Rattle.law_commit.specs.PrefixPast.{PrefixPast, prefix_past}
 use Rattle.law_commit.specs.ToldPoints.{ToldPoint}
+use Rattle.law_commit.specs.Below.law_paper.Paper.Forgotten.{AgreeFrom}
 use Rattle.law_commit.specs.Below.law_paper.Paper.Named.{HoldsStore}
 use Rattle.law_log.specs.Trace.{IsIn, history_of}
 use Rattle.law_opening.specs.Lives.Reaching.{ReachesFar}
@@ -89,9 +90,21 @@ pub record HoldsPrefix (o : Opened) (n : Now) (bytes : List ℕ) (events : List 
   pub each : (r : Opened) → IsStoreOf image r → IsKeptOf o n bytes events commit image r
   pub reaches : ReachesFar image
 
--- If a life began with an image that reaches far, each image holds a prefix of it that a crash may leave.
+-- So may the next life find the bytes: a crash may leave an image that they agree with, but at what lies below the begin of its newest slot. That may have been
+-- given back, and may read as anything then.
+pub record MayBeFound (bytes : List ℕ) (calls : List Call) (found : List ℕ) : Type 0 where
+  pub image : List ℕ
+  pub left : MayLeave bytes calls image
+  pub agrees : AgreeFrom image found
+
+-- If a life began with an image that reaches far, each image holds a prefix of it that may be found behind a crash.
 abbrev pub RecoversPrefix : Opened → Now → List ℕ → List Event → Type 0
-RecoversPrefix o n bytes events = ReachesFar bytes → (image : List ℕ) → MayLeave bytes (calls_so_far n bytes events) image → HoldsPrefix o n bytes events image
+RecoversPrefix o n bytes events = ReachesFar bytes → (image : List ℕ) → MayBeFound bytes (calls_so_far n bytes events) image → HoldsPrefix o n bytes events image
+
+-- What is forgotten makes no difference: where an image holds a prefix of a life, so does each that agrees with it but there.
+abbrev pub ForgottenHolds : Type 0
+ForgottenHolds =
+    (o : Opened) (n : Now) (bytes : List ℕ) (events : List Event) (image other : List ℕ) → HoldsPrefix o n bytes events image → AgreeFrom image other → HoldsPrefix o n bytes events other
 
 -- ---- finished
 -- The commits that are finished are the opening's and those that the keeper has told as finished. They are so in their order, each with its number and points.
@@ -165,10 +178,10 @@ map_of its = opening_map its.bytes its.opened
 abbrev pub points_of : Life → List Serial
 points_of its = its.opened.points.items
 
--- The first of them begins with an image that reaches far. Each other one begins with an image that a crash may leave of the life before it.
+-- The first of them begins with an image that reaches far. Each other one begins with an image that may be found behind the life before it.
 abbrev pub BeginsBehind : Life → List Life → Type 0
 BeginsBehind its [] = ReachesFar its.bytes
-BeginsBehind its (last ∷ before) = MayLeave last.bytes (calls_so_far last.world last.bytes last.events) its.bytes
+BeginsBehind its (last ∷ before) = MayBeFound last.bytes (calls_so_far last.world last.bytes last.events) its.bytes
 
 -- lives that follow one another, the newest first
 abbrev pub AreLives : List Life → Type 0

@@ -9,6 +9,7 @@ use Rattle.law_commit.specs.Below.law_local.Tries.AttemptRows.{PendingKnows}
 use Rattle.law_commit.specs.Below.fkv_world.Runs.{run}
 use Rattle.law_commit.specs.Below.fkv_world.World.{Event}
 use Rattle.law_order.specs.Known.Begins.{BegunLife, home_of_world}
+use Rattle.law_order.specs.Known.Floors.{GoesByBegin}
 use Rattle.law_order.specs.Known.Knows.{AllKnowBehind, AreKnown}
 use Rattle.law_order.specs.Known.Told.{AreToldTruly}
 use Rattle.law_commit.specs.Below.law_refine.Events.GhostEvents.{life_ghosts, mapped}
@@ -33,6 +34,6 @@ KeepsWhatWaitsKnow =
 abbrev pub GoesOnToKnow : Type 0
 GoesOnToKnow =
     (life : BegunLife) (before : List Event) (event : Event)
-    → Given → OpensApart life → AllApartBehind life.opening life.ghosts before → AreEnabled (home_of_world life.opening) life.ghosts (mapped life.opening (event ∷ before))
+    → Given → OpensApart life → AllApartBehind life.opening life.ghosts before → GoesByBegin life.opening life.ghosts before → AreEnabled (home_of_world life.opening) life.ghosts (mapped life.opening (event ∷ before))
     → AreKnown life.opening life.ghosts before → AreToldTruly (home_of_world life.opening) (life_ghosts life.opening life.ghosts before).log (run life.opening before).now
     → AllKnowBehind life.opening life.ghosts (event ∷ before)

@@ -8,11 +8,11 @@ use law_opening::{
     law_log_opened,
 };
 
-/// In each image that a crash may leave of a life, commits and crashes anywhere, the records below the flushed offset stand as the log beside the life has
-/// them. A published one is valid, with its key, its value, its version and what it leads to. One that was given up has the invalid bit, its version and what
+/// In each image that a crash may leave of a life, commits and crashes anywhere, the records from its begin to below the flushed offset stand as the log beside
+/// the life has them. A published one is valid, with its key, its value, its version and what it leads to. One that was given up has the invalid bit, its version and what
 /// it leads to, which is below itself. So recovery passes over it, if its version is at most the one after the commit's. What the store was opened with stands
 /// as it was, and says no later version than the log has. The calls of the life are of numbers below 2^64, as all that a program can make are. So the log's
-/// numbers fit in words. It holds if the opened bytes reach far.
+/// numbers fit in words. It holds if the image's begin isn't below the opening's, and the opened bytes reach far.
 pub fn law_images_show_log()
     ensures { records.ImagesShowTheLog }
 {

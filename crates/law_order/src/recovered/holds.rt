@@ -6,12 +6,12 @@ use crate::recovered::shows::{
     law_images_show_life, law_log_in_order, law_opened_log_stands, law_scans_start_above,
 };
 use crate::recovered::uses::{law_images_keep_checkpoint, law_images_use_checkpoints};
-use crate::{law_cut_opens, law_images_keep_old, law_images_read_back, law_slots_open};
+use crate::{law_cut_opens, law_images_keep_old, law_images_read_back, law_live, law_slots_open};
 use law_commit::{law_kept_paper_is_sound, law_old_paper_is_sound, law_paper_is_sound};
 
 /// An image that names a commit of its life holds that commit: no fault stands in it, and any store that it holds is of the commit, with the values that the
 /// log shows of versions up to it. For the image shows the log, which the commit cuts, and has the checkpoint that the commit uses: one of this life, or the one
-/// with which the store was opened. And each home of the log has a slot of the index.
+/// with which the store was opened. The log does without what lies below the image's begin. And each home of the log has a slot of the index.
 pub fn law_named_hold()
     ensures { said.OfEachNamed said.HoldsItsCommit }
 {
@@ -20,6 +20,7 @@ pub fn law_named_hold()
     law_scans_start_above();
     law_images_use_checkpoints();
     law_cut_opens();
+    law_live();
     law_slots_open();
     law_paper_is_sound();
     law_old_paper_is_sound();

@@ -29,8 +29,8 @@ pub fn law_opened_log_stands()
     law_log_in_order();
 }
 
-/// Each image that names a commit of its life shows the log up to the commit's end, which lies at or below the flushed offset. Each published record stands in
-/// it, those that the store was opened with too. From the opened tail on all is decided. What was given up there stands with its invalid bit, and is of the version after the
+/// Each image that names a commit of its life shows the log from the commit's begin up to its end, which lies at or below the flushed offset. Each published
+/// record there stands in it, those that the store was opened with too. From the opened tail on all is decided. What was given up there stands with its invalid bit, and is of the version after the
 /// commit's at most. None of these records is lost.
 pub fn law_images_show_life()
     ensures { said.OfEachNamed said.ShowsItsLog }

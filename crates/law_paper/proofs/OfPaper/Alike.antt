@@ -12,7 +12,7 @@ use Rattle.fkv_record.specs.declared.triples.Triple.{Triple}
 use Rattle.fkv_room.specs.Room.{HasRoom}
 use Rattle.fkv_scan.specs.Log as scan
 use Rattle.fkv_scan.specs.Log.{record_home, triple_home}
-use Rattle.fkv_scan.specs.Records.{IsKept}
+use Rattle.fkv_scan.specs.Records.{next_of, IsKept}
 use Rattle.fkv_scan.specs.Scan.{HasNone, IsGreatest, IsLinked, HasScan}
 use Rattle.fkv_words.specs.Fields.{SpellsApart}
 use Rattle.law_paper.specs.Paper.Old.{GoesOnFrom, WasSound}
@@ -24,6 +24,7 @@ module _ (n : Newest) (xs : List Triple) where
 
   goes_on : (bytes other : List ℕ) → ShareLog n bytes other → GoesOnFrom (log bytes) (log other)
   goes_on bytes other share = record {
+    begin = refl;
     start = refl;
     oldest = refl;
     bits = refl;
@@ -41,10 +42,10 @@ module _ (n : Newest) (xs : List Triple) where
     on = goes_on bytes other share
 
     -- ---- the scan
-    kept_now : (h a : ℕ) (x : Record) → 0 < a → a < tail → IsKept (log bytes) h a x → IsKept (log other) h a x
+    kept_now : (h a : ℕ) (x : Record) → n.slot.begin.0 ≤ a → a < tail → IsKept (log bytes) h a x → IsKept (log other) h a x
     kept_now h a x some low kept = record { here = valid_now spells was on h a x some low kept.here; not_lost = kept.not_lost }
 
-    kept_was : (h a : ℕ) (x : Record) → 0 < a → a < tail → IsKept (log other) h a x → IsKept (log bytes) h a x
+    kept_was : (h a : ℕ) (x : Record) → n.slot.begin.0 ≤ a → a < tail → IsKept (log other) h a x → IsKept (log bytes) h a x
     kept_was h a x some low kept = record { here = valid_was spells was on h a x some low kept.here; not_lost = kept.not_lost }
 
     none_was : (h from to : ℕ) → n.slot.first.0 ≤ from → to ≤ tail → HasNone (IsKept (log other) h) from to → HasNone (IsKept (log bytes) h) from to
@@ -63,7 +64,7 @@ module _ (n : Newest) (xs : List Triple) where
           none_above = none_was h (b + 1) a (omega (arith, least)) most greatest.none_above;
         }
 
-    linked_now : (a : ℕ) (x : Record) → a < tail → x.header.previous.0 < a → IsLinked (log bytes) a x → IsLinked (log other) a x
+    linked_now : (a : ℕ) (x : Record) → a < tail → next_of (log bytes) x < a → IsLinked (log bytes) a x → IsLinked (log other) a x
     linked_now a x low falls links = record {
       nearest = λ kept b greatest.
           let most = greatest_was h a b to greatest in
@@ -73,7 +74,7 @@ module _ (n : Newest) (xs : List Triple) where
       first = λ kept none. links.first kept (none_was h n.slot.first.0 a (omega arith) to none);
       lost = λ gone from.
           let led = links.lost gone from in
-          (led.0, valid_now spells was on h x.header.previous.0 led.0 (start_some spells was x.header.previous.0 from) (omega (arith, falls, low)) led.1);
+          (led.0, valid_now spells was on h (next_of (log bytes) x) led.0 (start_some spells was (next_of (log bytes) x) from) (omega (arith, falls, low)) led.1);
       below = λ under q goes. links.below under q (goes_was spells was on h a q to goes);
     }
       where

@@ -8,7 +8,8 @@ use Rattle.fkv_chains.specs.Reached.{LeadsTo, from_triple, from_record, Reached,
 use Rattle.fkv_marks.specs.Marks.{mark}
 use Rattle.fkv_marks.specs.Window.{version_in}
 use Rattle.fkv_marks.proofs.Shown.{version_marked, version_told}
-use Rattle.law_log.specs.Chains.{version_at, IsWithin}
+use Rattle.law_log.specs.Chains.{Cell, Published, version_at}
+use Rattle.law_log.proofs.Shown.{above_live}
 use Rattle.law_log.specs.Ghosts.{Log}
 use Rattle.law_log.specs.Trace.{IsIn}
 use Rattle.fkv_record.specs.Layout.{record_bytes}
@@ -16,7 +17,7 @@ use Rattle.fkv_record.specs.declared.records.Record.{Record}
 use Rattle.fkv_record.specs.declared.triples.Triple.{Triple}
 use Rattle.fkv_scan.specs.Log as scan
 use Rattle.fkv_scan.specs.Log.{HasTriple, HasNoTriple, record_home, triple_home}
-use Rattle.fkv_scan.specs.Records.{Stands, version_of, losses, losses_of, IsValid, IsKept}
+use Rattle.fkv_scan.specs.Records.{Stands, next_of, version_of, losses, losses_of, IsValid, IsKept}
 use Rattle.fkv_scan.specs.Scan.{Has, HasNone, IsGreatest, GoesOn, by_triple, by_none, by_record, IsLinked as IsScanLinked, IsScanned, IsLed, HasScan}
 use Rattle.fkv_words.specs.Fields.{SpellsApart}
 use Rattle.fkv_ops.specs.Values.{value_of}
@@ -24,8 +25,8 @@ use Rattle.law_paper.specs.Paper.Images.{ShowsCell}
 use Rattle.law_paper.specs.Paper.Old.{StandsOnOld}
 use Rattle.law_paper.specs.Paper.Values.{ShowsUpto, CountsAsLog, TellsCell}
 use Rattle.law_paper.proofs.OfPaper.Down.{versions_fall}
-use Rattle.law_paper.proofs.OfPaper.Here.{Showing, IsHere, is_read, dropped_scanned, one, here, as_shown, in_own, of_chain, its_home, since_here, next_in, below_in, leads_nearest, leads_first, leads_in}
-use Rattle.law_paper.proofs.OfPaper.Reach.{one_was, start_some, falls_in, was_low, was_some, its_bits, same_triple, triple_there, stood, stands_now, valid_was, valid_now, again, goes_was}
+use Rattle.law_paper.proofs.OfPaper.Here.{Showing, IsHere, IsNext, is_read, dropped_scanned, one, here, as_shown, in_own, of_chain, its_home, since_here, next_in, below_in, leads_nearest, leads_first, leads_in}
+use Rattle.law_paper.proofs.OfPaper.Reach.{one_was, start_some, falls_in, was_low, was_some, its_bits, leads_same, same_triple, triple_there, stood, stands_now, valid_was, valid_now, again, goes_was}
 use Rattle.law_paper.proofs.OfPaper.Sound.{triple_once}
 use Rattle.law_paper.proofs.OfPaper.Values.{shows_upto}
 
@@ -59,8 +60,25 @@ zero_or zero = inl refl
 zero_or (suc n) = inr (λ is. omega (arith, is))
 
 module _ (home : ℕ → ℕ) (was image : scan.Log) (g : Log) (spells : SpellsApart record_bytes) (paper : StandsOnOld home was image g) where
+  -- the log has nothing below the begin
+  begins : image.begin ≤ was.start
+  begins = (let same = paper.goes_on.begin in let low = paper.opened.begins in omega (arith, same, low))
+
+  above : (a : ℕ) (cell : Cell) → g.cells a ≡ Published cell → image.begin ≤ a
+  above a cell is =
+      let same = paper.goes_on.begin in
+      let low = begins in
+      let up = paper.opened.upwards in
+      ⊎_elim
+      (λ old. let counts = (paper.before.counted (home cell.key) a old).0 (paper.orderly.chains.its_chain a cell is) in let some = was_some spells paper.opened a counts.1.reached in omega (arith, same, some))
+      (λ new. omega (arith, low, up, new))
+      (cases_lt a was.tail)
+
+  above_in : (h a : ℕ) → IsIn a (g.chains h) → image.begin ≤ a
+  above_in h a has = let its = paper.orderly.chains.in_chain h a has in above a its.cell its.its
+
   abbrev it : Showing home was.tail image g
-  it = record { spells = spells; orderly = paper.orderly; shows = paper.shows }
+  it = record { spells = spells; orderly = paper.orderly; shows = paper.shows; begins = (let low = begins in let up = paper.opened.upwards in omega (arith, low, up)) }
 
   old_home : (a : ℕ) (p : IsHere was.tail image g a) (x : Record) → Stands image a x → record_home was.shape.bucket_bits x ≡ home (let c = p.cell in c.key)
   old_home a p x stands = sym (its_bits spells paper.opened paper.goes_on x) ∙ its_home it a p x stands
@@ -95,7 +113,7 @@ module _ (home : ℕ → ℕ) (was image : scan.Log) (g : Log) (spells : SpellsA
   next_splits : (h b : ℕ) → IsIn b (g.chains h) → b < image.tail → Splits b
   next_splits h b has low = ⊎_elim
       (λ old. inl (old, (let c = (paper.before.counted h b old).0 has in c.1.reached)))
-      (λ new. inr (new, (of_chain it h b has low).0))
+      (λ new. inr (new, (of_chain it h b has (above_in h b has) low).0))
       (cases_lt b was.tail)
 
   pub splits : (a : ℕ) → Reached image a → Splits a
@@ -105,7 +123,7 @@ module _ (home : ℕ → ℕ) (was image : scan.Log) (g : Log) (spells : SpellsA
       (cases_lt a was.tail)
   splits a (led_to h _ t) = (let r : Reached was a = led_to h a (same_triple spells paper.opened paper.goes_on h a t) in inl (was_low spells paper.opened a r, r))
   splits b (linked a _ x reached stands is some) = elim (splits a reached) [
-    | inl old ↦ (let r : Reached was b = linked a b x old.1 (stood spells paper.opened paper.goes_on a x (was_some spells paper.opened a old.1) old.0 stands) is some in inl (was_low spells paper.opened b r, r))
+    | inl old ↦ (let r : Reached was b = linked a b x old.1 (stood spells paper.opened paper.goes_on a x (was_some spells paper.opened a old.1) old.0 stands) (sym (leads_same spells paper.opened paper.goes_on x) ∙ is) some in inl (was_low spells paper.opened b r, r))
     | inr new ↦
         let p : IsHere was.tail image g a = new.1 in
         let to = leads_in it a b p x stands is some in
@@ -129,7 +147,7 @@ module _ (home : ℕ → ℕ) (was image : scan.Log) (g : Log) (spells : SpellsA
 
   in_kept : (h b : ℕ) → IsIn b (g.chains h) → was.start ≤ b → b < image.tail → Has (IsKept image h) b
   in_kept h b has from low =
-      let p = of_chain it h b has low in
+      let p = of_chain it h b has (above_in h b has) low in
       let s : ShowsCell was.tail image b (let q = p.0 in q.cell) = (let q = p.0 in q.shown) in
       let at : record_home was.shape.bucket_bits s.held ≡ h = old_home b p.0 s.held s.stands ∙ p.1 in
       let here_is : IsValid image h b s.held = record { stands = s.stands; valid = s.valid; same = its_bits spells paper.opened paper.goes_on s.held ∙ at } in
@@ -154,18 +172,18 @@ module _ (home : ℕ → ℕ) (was image : scan.Log) (g : Log) (spells : SpellsA
     in_h : IsIn a (g.chains h)
     in_h = subst (λ (n : ℕ). IsIn a (g.chains n)) (sym (old_home a p x stands_x)) (in_own it a p)
 
-    next : IsWithin x.header.previous.0 (g.chains h) × (x.header.previous.0 < a)
+    next : IsNext image.begin (g.chains h) (next_of image x) × (next_of image x < a)
     next = next_in it h a p in_h
 
-    below_is : (b : ℕ) → IsIn b (g.chains h) → b < a → b ≤ x.header.previous.0
-    below_is = below_in it h a p in_h
+    below_is : (b : ℕ) → IsIn b (g.chains h) → b < a → b ≤ next_of image x
+    below_is b has low = below_in it h a p in_h b has (above_in h b has) low
 
     -- it leads to the nearest that is kept
-    to_nearest : (b : ℕ) → IsGreatest (IsKept image h) was.start a b → x.header.previous.0 ≡ b
-    to_nearest = leads_nearest it h a p in_h was.start (kept_in h) (in_kept h)
+    to_nearest : (b : ℕ) → IsGreatest (IsKept image h) was.start a b → next_of image x ≡ b
+    to_nearest = leads_nearest it h a p in_h was.start begins (kept_in h) (in_kept h)
 
-    to_first : HasNone (IsKept image h) was.start a → x.header.previous.0 < was.start
-    to_first = leads_first it h a p in_h was.start (kept_in h) (in_kept h) paper.opened.some_start
+    to_first : HasNone (IsKept image h) was.start a → next_of image x < was.start
+    to_first = leads_first it h a p in_h was.start begins (kept_in h) (in_kept h) paper.opened.some_start
 
   -- ---- what the opening's scan tells, told of this image
   -- whether a record of a home is kept there can be told
@@ -202,6 +220,10 @@ module _ (home : ℕ → ℕ) (was image : scan.Log) (g : Log) (spells : SpellsA
     stands_y : Stands was a y
     stands_y = let s = scanned_was in s.fits.stands
 
+    -- where it leads it led
+    leads_still : next_of image y ≡ next_of was y
+    leads_still = leads_same spells paper.opened paper.goes_on y
+
     still_y : Stands image a y
     still_y = stands_now spells paper.opened paper.goes_on a y (start_some spells paper.opened a from) low stands_y
 
@@ -218,7 +240,7 @@ module _ (home : ℕ → ℕ) (was image : scan.Log) (g : Log) (spells : SpellsA
         in_chain_y = (paper.loses a y from low stands_y valid).1 (losses_still a y from low stands_y ∙ not_lost)
 
         here_y : IsHere was.tail image g a
-        here_y = (of_chain it hy a in_chain_y (let l = paper.goes_on.longer in omega (arith, low, l))).0
+        here_y = (of_chain it hy a in_chain_y (above_in hy a in_chain_y) (let l = paper.goes_on.longer in omega (arith, low, l))).0
 
         y_is : y ≡ (let p = here_y in let s = p.shown in s.held)
         y_is = as_shown it a here_y y still_y
@@ -229,32 +251,32 @@ module _ (home : ℕ → ℕ) (was image : scan.Log) (g : Log) (spells : SpellsA
         not_lost_was : losses_of was a y ≡ 0
         not_lost_was = ap (λ (z : Record). losses_of was a z) (one_was spells paper.opened a y counts_y.0 stands_y counts_y.1.valid.stands) ∙ counts_y.1.not_lost from
 
-        leads_y : (b : ℕ) → IsGreatest (IsKept image (record_home image.shape.bucket_bits y)) image.start a b → y.header.previous.0 ≡ b
+        leads_y : (b : ℕ) → IsGreatest (IsKept image (record_home image.shape.bucket_bits y)) image.start a b → next_of image y ≡ b
         leads_y b greatest =
             let g1 : IsGreatest (IsKept image (record_home was.shape.bucket_bits (let p = here_y in let s = p.shown in s.held))) was.start a b =
             subst (λ (n : ℕ). IsGreatest (IsKept image (record_home was.shape.bucket_bits (let p = here_y in let s = p.shown in s.held))) n a b) paper.goes_on.start
             (subst (λ (n : ℕ). IsGreatest (IsKept image n) image.start a b) (its_bits spells paper.opened paper.goes_on y ∙ ap (record_home was.shape.bucket_bits) y_is) greatest) in
-            ap (λ (z : Record). z.header.previous.0) y_is ∙ to_nearest a from here_y b g1
+            ap (λ (z : Record). next_of image z) y_is ∙ to_nearest a from here_y b g1
 
-        first_y : HasNone (IsKept image (record_home image.shape.bucket_bits y)) image.start a → y.header.previous.0 < image.start
+        first_y : HasNone (IsKept image (record_home image.shape.bucket_bits y)) image.start a → next_of image y < image.start
         first_y none =
             let n1 : HasNone (IsKept image (record_home was.shape.bucket_bits (let p = here_y in let s = p.shown in s.held))) was.start a =
             subst (λ (n : ℕ). HasNone (IsKept image (record_home was.shape.bucket_bits (let p = here_y in let s = p.shown in s.held))) n a) paper.goes_on.start
             (subst (λ (n : ℕ). HasNone (IsKept image n) image.start a) (its_bits spells paper.opened paper.goes_on y ∙ ap (record_home was.shape.bucket_bits) y_is) none) in
             let low = to_first a from here_y n1 in
-            let is = ap (λ (z : Record). z.header.previous.0) y_is in
+            let is = ap (λ (z : Record). next_of image z) y_is in
             let s = paper.goes_on.start in
             omega (arith, low, is, s)
 
         -- the one that it leads to isn't newer, as the opening's scan has told
-        version_y : (b : ℕ) → y.header.previous.0 ≡ b → was.start ≤ b → b < a → IsIn b (g.chains hy) → (z : Record) → Stands image b z → version_of image z ≤ version_of image y
+        version_y : (b : ℕ) → next_of image y ≡ b → was.start ≤ b → b < a → IsIn b (g.chains hy) → (z : Record) → Stands image b z → version_of image z ≤ version_of image y
         version_y b is on less has z stands =
             let counts = (paper.before.counted hy b (omega (arith, less, low))).0 has in
             let kept : IsKept was hy b counts.0 = record { here = counts.1.valid; not_lost = counts.1.not_lost on } in
             elim (find_was hy a from (omega (arith, low))) [
               | inl most ↦
                   let near = links.nearest not_lost_was most.0 most.1 in
-                  let same : b ≡ most.0 = sym is ∙ near.0 in
+                  let same : b ≡ most.0 = sym is ∙ leads_still ∙ near.0 in
                   let stood_z = stood spells paper.opened paper.goes_on b z (start_some spells paper.opened b on) (omega (arith, less, low)) stands in
                   let older = near.1 z (subst (λ (n : ℕ). Stands was n z) same stood_z) in
                   let read_z = read_still b z on (omega (arith, less, low)) stood_z in
@@ -263,7 +285,7 @@ module _ (home : ℕ → ℕ) (was image : scan.Log) (g : Log) (spells : SpellsA
               | inr none ↦ absurd (none b counts.0 on less kept)
             ]
 
-        nearest_y : (b : ℕ) → IsGreatest (IsKept image (record_home image.shape.bucket_bits y)) image.start a b → (y.header.previous.0 ≡ b) × ((z : Record) → Stands image b z → version_of image z ≤ version_of image y)
+        nearest_y : (b : ℕ) → IsGreatest (IsKept image (record_home image.shape.bucket_bits y)) image.start a b → (next_of image y ≡ b) × ((z : Record) → Stands image b z → version_of image z ≤ version_of image y)
         nearest_y b greatest =
             let is = leads_y b greatest in
             let on = greatest.from_on in
@@ -274,8 +296,8 @@ module _ (home : ℕ → ℕ) (was image : scan.Log) (g : Log) (spells : SpellsA
             (is, version_y b is (omega (arith, on, s)) less (subst (λ (n : ℕ). IsIn b (g.chains n)) (its_bits spells paper.opened paper.goes_on y) has))
 
       -- a lost one leads to a valid one
-      lost_y : losses_of image a y ≢ 0 → image.start ≤ y.header.previous.0 → Has (IsValid image (record_home image.shape.bucket_bits y)) y.header.previous.0
-      lost_y lost on =
+      lost_was : losses_of image a y ≢ 0 → image.start ≤ next_of was y → Has (IsValid image (record_home image.shape.bucket_bits y)) (next_of was y)
+      lost_was lost on =
           let s = paper.goes_on.start in
           let falls = (let sc = scanned_was in sc.fits.falls) in
           elim (zero_or (losses_of was a y)) [
@@ -289,13 +311,16 @@ module _ (home : ℕ → ℕ) (was image : scan.Log) (g : Log) (spells : SpellsA
             ]
             | inr gone ↦
                 let has = links.lost gone (omega (arith, on, s)) in
-                (has.0, subst (λ (n : ℕ). IsValid image n y.header.previous.0 has.0) (sym (its_bits spells paper.opened paper.goes_on y)) (valid_now spells paper.opened paper.goes_on hy y.header.previous.0 has.0 (start_some spells paper.opened y.header.previous.0 (omega (arith, on, s))) (omega (arith, falls, low)) has.1))
+                (has.0, subst (λ (n : ℕ). IsValid image n (next_of was y) has.0) (sym (its_bits spells paper.opened paper.goes_on y)) (valid_now spells paper.opened paper.goes_on hy (next_of was y) has.0 (start_some spells paper.opened (next_of was y) (omega (arith, on, s))) (omega (arith, falls, low)) has.1))
           ]
 
-      below_y : y.header.previous.0 < image.start → (q : ℕ) → GoesOn image (record_home image.shape.bucket_bits y) a q → y.header.previous.0 ≡ q
+      lost_y : losses_of image a y ≢ 0 → image.start ≤ next_of image y → Has (IsValid image (record_home image.shape.bucket_bits y)) (next_of image y)
+      lost_y lost on = subst (λ (n : ℕ). Has (IsValid image (record_home image.shape.bucket_bits y)) n) (sym leads_still) (lost_was lost (subst (λ (n : ℕ). image.start ≤ n) leads_still on))
+
+      below_y : next_of image y < image.start → (q : ℕ) → GoesOn image (record_home image.shape.bucket_bits y) a q → next_of image y ≡ q
       below_y under q goes =
           let s = paper.goes_on.start in
-          links.below (omega (arith, under, s)) q (goes_was spells paper.opened paper.goes_on hy a q (omega (arith, low)) (subst (λ (n : ℕ). GoesOn image n a q) (its_bits spells paper.opened paper.goes_on y) goes))
+          leads_still ∙ links.below (omega (arith, under, s, leads_still)) q (goes_was spells paper.opened paper.goes_on hy a q (omega (arith, low)) (subst (λ (n : ℕ). GoesOn image n a q) (its_bits spells paper.opened paper.goes_on y) goes))
 
       pub linked_y : IsScanLinked image a y
       linked_y = record {
@@ -315,17 +340,17 @@ module _ (home : ℕ → ℕ) (was image : scan.Log) (g : Log) (spells : SpellsA
         let newer = paper.goes_on.newer in
         record {
           held = y;
-          fits = record { stands = still_y; new_enough = omega (arith, read, least, oldest); old_enough = omega (arith, read, most, newer); falls = sc.fits.falls };
+          fits = record { stands = still_y; new_enough = omega (arith, read, least, oldest); old_enough = omega (arith, read, most, newer); falls = (let falls = sc.fits.falls in omega (arith, falls, leads_still)) };
           linked = λ valid. linked_y valid;
         }
 
   -- ---- where a chain of the opening goes on
-  record_goes : (h c : ℕ) (x : Record) → was.start ≤ c → c < was.tail → IsValid was h c x → x.header.previous.0 < was.start → (q : ℕ) → GoesOn was h c q → x.header.previous.0 ≡ q
+  record_goes : (h c : ℕ) (x : Record) → was.start ≤ c → c < was.tail → IsValid was h c x → next_of was x < was.start → (q : ℕ) → GoesOn was h c q → next_of was x ≡ q
   record_goes h c x from low valid under q goes =
       let sc = paper.opened.scan.records c from low in
       let is : x ≡ sc.held = one_was spells paper.opened c x sc.held valid.stands sc.fits.stands in
       let links = sc.linked (sym (ap (λ (z : Record). z.header.invalid) is) ∙ valid.valid) in
-      let same = ap (λ (z : Record). z.header.previous.0) is in
+      let same = ap (λ (z : Record). next_of was z) is in
       let at : record_home was.shape.bucket_bits sc.held ≡ h = sym (ap (record_home was.shape.bucket_bits) is) ∙ valid.same in
       same ∙ links.below (omega (arith, same, under)) q (subst (λ (n : ℕ). GoesOn was n c q) (sym at) goes)
 
@@ -345,7 +370,7 @@ module _ (home : ℕ → ℕ) (was image : scan.Log) (g : Log) (spells : SpellsA
       (λ most.
       let same : d ≡ c = omega (arith, more, most) in
       let one_record = one_was spells paper.opened c x y valid.stands (subst (λ (n : ℕ). Stands was n y) same good.stands) in
-      sym leads ∙ ap (λ (z : Record). z.header.previous.0) one_record ∙ to)
+      sym leads ∙ ap (λ (z : Record). next_of was z) one_record ∙ to)
       (cases_lt d c))
       (cases_lt c d)
 
@@ -367,7 +392,7 @@ module _ (home : ℕ → ℕ) (was image : scan.Log) (g : Log) (spells : SpellsA
       let sc = paper.opened.scan.records a from low in
       let same : y ≡ sc.held = one_was spells paper.opened a y sc.held stands sc.fits.stands in
       let links = sc.linked (sym (ap (λ (z : Record). z.header.invalid) same) ∙ reached_valid a reached from y stands) in
-      let at : sc.held.header.previous.0 ≡ b = sym (ap (λ (z : Record). z.header.previous.0) same) ∙ is in
+      let at : next_of was sc.held ≡ b = sym (ap (λ (z : Record). next_of was z) same) ∙ is in
       let has : Has (IsValid was (record_home was.shape.bucket_bits sc.held)) b = elim (zero_or (losses_of was a sc.held)) [
         | inl kept ↦ elim (find_was (record_home was.shape.bucket_bits sc.held) a from (omega (arith, low))) [
           | inl most ↦ (let near = links.nearest kept most.0 most.1 in let here_is = most.1.here in subst (λ (n : ℕ). Has (IsValid was (record_home was.shape.bucket_bits sc.held)) n) (sym near.0 ∙ at) (here_is.0, here_is.1.here))
@@ -448,7 +473,7 @@ module _ (home : ℕ → ℕ) (was image : scan.Log) (g : Log) (spells : SpellsA
     version_n : (b : ℕ) → was.start ≤ b → IsIn b (g.chains hn) → b < a → (z : Record) → Stands image b z → version_of image z ≤ version_of image xn
     version_n b on has less z stands =
         let low = p.low in
-        let q = of_chain it hn b has (omega (arith, less, low)) in
+        let q = of_chain it hn b has (above_in hn b has) (omega (arith, less, low)) in
         let r : IsHere was.tail image g b = q.0 in
         let s = r.shown in
         let cell_is = ap version_at r.its in
@@ -469,7 +494,7 @@ module _ (home : ℕ → ℕ) (was image : scan.Log) (g : Log) (spells : SpellsA
         omega (arith, is, read, cell_is, fall, own))
         (cases_lt b was.tail)
 
-    nearest_n : (b : ℕ) → IsGreatest (IsKept image (record_home image.shape.bucket_bits xn)) image.start a b → (xn.header.previous.0 ≡ b) × ((z : Record) → Stands image b z → version_of image z ≤ version_of image xn)
+    nearest_n : (b : ℕ) → IsGreatest (IsKept image (record_home image.shape.bucket_bits xn)) image.start a b → (next_of image xn ≡ b) × ((z : Record) → Stands image b z → version_of image z ≤ version_of image xn)
     nearest_n b greatest =
         let g1 : IsGreatest (IsKept image hn) was.start a b = subst (λ (n : ℕ). IsGreatest (IsKept image hn) n a b) paper.goes_on.start (subst (λ (n : ℕ). IsGreatest (IsKept image n) image.start a b) (its_bits spells paper.opened paper.goes_on xn) greatest) in
         let on = g1.from_on in
@@ -477,20 +502,20 @@ module _ (home : ℕ → ℕ) (was image : scan.Log) (g : Log) (spells : SpellsA
         let low = p.low in
         (to_nearest a from_start p b g1, version_n b on (kept_in hn b g1.here.0 on (omega (arith, less, low)) g1.here.1) less)
 
-    first_n : HasNone (IsKept image (record_home image.shape.bucket_bits xn)) image.start a → xn.header.previous.0 < image.start
+    first_n : HasNone (IsKept image (record_home image.shape.bucket_bits xn)) image.start a → next_of image xn < image.start
     first_n none =
         let n1 : HasNone (IsKept image hn) was.start a = subst (λ (n : ℕ). HasNone (IsKept image hn) n a) paper.goes_on.start (subst (λ (n : ℕ). HasNone (IsKept image n) image.start a) (its_bits spells paper.opened paper.goes_on xn) none) in
         let low = to_first a from_start p n1 in
         let s = paper.goes_on.start in
         omega (arith, low, s)
 
-    goes_n : (q : ℕ) → xn.header.previous.0 < was.start → GoesOn image hn a q → GoesOn was hn was.tail q
+    goes_n : (q : ℕ) → next_of image xn < was.start → GoesOn image hn a q → GoesOn was hn was.tail q
     goes_n q under (by_triple t low) = by_triple (same_triple spells paper.opened paper.goes_on hn q t) (let s = paper.goes_on.start in omega (arith, low, s))
     goes_n q under (by_none none is) = by_none (λ t it. none t (triple_there spells paper.opened paper.goes_on hn t it)) is
     goes_n q under (by_record c y least within valid leads low) =
         let s = paper.goes_on.start in
         ⊎_elim
-        (λ old. by_record c y (omega (arith, least, s)) old (valid_was spells paper.opened paper.goes_on hn c y (start_some spells paper.opened c (omega (arith, least, s))) old valid) leads (omega (arith, low, s)))
+        (λ old. by_record c y (omega (arith, least, s)) old (valid_was spells paper.opened paper.goes_on hn c y (start_some spells paper.opened c (omega (arith, least, s))) old valid) (sym (leads_same spells paper.opened paper.goes_on y) ∙ leads) (omega (arith, low, s)))
         (λ later.
         let below = p.low in
         let r : IsHere was.tail image g c = since_here it c y later (omega (arith, within, below)) valid.stands valid.valid in
@@ -499,18 +524,18 @@ module _ (home : ℕ → ℕ) (was image : scan.Log) (g : Log) (spells : SpellsA
         absurd (omega (arith, up, under, least, s)))
         (cases_lt c was.tail)
 
-    below_n : xn.header.previous.0 < image.start → (q : ℕ) → GoesOn image (record_home image.shape.bucket_bits xn) a q → xn.header.previous.0 ≡ q
+    below_n : next_of image xn < image.start → (q : ℕ) → GoesOn image (record_home image.shape.bucket_bits xn) a q → next_of image xn ≡ q
     below_n low q goes =
         let s = paper.goes_on.start in
         let up = paper.opened.upwards in
-        let under : xn.header.previous.0 < was.start = omega (arith, low, s) in
+        let under : next_of image xn < was.start = omega (arith, low, s) in
         let there = goes_n q under (subst (λ (n : ℕ). GoesOn image n a q) (its_bits spells paper.opened paper.goes_on xn) goes) in
         elim (next a from_start p).0 [
           | inl none ↦ elim (zero_or q) [
             | inl nothing ↦ none ∙ sym nothing
             | inr some ↦ (let c = goes_chain hn q some there in let less = c.1 in let most = below_is a from_start p q c.0 (omega (arith, less, up, new)) in absurd (some (omega (arith, most, none))))
           ]
-          | inr has ↦ goes_same hn xn.header.previous.0 q (chain_goes hn xn.header.previous.0 has under (λ b its less. below_is a from_start p b its (omega (arith, less, up, new)))) there
+          | inr has ↦ goes_same hn (next_of image xn) q (chain_goes hn (next_of image xn) has.0 under (λ b its less. below_is a from_start p b its (omega (arith, less, up, new)))) there
         ]
 
     pub linked_n : IsScanLinked image a xn
@@ -524,7 +549,7 @@ module _ (home : ℕ → ℕ) (was image : scan.Log) (g : Log) (spells : SpellsA
   new_scanned : (a : ℕ) → was.tail ≤ a → a < image.tail → IsScanned image a
   new_scanned a new low = elim (paper.shows.decided a new low) [
     | inl published ↦
-        let p : IsHere was.tail image g a = here it a published.0 published.1 low in
+        let p : IsHere was.tail image g a = here it a published.0 published.1 (above a published.0 published.1) low in
         let s : ShowsCell was.tail image a published.0 = p.shown in
         let version = version_read a new p in
         let least = paper.recent.published a published.0 published.1 new in
@@ -558,7 +583,7 @@ module _ (home : ℕ → ℕ) (was image : scan.Log) (g : Log) (spells : SpellsA
   leading_is : (a : ℕ) (reached : Reached was a) (under : a < was.start) (leading : ℕ) → LeadsTo image leading a → record_home was.shape.bucket_bits (let c = paper.opened.chains a reached under in c.held) ≡ leading
   leading_is a reached under leading (from_triple t) = (let c = paper.opened.chains a reached under in c.same leading (from_triple (same_triple spells paper.opened paper.goes_on leading a t)))
   leading_is a reached under leading (from_record b y there stands at leads some) = elim (splits b there) [
-    | inl old ↦ (let c = paper.opened.chains a reached under in c.same leading (from_record b y old.1 (stood spells paper.opened paper.goes_on b y (was_some spells paper.opened b old.1) old.0 stands) (sym (its_bits spells paper.opened paper.goes_on y) ∙ at) leads some))
+    | inl old ↦ (let c = paper.opened.chains a reached under in c.same leading (from_record b y old.1 (stood spells paper.opened paper.goes_on b y (was_some spells paper.opened b old.1) old.0 stands) (sym (its_bits spells paper.opened paper.goes_on y) ∙ at) (sym (leads_same spells paper.opened paper.goes_on y) ∙ leads) some))
     | inr later ↦
         let r : IsHere was.tail image g b = later.1 in
         let own : home (let c = r.cell in c.key) ≡ leading = sym (old_home b r y stands) ∙ sym (its_bits spells paper.opened paper.goes_on y) ∙ at in
@@ -578,7 +603,11 @@ module _ (home : ℕ → ℕ) (was image : scan.Log) (g : Log) (spells : SpellsA
             let c = paper.opened.chains a old.1 under in
             record {
               held = c.held;
-              old = record { stands = stands_now spells paper.opened paper.goes_on a c.held (was_some spells paper.opened a old.1) old.0 c.old.stands; old_enough = (let o = c.old.old_enough in let n = paper.goes_on.newer in omega (arith, o, n)); falls = c.old.falls };
+              old = record {
+                stands = stands_now spells paper.opened paper.goes_on a c.held (was_some spells paper.opened a old.1) old.0 c.old.stands;
+                old_enough = (let o = c.old.old_enough in let n = paper.goes_on.newer in omega (arith, o, n));
+                falls = (let falls = c.old.falls in omega (arith, falls, leads_same spells paper.opened paper.goes_on c.held));
+              };
               valid = c.valid;
               same = λ leading leads. its_bits spells paper.opened paper.goes_on c.held ∙ leading_is a old.1 under leading leads;
             }
@@ -591,7 +620,7 @@ module _ (home : ℕ → ℕ) (was image : scan.Log) (g : Log) (spells : SpellsA
       let its = paper.orderly.chains.in_chain h a has in
       let young : (let c = its.cell in c.version) ≤ image.version = subst (λ (n : ℕ). n ≤ image.version) (ap version_at its.its) old in
       let low = paper.cut.covered a its.cell its.its young in
-      let q = of_chain it h a has low in
+      let q = of_chain it h a has (above_in h a has) low in
       let s = (let r : IsHere was.tail image g a = q.0 in r.shown) in
       let at : record_home was.shape.bucket_bits s.held ≡ h = old_home a q.0 s.held s.stands ∙ q.1 in
       let valid : IsValid image h a s.held = record { stands = s.stands; valid = s.valid; same = its_bits spells paper.opened paper.goes_on s.held ∙ at } in
@@ -674,7 +703,7 @@ module _ (home : ℕ → ℕ) (was image : scan.Log) (g : Log) (spells : SpellsA
       let c = of_counts h a x counts in
       let its = paper.orderly.chains.in_chain h a c.0 in
       let low = paper.cut.covered a its.cell its.its (subst (λ (n : ℕ). n ≤ image.version) (ap version_at its.its) c.1) in
-      let s = paper.shows.published a its.cell its.its low in
+      let s = paper.shows.published a its.cell its.its (above a its.cell its.its) low in
       let is : x ≡ s.held = one it a x s.held counts.valid.stands s.stands in
       record { cell = its.cell; its = its.its; its_key = ap (λ (y : Record). y.key.0) is ∙ s.its_key; its_value = ap (λ (y : Record). value_of y.value) is ∙ s.its_value }
 
@@ -682,9 +711,10 @@ module _ (home : ℕ → ℕ) (was image : scan.Log) (g : Log) (spells : SpellsA
   old_counts_as_log = record {
     homes = paper.shows.homes;
     orderly = paper.orderly;
-    counts = counts_of;
-    stands = of_counts;
+    counts = λ h a has old begun. counts_of h a has old;
+    stands = λ h a x counts. (let c = of_counts h a x counts in (c.0, c.1, above_in h a c.0));
     tells = tells;
+    live = (above_live home image.begin g paper.orderly.chains paper.orderly.none above).1 image.version;
   }
 
   pub old_shows : ShowsUpto home image g

@@ -1,5 +1,5 @@
 -- While the opening's commit is in force, an image that recovery answers as the opened one holds that commit's store alone.
-use Rattle.std.proofs.Common.{⊎_elim, ℕ, ◌<◌, List, ap, ◌∙◌, arith}
+use Rattle.std.proofs.Common.{◌≡◌, ⊎_elim, ℕ, ◌<◌, ◌≤◌, List, ap, ◌∙◌, arith}
 use Rattle.std.specs.Prelude.{Option}
 use Rattle.std.proofs.lemmas.Bool.{cases_lt}
 use Rattle.std.proofs.lemmas.Option.{slice_get_within}
@@ -11,7 +11,8 @@ use Rattle.fkv_opening.specs.Alike.{Agree, ShareLog}
 use Rattle.fkv_opening.specs.Faults.{HasCheckpoint, IsSound, log_of}
 use Rattle.fkv_opening.specs.Opened.{IsStoreOf}
 use Rattle.fkv_opening.specs.declared.opened_store.Opened.{Opened}
-use Rattle.law_log.specs.Chains.{version_at}
+use Rattle.law_log.proofs.Shown.{above_live}
+use Rattle.law_log.specs.Chains.{Cell, Published, version_at}
 use Rattle.law_log.specs.Ghosts.{Log}
 use Rattle.fkv_record.specs.declared.records.Record.{Record}
 use Rattle.fkv_record.specs.declared.triples.Triple.{Triple}
@@ -23,7 +24,22 @@ use Rattle.law_paper.specs.Paper.Values.{CountsAsLog}
 use Rattle.fkv_opening.proofs.Shown.{Apart}
 use Rattle.law_paper.proofs.OfPaper.Alike.{counts_now, counts_was, sound_now}
 use Rattle.law_paper.proofs.OfPaper.Named.{holds_with}
-use Rattle.law_paper.proofs.OfPaper.Reach.{was_low}
+use Rattle.law_paper.proofs.OfPaper.Reach.{was_low, was_some}
+
+-- an opened store's recovery found no fault
+pub was_sound : (bytes : List ℕ) (o : Opened) (store : IsStoreOf bytes o) → WasSound (log_of bytes store.newest store.triples)
+was_sound bytes o store =
+    let newest = (let has = store.checkpoint in has.newest) in
+    let stored = (let has = store.checkpoint in has.stored) in
+    record {
+      scan = store.sound.scan;
+      chains = store.sound.chains;
+      apart = (let has = store.checkpoint in has.apart);
+      below = λ i x is. (let at = stored.each i x is in at.in_log);
+      some_start = newest.manifest.suits.log.some;
+      begins = newest.manifest.suits.begin.before_scan;
+      upwards = newest.manifest.suits.log.upwards;
+    }
 
 -- ---- an image in which the opening's commit is in force
 module _ (spellings : Apart) (bytes image : List ℕ) (o : Opened) (store : IsStoreOf bytes o) (numbers : Option ℕ × Option ℕ) (kept : HasCheckpoint image (with_numbers store.newest numbers) store.triples) (shared : ShareLog store.newest bytes image) where
@@ -33,21 +49,8 @@ module _ (spellings : Apart) (bytes image : List ℕ) (o : Opened) (store : IsSt
   abbrev xs : List Triple
   xs = store.triples
 
-  abbrev was_checkpoint : HasCheckpoint bytes n xs
-  was_checkpoint = store.checkpoint
-
   was : WasSound (log_of bytes n xs)
-  was =
-      let newest = (let has = was_checkpoint in has.newest) in
-      let stored = (let has = was_checkpoint in has.stored) in
-      record {
-        scan = store.sound.scan;
-        chains = store.sound.chains;
-        apart = was_checkpoint.apart;
-        below = λ i x is. (let at = stored.each i x is in at.in_log);
-        some_start = newest.manifest.suits.log.some;
-        upwards = newest.manifest.suits.log.upwards;
-      }
+  was = was_sound bytes o store
 
   sound_kept : IsSound (log_of image n xs)
   sound_kept = sound_now n xs spellings.records bytes image shared was store.sound.room
@@ -56,11 +59,21 @@ module _ (spellings : Apart) (bytes image : List ℕ) (o : Opened) (store : IsSt
     back : (h a : ℕ) (x : Record) → Counts (log_of image n xs) h a x → Counts (log_of bytes n xs) h a x
     back = counts_was n xs spellings.records bytes image shared was
 
+    -- the log has nothing below the begin
+    above : (a : ℕ) (cell : Cell) → g.cells a ≡ Published cell → n.slot.begin.0 ≤ a
+    above a cell is =
+        let low = was.begins in
+        let up = was.upwards in
+        ⊎_elim
+        (λ old. let counts = (paper.before.counted (home cell.key) a old).0 (paper.orderly.chains.its_chain a cell is) in was_some spellings.records was a counts.1.reached)
+        (λ new. omega (arith, low, up, new))
+        (cases_lt a n.slot.end.0)
+
     counts_as_opened : CountsAsLog home (log_of image n xs) g
     counts_as_opened = record {
       orderly = paper.orderly;
       homes = paper.homes;
-      counts = λ h a has old.
+      counts = λ h a has old begun.
           let its = paper.orderly.chains.in_chain h a has in
           let low : a < n.slot.end.0 = ⊎_elim
           (λ low. low)
@@ -73,8 +86,9 @@ module _ (spellings : Apart) (bytes image : List ℕ) (o : Opened) (store : IsSt
           let low = was_low spellings.records was a counted.reached in
           let has = (paper.before.counted h a low).1 (x, counted) in
           let its = paper.orderly.chains.in_chain h a has in
-          (has, (let version = paper.before.one_version a its.cell low its.its in let is = ap version_at its.its in omega (arith, version, is)));
+          (has, (let version = paper.before.one_version a its.cell low its.its in let is = ap version_at its.its in omega (arith, version, is)), above a its.cell its.its);
       tells = λ h a x counts. paper.tells h a x (back h a x counts);
+      live = (above_live home n.slot.begin.0 g paper.orderly.chains paper.orderly.none above).1 n.slot.number;
     }
 
     pub holds_kept : HoldsCommit home image (with_numbers n numbers) g
@@ -85,7 +99,7 @@ module _ (spellings : Apart) (bytes image : List ℕ) (o : Opened) (store : IsSt
   its_newest : IsNewestOf image store.newest
   its_newest = told_alike bytes image agree.front store.newest (let has = store.checkpoint in has.newest)
 
-  share_log : ShareLog store.newest bytes image
+  pub share_log : ShareLog store.newest bytes image
   share_log = agree.behind store.newest (let has = store.checkpoint in has.newest)
 
   its_triples : AreTriples (checkpoint_in image store.newest.shape store.newest.slot) store.triples
@@ -99,7 +113,7 @@ module _ (spellings : Apart) (bytes image : List ℕ) (o : Opened) (store : IsSt
             record { stands = at.stands ∙ share_log.triples i low; in_index = at.in_index; in_log = at.in_log };
       }
 
-  checkpoint_here : HasCheckpoint image store.newest store.triples
+  pub checkpoint_here : HasCheckpoint image store.newest store.triples
   checkpoint_here = record { newest = its_newest; stored = its_triples; apart = (let has = store.checkpoint in has.apart) }
 
   pub holds_opened : (home : ℕ → ℕ) (g : Log) → StandsAsOpened home (log_of bytes store.newest store.triples) g → HoldsCommit home image store.newest g

@@ -86,8 +86,9 @@ module _ (home : ℕ → ℕ) (image : scan.Log) (g : Log) (paper : CountsAsLog 
   abbrev entry : ℕ → ℕ
   entry h = first_such is_old g.cells (g.chains h)
 
+  -- a home has an entry if that lies at or above the begin
   abbrev has_entry : ℕ → Bool
-  has_entry h = nat_lt 0 (entry h)
+  has_entry h = nat_lt 0 (entry h) && nat_le image.begin (entry h)
 
   not_zero : (h a : ℕ) → IsIn a (g.chains h) → a ≢ 0
   not_zero h a has zero_is =
@@ -95,17 +96,21 @@ module _ (home : ℕ → ℕ) (image : scan.Log) (g : Log) (paper : CountsAsLog 
       let off : Unborn ≡ Published its.cell = sym paper.orderly.none ∙ ap g.cells (sym zero_is) ∙ its.its in
       absurd (cc)
 
-  entry_in : (h : ℕ) → has_entry h ≡ true → IsIn (entry h) (g.chains h) × (version_at (g.cells (entry h)) ≤ image.version)
-  entry_in h is = elim (first_is is_old g.cells (g.chains h)) [
-    | inl none ↦ absurd (let some : 0 < entry h = grind (arith, nat_tests, is) in omega (arith, some, none))
-    | inr some ↦ (some.0, old_is (entry h) some.1)
-  ]
+  entry_in : (h : ℕ) → has_entry h ≡ true → IsIn (entry h) (g.chains h) × (version_at (g.cells (entry h)) ≤ image.version) × (image.begin ≤ entry h)
+  entry_in h is =
+      let its = both (nat_lt 0 (entry h)) (nat_le image.begin (entry h)) is in
+      let there = its.0 in
+      let on = its.1 in
+      elim (first_is is_old g.cells (g.chains h)) [
+        | inl none ↦ absurd (let some : 0 < entry h = grind (arith, nat_tests, there) in omega (arith, some, none))
+        | inr some ↦ (some.0, old_is (entry h) some.1, grind (arith, nat_tests, on))
+      ]
 
   is_entry : (h : ℕ) → has_entry h ≡ true → IsEntry image h (entry h)
   is_entry h is =
       let its = entry_in h is in
       record {
-        counts = paper.counts h (entry h) its.0 its.1;
+        counts = paper.counts h (entry h) its.0 its.1 its.2;
         greatest = λ b y counts. (let there = paper.stands h b y counts in (first_newest is_old g.cells (g.chains h) (paper.orderly.chains.linked h) b there.0 (old_yes b there.1)).1);
       }
 
@@ -114,7 +119,10 @@ module _ (home : ℕ → ℕ) (image : scan.Log) (g : Log) (paper : CountsAsLog 
       let there = paper.stands h a is.counts.0 is.counts.1 in
       let first = first_newest is_old g.cells (g.chains h) (paper.orderly.chains.linked h) a there.0 (old_yes a there.1) in
       let some = not_zero h (entry h) first.0 in
-      grind (arith, nat_tests, some)
+      let begun = there.2 in
+      let up = first.1 in
+      let on : image.begin ≤ entry h = omega (arith, begun, up) in
+      and_is (nat_lt 0 (entry h)) (nat_le image.begin (entry h)) (grind (arith, nat_tests, some)) (grind (arith, nat_tests, on))
 
   -- each home lies in the index
   abbrev last_home : ℕ

@@ -342,6 +342,7 @@ module _ (spells : SpellsApart record_bytes) (image : List ℕ) (n : Newest) (xs
   opened = record {
     shape = n.shape;
     number = record { 0 = n.slot.number };
+    begin = n.slot.begin;
     tail = n.slot.end;
     points = vec_of n.slot.points.serials.items points_small;
     gates = (is_some n.open_numbers.0, is_some n.open_numbers.1);
@@ -356,11 +357,15 @@ module _ (spells : SpellsApart record_bytes) (image : List ℕ) (n : Newest) (xs
     some_tail = (let some = n.fits.log.some in let up = n.fits.log.upwards in omega (arith, some, up));
     tail_on_disk = n.fits.log.on_disk;
     some_warm = (let some = n.fits.log.some in let up = n.fits.log.upwards in omega (arith, some, up));
+    warm_from_begin = (let begin = n.fits.begin.before_scan in let up = n.fits.log.upwards in omega (arith, begin, up));
     warm_in_log = omega arith;
     warm_in_ring = room_in_ring n.shape n.slot.end.0;
     three_words = omega arith;
     each_session = n.fits.sessions;
     small_points = n.slot.points.serials_fit;
+    some_begin = n.fits.begin.some;
+    begin_before_scan = n.fits.begin.before_scan;
+    whole = λ is. (n.fits.begin.whole is).0;
     some_first = n.fits.log.some;
     upwards = n.fits.log.upwards;
     few_triples = n.fits.checkpoint.few;
@@ -375,7 +380,7 @@ module _ (spells : SpellsApart record_bytes) (image : List ℕ) (n : Newest) (xs
     triples = xs;
     checkpoint = has;
     sound = sound;
-    tells = record { shape = refl; number = refl; tail = refl; points = refl; gate_0 = refl; gate_1 = refl; checkpoint = refl; first = refl; triples = refl; area = refl };
+    tells = record { shape = refl; number = refl; begin = refl; tail = refl; points = refl; gate_0 = refl; gate_1 = refl; checkpoint = refl; first = refl; triples = refl; area = refl };
     entries = are_entries;
     lost = record { left_out = tells_newer.0; tells = tells_newer.1; extends = (in_hand tells_newer.0).1 };
     warm = nothing_warm image opened (omega arith);

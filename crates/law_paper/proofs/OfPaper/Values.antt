@@ -1,6 +1,7 @@
 -- The values of an image in which what counts is what the log has of versions up to the commit's.
-use Rattle.std.proofs.Common.{◌≡◌, ◌≢◌, inl, inr, ℕ, ◌≤◌, Bool, true, false, Some, None, refl, sym, ap, subst, ◌∙◌, arith}
+use Rattle.std.proofs.Common.{◌≡◌, ◌≢◌, inl, inr, ⊎_elim, ℕ, ◌<◌, ◌≤◌, Bool, true, false, Some, None, refl, sym, ap, subst, ◌∙◌, arith}
 use Rattle.std.specs.Prelude.{◌↔◌, ◌==◌, ◌&&◌, if◌then◌else◌, nat_eq, nat_le}
+use Rattle.std.proofs.lemmas.Bool.{cases_lt}
 use Rattle.std.proofs.lemmas.Bool.Decides.{nat_tests}
 use Rattle.fkv_base.specs.declared.numbers.Key.{Key}
 use Rattle.fkv_chains.specs.Entries.{Counts}
@@ -42,8 +43,8 @@ module _ (home : ℕ → ℕ) (image : scan.Log) (g : Log) (spells : SpellsApart
   abbrev newest : ℕ → ℕ
   newest key = newest_upto home g image.version key
 
-  -- a record that counts, of a key, stands in the chain of the key's home, and passes
-  key_chain : (key b : ℕ) (y : Record) → CountsAtHome image b y → y.key ≡ record { 0 = key } → IsIn b (g.chains (home key)) × (has_key_upto image.version key (g.cells b) ≡ true)
+  -- a record that counts, of a key, stands in the chain of the key's home from the begin on, and passes
+  key_chain : (key b : ℕ) (y : Record) → CountsAtHome image b y → y.key ≡ record { 0 = key } → IsIn b (g.chains (home key)) × (has_key_upto image.version key (g.cells b) ≡ true) × (image.begin ≤ b)
   key_chain key b y counts of_key =
       let c = paper.stands (record_home image.shape.bucket_bits y) b y counts in
       let s : TellsCell (g.cells b) y = paper.tells (record_home image.shape.bucket_bits y) b y counts in
@@ -53,6 +54,7 @@ module _ (home : ℕ → ℕ) (image : scan.Log) (g : Log) (spells : SpellsApart
       let version_is : (let d = s.cell in d.version) ≤ image.version = subst (λ (n : ℕ). n ≤ image.version) (ap version_at s.its) c.1 in (
         subst (λ (h : ℕ). IsIn b (g.chains h)) at c.0,
         ap (has_key_upto image.version key) s.its ∙ passes key image.version _ _ key_is version_is,
+        c.2,
       )
 
   is_newest : (key a : ℕ) (x : Record) → CountsAtHome image a x → x.key ≡ record { 0 = key } → newest key ≡ a → IsNewest image (record { 0 = key }) a x
@@ -76,23 +78,33 @@ module _ (home : ℕ → ℕ) (image : scan.Log) (g : Log) (spells : SpellsApart
     abbrev ShowsValue : Type 0
     ShowsValue = (v : ℕ) → (shown_upto home g image.version key ≡ Some v) ↔ HasValue image (record { 0 = key }) (record { 0 = v })
 
-    by_none : newest key ≡ 0 → ShowsValue
-    by_none is v =
-        let value : shown_upto home g image.version key ≡ None = ap (λ (n : ℕ). value_at (g.cells n)) is ∙ ap value_at paper.orderly.none in (
-          λ shows. let off : None ≡ Some v = sym value ∙ shows in absurd (cc),
-          λ has.
-              let there = key_chain key has.addr has.held has.newest.counts has.newest.of_key in
-              let found = (first_newest (has_key_upto image.version key) g.cells _ (paper.orderly.chains.linked _) has.addr there.0 there.1).0 in
-              let its = paper.orderly.chains.in_chain _ _ found in
-              let off : Unborn ≡ Published its.cell = sym paper.orderly.none ∙ ap g.cells (sym is) ∙ its.its in
-              absurd (cc),
-        )
+    -- its newest record lies at or above the begin, if the image has a value for it
+    begun : (v : ℕ) → HasValue image (record { 0 = key }) (record { 0 = v }) → IsIn (newest key) (g.chains (home key)) × (image.begin ≤ newest key)
+    begun v has =
+        let there = key_chain key has.addr has.held has.newest.counts has.newest.of_key in
+        let found = first_newest (has_key_upto image.version key) g.cells _ (paper.orderly.chains.linked _) has.addr there.0 there.1 in
+        let low = there.2 in
+        let up = found.1 in
+        (found.0, omega (arith, low, up))
 
-    by_cell : (a : ℕ) (logged : Logged) → newest key ≡ a → g.cells a ≡ logged → has_key_upto image.version key logged ≡ true → ShowsValue
-    by_cell a (Published cell) is there own v =
+    -- a key that the log shows as absent, and for which the image has no value
+    by_absent : shown_upto home g image.version key ≡ None → ((v : ℕ) → HasValue image (record { 0 = key }) (record { 0 = v }) → ⊥) → ShowsValue
+    by_absent value none v = (λ shows. let off : None ≡ Some v = sym value ∙ shows in absurd (cc), λ has. absurd (none v has))
+
+    by_none : newest key ≡ 0 → ShowsValue
+    by_none is = by_absent (ap (λ (n : ℕ). value_at (g.cells n)) is ∙ ap value_at paper.orderly.none) (λ v has.
+        let its = paper.orderly.chains.in_chain _ _ (begun v has).0 in
+        let off : Unborn ≡ Published its.cell = sym paper.orderly.none ∙ ap g.cells (sym is) ∙ its.its in
+        absurd (cc))
+
+    by_below : newest key < image.begin → ShowsValue
+    by_below low = by_absent (elim (paper.live key) [ inl above ↦ absurd (omega (arith, above, low)) | inr absent ↦ absent ]) (λ v has. (let above = (begun v has).1 in omega (arith, above, low)))
+
+    by_cell : (a : ℕ) (logged : Logged) → newest key ≡ a → image.begin ≤ a → g.cells a ≡ logged → has_key_upto image.version key logged ≡ true → ShowsValue
+    by_cell a (Published cell) is on there own v =
         let its = its_key key image.version cell.key cell.version own in
         let at : IsIn a (g.chains (home key)) = subst (λ (n : ℕ). IsIn a (g.chains (home n))) its.0 (paper.orderly.chains.its_chain a cell there) in
-        let has = paper.counts (home key) a at (subst (λ (n : ℕ). n ≤ image.version) (ap version_at (sym there)) its.1) in
+        let has = paper.counts (home key) a at (subst (λ (n : ℕ). n ≤ image.version) (ap version_at (sym there)) its.1) on in
         let x : Record = has.0 in
         let s : TellsCell (g.cells a) x = paper.tells (home key) a x has.1 in
         let same_cell : s.cell ≡ cell = (let both : Published s.cell ≡ Published cell = sym s.its ∙ there in cc) in
@@ -106,14 +118,14 @@ module _ (home : ℕ → ℕ) (image : scan.Log) (g : Log) (spells : SpellsApart
               let same = same_newest (record { 0 = key }) a given.addr x given.held most given.newest in
               value ∙ value_some x.value v (ap (λ (y : Record). y.value) same ∙ given.written) given.present,
         )
-    by_cell a Unborn is there own v = absurd (cc)
-    by_cell a (Reserved entry cell) is there own v = absurd (cc)
-    by_cell a (Dropped cell) is there own v = absurd (cc)
+    by_cell a Unborn is on there own v = absurd (cc)
+    by_cell a (Reserved entry cell) is on there own v = absurd (cc)
+    by_cell a (Dropped cell) is on there own v = absurd (cc)
 
     pub shows_value : ShowsValue
     shows_value = elim (first_is (has_key_upto image.version key) g.cells (g.chains (home key))) [
       | inl none ↦ by_none none
-      | inr some ↦ by_cell _ _ refl refl some.1
+      | inr some ↦ ⊎_elim (λ low. by_below low) (λ on. by_cell _ _ refl on refl some.1) (cases_lt (newest key) image.begin)
     ]
 
   pub shows_upto : ShowsUpto home image g

@@ -14,15 +14,17 @@ use Rattle.fkv_scan.specs.Records.{Stands, version_of, losses}
 use Rattle.fkv_scan.specs.Scan.{Has, HasScan}
 use Rattle.law_paper.specs.Paper.Images.{IsCut, IsOrderly, IsRecent, ShowsLog}
 
--- Two scans go by the same checkpoint, and meet the same records from address 1 to the end of the first. The second is of no earlier commit, and ends no lower.
+-- Two scans go by the same checkpoint and begin, and meet the same records from there to the end of the first. The second is of no earlier commit, and ends no
+-- lower.
 pub record GoesOnFrom (was image : scan.Log) : Type 0 where
+  pub begin : image.begin ≡ was.begin
   pub start : image.start ≡ was.start
   pub oldest : image.oldest ≡ was.oldest
   pub bits : image.shape.bucket_bits ≡ was.shape.bucket_bits
   pub triples : image.triples ≡ was.triples
   pub longer : was.tail ≤ image.tail
   pub newer : was.version ≤ image.version
-  pub bytes : (a : ℕ) (x : Record) → 0 < a → a < was.tail → Stands was a x ↔ Stands image a x
+  pub bytes : (a : ℕ) (x : Record) → was.begin ≤ a → a < was.tail → Stands was a x ↔ Stands image a x
 
 -- the opening's recovery found no fault in the scan, the chains and the triples
 pub record WasSound (was : scan.Log) : Type 0 where
@@ -31,6 +33,7 @@ pub record WasSound (was : scan.Log) : Type 0 where
   pub apart : AreApart was.triples
   pub below : AreBelow was.tail was.triples
   pub some_start : 0 < was.start
+  pub begins : was.begin ≤ was.start
   pub upwards : was.start ≤ was.tail
 
 -- below the opening's end the log's chains have what counted there, all of the opening's version

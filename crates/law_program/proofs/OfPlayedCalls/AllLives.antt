@@ -36,7 +36,7 @@ use Rattle.law_order.specs.Below.fkv_world.World.{Event}
 use Rattle.law_order.specs.Below.law_opening.Lives.Laws.{CreatedReachesFar}
 use Rattle.law_order.specs.Below.law_opening.Log.Maps.{opening_map}
 use Rattle.law_order.specs.OneHistory.EachLife.{InEachLife, IsLife, Life}
-use Rattle.law_order.specs.Prefix.Law.{AreLives, BeginsBehind, BeginsWithKept, HoldsPrefix, LivesFollow, LivesReachFar, RecoversPrefix, calls_so_far, first_of, kept_of_all, map_of, points_of}
+use Rattle.law_order.specs.Prefix.Law.{AreLives, BeginsBehind, BeginsWithKept, HoldsPrefix, LivesFollow, LivesReachFar, MayBeFound, RecoversPrefix, calls_so_far, first_of, kept_of_all, map_of, points_of}
 use Rattle.law_order.specs.Tickets.Few.{HasFewCalls, calls_in}
 use Rattle.law_program.specs.PlayedCalls.AllLives.{AreShown, ArePlayedOverLives, ArmsShown, CrashTaken, CrashesEndLives, EndsLife, EndsLifeWhere, IsPieceOverLives, NewStoresAreShown, PieceFits, PiecesFit, ReportsAllKept, ReportsOverLives, RunInLives, RunsOverLives, Shows, StaysInLife, crash_in, struck_in, with_events}
 use Rattle.law_program.specs.PlayedCalls.EachLine.{IsLifeOver}
@@ -47,6 +47,7 @@ use Rattle.law_program.proofs.OfPlayedCalls.Checked.{agrees, kept_so, noted_arme
 use Rattle.law_program.specs.PlayedCalls.Lives.{LivesBegin, fuse_may_leave, fuse_seen}
 use Rattle.law_program.proofs.OfPlayedCalls.CrashReports.{only_device}
 use Rattle.law_program.proofs.OfPlayedCalls.FewCalls.{calls_grow, finish_counted, queues_counted}
+use Rattle.law_order.proofs.OfPrefix.Forgotten.{as_left}
 use Rattle.law_program.proofs.OfPlayedCalls.FewSeats.{begin_seats, few_still, finish_seats, group_seats}
 use Rattle.law_program.proofs.OfPlayedCalls.Lives.{armed_leaves}
 use Rattle.law_program.proofs.OfPlayedCalls.NewStores.{PairsAreMap}
@@ -83,9 +84,11 @@ module _ {D : Type 0} (seen : D → List ℕ) (medium : Medium D) (settings : Se
   life_of : (its : Life) (player : PlayerState D) → Shows seen medium.may_leave its player → HasFewCalls its.events → IsLife its
   life_of its player shown few = record { store = shown.store; begins = shown.opening; fits = shown.fits; few = few }
 
-  left_of : (its : Life) (player : PlayerState D) (image : List ℕ) → Shows seen medium.may_leave its player → medium.may_leave player.world.device image → MayLeave its.bytes (calls_so_far its.world its.bytes its.events) image
+  left_of : (its : Life) (player : PlayerState D) (image : List ℕ) → Shows seen medium.may_leave its player → medium.may_leave player.world.device image → MayBeFound its.bytes (calls_so_far its.world its.bytes its.events) image
   left_of its player image shown left =
-      let device = shown.device in subst (λ (x : List ℕ). MayLeave x (calls_so_far its.world its.bytes its.events) image) (laws.past (beginning its.world its.bytes) its.events) (device.leaves image left)
+      let device = shown.device in
+      as_left its.bytes (calls_so_far its.world its.bytes its.events) image
+      (subst (λ (x : List ℕ). MayLeave x (calls_so_far its.world its.bytes its.events) image) (laws.past (beginning its.world its.bytes) its.events) (device.leaves image left))
 
   abbrev NotesAll : Life → List Life → PlayerState D → Type 0
   NotesAll its before player = AreNoted settings.checks its before player
@@ -134,7 +137,7 @@ module _ {D : Type 0} (seen : D → List ℕ) (medium : Medium D) (settings : Se
           let over_it : IsLifeOver seen medium.may_leave image crash.opened behind.player.world.now [] behind.player
           = laws.begin image crash.opened crash.device (kept_behind settings.checks struck.player.history crash.opened) settings.checks behind.player crash.recovered.store crash.reads crash.begins in
           let quiet = laws.quiet image crash.opened behind.player.world.now [] behind.player over_it in
-          let left : MayLeave last.bytes (calls_so_far last.world last.bytes last.events) image = left_of last struck.player image are.shown crashed.left in
+          let left : MayBeFound last.bytes (calls_so_far last.world last.bytes last.events) image = left_of last struck.player image are.shown crashed.left in
           let shows = laws.pairs image crash.opened crash.recovered.store crash.pairs crash.recovered.are_pairs in
           record {
             next = next;

@@ -15,6 +15,7 @@ use Rattle.law_order.specs.Below.fkv_world.World.{Event, Now}
 use Rattle.law_order.specs.OneHistory.EachLife.{InEachLife, IsLife, Life}
 use Rattle.law_order.specs.Below.law_opening.Lives.Reaching.{ReachesFar}
 use Rattle.law_order.specs.Prefix.Law.{HoldsPrefix, RecoversPrefix, calls_so_far}
+use Rattle.law_order.proofs.OfPrefix.Forgotten.{as_left}
 use Rattle.law_program.specs.PlayedCalls.CrashReports.{CrashesTakeWhatIsKept, IsReportOfKept}
 use Rattle.law_order.specs.Tickets.Few.{HasFewCalls}
 use Rattle.law_program.specs.PlayedCalls.Interleaved.{IsLifeShown}
@@ -35,7 +36,7 @@ module _ {D : Type 0} (recovers : InEachLife RecoversPrefix) (opened : (opening 
       let device = shown.device in
       let its : Life = record { bytes = bytes; opened = o; world = first; events = life } in
       let is : IsLife its = record { store = shown.store; begins = shown.opening; fits = shown.fits; few = few } in
-      recovers its is far image (subst (λ (x : List ℕ). MayLeave x (calls_so_far first bytes life) image) (opened (beginning first bytes) life) (device.leaves image left))
+      recovers its is far image (as_left bytes (calls_so_far first bytes life) image (subst (λ (x : List ℕ). MayLeave x (calls_so_far first bytes life) image) (opened (beginning first bytes) life) (device.leaves image left)))
 
   module _ (begin : LivesBegin seen medium.may_leave medium.holds) (pairs : PairsAreMap) where
     report_kept : (bytes : List ℕ) (o : Opened) (first : Now) (life : List Event) (image : List ℕ) (checks agrees : Bool) (before after : PlayerState D) (text : List ℕ) → HoldsPrefix o first bytes life image

@@ -1,31 +1,25 @@
 -- An attempt spares each part but where it works there: in its try, and in a task with its session's mailbox.
 use Rattle.std.proofs.Common.{◌≡◌, ◌≢◌, ℕ, refl, sym, subst, arith, Bool, true, false}
-use Rattle.std.specs.Prelude.{if◌then◌else◌, ◌==◌, ⊤, Option, Some, None}
-use Rattle.fkv_map.specs.Keys.{key_of}
+use Rattle.std.specs.Prelude.{if◌then◌else◌, ⊤, Option, Some, None}
 use Rattle.fkv_plane.specs.declared.asks.Ask.{Ask}
 use Rattle.fkv_plane.specs.declared.asks.Ask.TheVariants.{Done}
 use Rattle.fkv_plane.specs.declared.places.Places.{Places}
 use Rattle.law_world.specs.Below.fkv_ops.DiskRecord.{DiskRecord}
 use Rattle.law_world.specs.Below.fkv_ops.TryAnswer.{TryAnswer}
 use Rattle.law_world.specs.Below.fkv_ops.TryAnswer.TheVariants as answer
-use Rattle.law_world.specs.Below.fkv_ops.HeaderSaid.{HeaderSaid}
-use Rattle.law_world.specs.Below.fkv_ops.HeaderSaid.TheVariants.{Says, Spoiled}
 use Rattle.law_world.specs.Below.fkv_ops.Occasion.{Occasion}
 use Rattle.law_world.specs.Below.fkv_ops.Seen.{Seen}
-use Rattle.law_world.specs.Below.fkv_ops.HeaderWords.{header_said}
-use Rattle.law_world.specs.Below.fkv_ops.Trying.{try_ask, try_next, told_value}
-use Rattle.law_world.specs.Below.fkv_ops.Values.{value_of}
+use Rattle.law_world.specs.Below.fkv_ops.Trying.{try_ask, try_next}
 use Rattle.law_world.specs.Below.fkv_pending.TheAttempting.{Attempting}
 use Rattle.law_world.specs.Below.fkv_pending.TheAttempting.TheVariants.{Ended, Looks, Tries, Puts}
 use Rattle.law_world.specs.Below.fkv_pending.MailAnswer.{MailAnswer}
 use Rattle.law_world.specs.Below.fkv_pending.MailAnswer.TheVariants as mail
-use Rattle.law_world.specs.Below.fkv_pending.MailRecord.{MailRecord}
 use Rattle.law_world.specs.Below.fkv_pending.MailTask.TheVariants.{Take}
 use Rattle.law_world.specs.Below.fkv_pending.TheMailing.TheVariants as mailing
 use Rattle.law_world.specs.Below.fkv_pending.PendingRequest.{PendingRequest}
 use Rattle.law_world.specs.Below.fkv_pending.Mailing.{mail_ask, mail_next}
-use Rattle.law_world.specs.Below.fkv_pending.Pending.{with_sought, with_held, with_latch, with_asked}
-use Rattle.law_world.specs.Below.fkv_pending.Attempting.{AttemptState, attempting_ask, attempt_ask, attempt_ended, waits_for_disk, puts_addr, puts, tries, is_seeking_read, goes_on, attempt_begun, held_of, moved_on, read_on, record_taken, look_ledto, held_kept, tried, try_ledto, put_ledto, mail_moved, try_moved, attempting_next, attempt_next, new_attempt}
+use Rattle.law_world.specs.Below.fkv_pending.Pending.{with_sought, with_held, with_latch}
+use Rattle.law_world.specs.Below.fkv_pending.Attempting.{AttemptState, attempting_ask, attempt_ask, waits_for_disk, puts_addr, puts, tries, is_seeking_read, goes_on, attempt_begun, look_ledto, held_kept, tried, try_ledto, put_ledto, mail_moved, try_moved, attempting_next, attempt_next, new_attempt}
 use Rattle.law_refine.specs.Mail.Mailers.{attempt_mailing}
 use Rattle.fkv_plane.specs.declared.places.SessionWord.TheVariants as own
 use Rattle.fkv_latch.specs.declared.latching.Latching.TheVariants as latching
@@ -37,6 +31,7 @@ use Rattle.law_refine.proofs.Footprint.Latching.{passed_spares}
 use Rattle.law_refine.proofs.Footprint.Outside.{mail_outside}
 use Rattle.law_refine.proofs.OfIndex.AttemptParts.{AttemptKnows}
 use Rattle.law_refine.proofs.Footprint.Tries.{IsTrySparing, try_spares, try_next_spares, try_begun_spares}
+use Rattle.law_refine.proofs.OfEvents.Looks.{look_holds}
 
 -- its try keeps to its bounds
 abbrev pub AttemptBounds : Places → AttemptState → Attempting → Type 0
@@ -101,23 +96,10 @@ attempt_begun_spares p bits pending seen occasion spare is_orphaned =
     let first : AttemptState = new_attempt bits pending seen occasion spare is_orphaned in
     either_spares pending.has_asked p (record first { mailing = mailing.LoadsState Take; step = Looks }) (goes_on p bits first) tt (goes_spares p bits first)
 
-read_spares : (p : Places) (a : AttemptState) (its : MailRecord) (said : HeaderSaid) → IsAttemptSparing p (read_on a its said)
-read_spares p a its Spoiled = puts_spares p a a.pending.sought
-read_spares p a its (Says previous version) =
-    let moved : AttemptState = record a { pending = with_sought a.pending (moved_on a.pending.sought previous) } in
-    either_spares (its.key.0 == (key_of a.pending.request.op).0) p (attempt_ended a (told_value (value_of its.value))) _ tt
-    (either_spares (previous.0 == 0) p (attempt_ended a answer.Absent) (puts moved) tt (puts_spares p moved moved.pending.sought))
-
-record_spares : (p : Places) (bits : ℕ) (a : AttemptState) (its : MailRecord) (said : HeaderSaid) → IsAttemptSparing p (record_taken p bits a its said)
-record_spares p bits a its said =
-    let held : AttemptState = record a { pending = with_held a.pending (held_of a.pending.sought its said) } in
-    either_spares (is_seeking_read a) p (read_on a its said) (tries p bits held) (read_spares p a its said) (tries_spares p bits held)
-
 look_spares : (p : Places) (bits : ℕ) (a : AttemptState) (ask : Ask MailAnswer) → a.step ≡ Looks → IsAttemptSparing p (look_ledto p bits a ask)
-unfolding look_ledto
-look_spares p bits a (Done (mail.Taken its)) at = record_spares p bits (record a { is_emptied = true; pending = with_asked a.pending false }) its (header_said its.header)
-look_spares p bits a (Done other) at = either_spares (is_seeking_read a) p (waits_for_disk a) (tries p bits a) tt (tries_spares p bits a)
-look_spares p bits a ask at = stays_spares p a Looks at tt
+look_spares p bits a ask at =
+    look_holds (λ its. IsAttemptSparing p its) (λ its told. tt) (λ its sought. puts_spares p its sought) p bits (λ its. tries_spares p bits its) a ask
+    (stays_spares p a Looks at tt)
 
 put_spares : (p : Places) (a : AttemptState) (ask : Ask MailAnswer) → a.step ≡ Puts → IsAttemptSparing p (put_ledto a ask)
 unfolding put_ledto

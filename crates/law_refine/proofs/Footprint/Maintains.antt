@@ -113,7 +113,9 @@ next_spares shape p s Claims reply at bounds = claimed shape.sessions (record s 
 next_spares shape p s Flushes reply at bounds = flushed shape.sessions (record s { bytes = bytes_next s.flushing s.bytes reply; flushing = flush_next shape.page s.flushing reply }) _ at
 next_spares shape p s Shifts reply at bounds = shifted shape.sessions (record s { shift = shift_next shape s.shift reply }) _ at (shift_range shape s.shift reply bounds)
 next_spares shape p s Turns reply at bounds = turned shape (record s { turn = turn_next shape s.turn reply }) _ at (turn_range shape s.turn reply bounds)
-next_spares shape p s Serves reply at bounds = served shape.sessions (record s { serving = serve_next shape.sessions s.serving reply }) _ at (serve_below shape.sessions s.serving reply bounds)
+next_spares shape p s Serves reply at bounds =
+    served shape.sessions (record s { serving = serve_next shape.sessions s.begin.0 s.serving reply }) _ at
+    (serve_below shape.sessions s.begin.0 s.serving reply bounds)
 next_spares shape p s step reply at bounds = stays_spares shape.sessions s step at tt
 
 -- each reply, each action, and each call of the device

@@ -10,7 +10,7 @@ use Rattle.law_world.specs.Below.fkv_flush.TheFlushing.TheVariants as flush
 use Rattle.law_world.specs.Below.fkv_flush.TheServing.{Serving}
 use Rattle.law_world.specs.Below.fkv_flush.TheServing.TheVariants as serve
 use Rattle.law_world.specs.Below.fkv_flush.Flushing.{flush_ask}
-use Rattle.law_world.specs.Below.fkv_flush.Serving.{asked_state, serve_ask, mailbox_from, serve_next, serve_read}
+use Rattle.law_world.specs.Below.fkv_flush.Serving.{asked_state, gone_mail, serve_ask, mailbox_from, serve_next, serve_read}
 use Rattle.law_refine.specs.Mail.Servers.{is_serving}
 use Rattle.law_refine.specs.Footprint.{Part, TheMailbox, HasSeats, Spares}
 use Rattle.law_refine.proofs.Footprint.Outside.{shared_outside, mail_outside, seat_of}
@@ -61,13 +61,16 @@ either_below : (c : Bool) (n : ℕ) (a b : Serving) → ServesBelow n a → Serv
 either_below true n a b one other = one
 either_below false n a b one other = other
 
-pub serve_below : (n : ℕ) (step : Serving) (reply : ℕ) → ServesBelow n step → ServesBelow n (serve_next n step reply)
+pub serve_below : (n begin : ℕ) (step : Serving) (reply : ℕ) → ServesBelow n step → ServesBelow n (serve_next n begin step reply)
 unfolding serve_next
-serve_below n serve.AtRest reply low = tt
-serve_below n (serve.LoadsState session) reply low = either_below (reply == asked_state) n (serve.LoadsAddress session) (mailbox_from n (session + 1)) low (mailbox_below n (session + 1))
-serve_below n (serve.LoadsAddress session) reply low = either_below (nat_lt reply (2 ^ 48)) n (serve.Reads session reply) (mailbox_from n (session + 1)) low (mailbox_below n (session + 1))
-serve_below n (serve.StoresReady session) reply low = mailbox_below n (session + 1)
-serve_below n step reply low = low
+serve_below n begin serve.AtRest reply low = tt
+serve_below n begin (serve.LoadsState session) reply low =
+    either_below (reply == asked_state) n (serve.LoadsAddress session) (mailbox_from n (session + 1)) low (mailbox_below n (session + 1))
+serve_below n begin (serve.LoadsAddress session) reply low =
+    either_below (nat_lt reply begin) n (serve.StoresHeader session (gone_mail begin)) _ low
+    (either_below (nat_lt reply (2 ^ 48)) n (serve.Reads session reply) (mailbox_from n (session + 1)) low (mailbox_below n (session + 1)))
+serve_below n begin (serve.StoresReady session) reply low = mailbox_below n (session + 1)
+serve_below n begin step reply low = low
 
 pub read_below : (n : ℕ) (step : Serving) (bytes : List ℕ) → ServesBelow n step → ServesBelow n (serve_read step bytes)
 unfolding serve_read

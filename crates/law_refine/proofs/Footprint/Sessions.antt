@@ -34,7 +34,7 @@ use Rattle.law_world.specs.Below.fkv_session.Sitting.{Sitting}
 use Rattle.law_world.specs.Below.fkv_session.Sitting.TheVariants.{Idle, Attempts, CatchesUp, ClearsMail, Polls, StoresOwing, Turns, StoresCut, Leaves, LoadsDurable}
 use Rattle.law_world.specs.Below.fkv_session.CatchingUp.{refresh_begun, wake_begun}
 use Rattle.law_world.specs.Below.fkv_session.OwnTurns.{own_turn_begun, own_turn_given}
-use Rattle.law_world.specs.Below.fkv_session.Sessions.{SessionState, Seat, IsOpened, bits_of, room_of, answers, refuses, answers_after_turn, request_in_hand, attempts, polls_request, polls_at, refusal_of, op_begun, refresh_call, poll_begun, poll_call, sleep_call, wake_call, call_begun, ticket_after, attempt_left, serial_taken, update_done, is_no_room, lacks_room, with_request, accepts, shifts, attempted, attempt_ledto, caught_up, catch_ledto, clear_ledto, is_finished, is_owed, request_finished, finishes_request, keeps_request, poll_ledto, turn_ledto, leave_ledto, attempt_moved, caught, own_turn_moved, sitting_ask, session_ask, sitting_next, session_next, sitting_given, session_given, asks_after, is_word_ask, is_busy}
+use Rattle.law_world.specs.Below.fkv_session.Sessions.{SessionState, Seat, IsOpened, bits_of, room_of, answers, refuses, answers_after_turn, request_in_hand, attempts, polls_request, polls_at, refusal_of, op_begun, refresh_call, poll_begun, poll_call, sleep_call, wake_call, call_begun, ticket_after, attempt_left, poll_left, serial_taken, update_done, is_no_room, lacks_room, with_request, accepts, shifts, attempted, attempt_ledto, caught_up, catch_ledto, clear_ledto, is_finished, is_owed, request_finished, finishes_request, keeps_request, poll_ledto, turn_ledto, leave_ledto, attempt_moved, caught, own_turn_moved, sitting_ask, session_ask, sitting_next, session_next, sitting_given, session_given, asks_after, is_word_ask, is_busy}
 use Rattle.law_world.specs.Below.fkv_session.SessionRun.{SessionEvent, Begins, Replies, Gets, begins, session_happens, session_run}
 use Rattle.law_refine.specs.Footprint.{Part, TheIndex, TheLatches, ThePhase, TheMarks, TheMailbox, HasSeat, Spares}
 use Rattle.law_refine.specs.Index.Finders.{sitting_part, search_in, entry_in}
@@ -160,7 +160,9 @@ keeps_spares k s index its = polling_spares k (record s { requests = slice_set s
 
 poll_ledto_spares : (k : Seat) (s : SessionState) (index : ℕ) (ask : Ask TryAnswer) → s.step ≡ Polls index → IsAttemptSparing k.places s.attempt → IsSessionSparing k.places (poll_ledto k s index ask)
 unfolding poll_ledto
-poll_ledto_spares k s index (Done its) at spared = either_spares (is_finished its) k.places (finishes_request k (attempt_left s) index its) (keeps_request k (attempt_left s) index its) (finishes_spares k (attempt_left s) index its) (keeps_spares k (attempt_left s) index its)
+poll_ledto_spares k s index (Done its) at spared =
+    either_spares (is_finished its) k.places (finishes_request k (poll_left s) index its) (keeps_request k (poll_left s) index its)
+    (finishes_spares k (poll_left s) index its) (keeps_spares k (poll_left s) index its)
 poll_ledto_spares k s index ask at spared = stays_spares k.places s (Polls index) at spared
 
 caught_up_spares : (k : Seat) (s : SessionState) (cause : CatchCause) → IsSessionSparing k.places (caught_up k s cause)

@@ -1,6 +1,6 @@
 -- A try spares each part: the index where it neither searches nor publishes, and the latches where it works on none.
 use Rattle.std.proofs.Common.{◌≡◌, ℕ, refl, sym, subst, inl, Bool, true, false}
-use Rattle.std.specs.Prelude.{if◌then◌else◌, ◌==◌, ◌&&◌, not, nat_le, ⊤, Option, Some, None}
+use Rattle.std.specs.Prelude.{if◌then◌else◌, ◌==◌, ◌&&◌, not, nat_le, ⊤, Option, Some, None, ◌||◌}
 use Rattle.fkv_base.specs.declared.numbers.Addr.{Addr}
 use Rattle.fkv_base.specs.declared.numbers.Version.{Version}
 use Rattle.fkv_map.specs.declared.operations.Reply.{Reply}
@@ -34,7 +34,7 @@ use Rattle.law_world.specs.Below.fkv_ops.TheTrying.TheVariants.{Ended, TakesShar
 use Rattle.law_world.specs.Below.fkv_ops.WalkAnswer.{WalkAnswer}
 use Rattle.law_world.specs.Below.fkv_ops.WalkAnswer.TheVariants as walk
 use Rattle.law_world.specs.Below.fkv_ops.Values.{value_of}
-use Rattle.law_world.specs.Below.fkv_ops.Requests.{purpose_at, is_read, is_blind}
+use Rattle.law_world.specs.Below.fkv_ops.Requests.{purpose_at, is_read, is_blind, is_chain_end}
 use Rattle.law_world.specs.Below.fkv_ops.Walking.{walk_ask, walk_next, walk_on}
 use Rattle.law_world.specs.Below.fkv_ops.Appending.{append_ask, append_next}
 use Rattle.law_world.specs.Below.fkv_ops.Trying.{TryState, trying_ask, try_ask, with_latch, is_wait, ended_without, ends_so, ends_by, is_bounded, tail_loaded, taken_loaded, must_count, count_loaded, ends, takes_effect, walks, wants_shared, try_begun, shared_ledto, must_shift, wants_exclusive, slot_of, words_of, appends, copies_from, copies, awaits, held_used, met_nowhere, met_disk, changes, is_own_version, region_met, met_record, walked, has_walked, walk_ledto, safe_loaded, current_ledto, value_changed, told_value, answer_ledto, exclusive_ledto, old_ledto, append_ledto, exclusive_dropped, shared_dropped, latch_moved, trying_next, try_next, new_try, is_next_marked, is_surely_own, is_still_in, phase_loaded}
@@ -165,7 +165,8 @@ held_spares p t addr None bounds = ends_spares p t _
 held_spares p t addr (Some held) bounds =
     either_spares (held.entry == t.walk.entry) p _ (awaits p t addr)
     (either_spares (held.key.0 == (key_of t.request.op).0) p (copies p t (Known held.value) false) _ (copies_spares p t (Known held.value) false bounds)
-    (either_spares (held.previous.0 == 0) p (copies p t (Known absent_word) false) (awaits p t held.previous) (copies_spares p t (Known absent_word) false bounds) (ends_spares p t _)))
+    (either_spares (is_chain_end t.request.floor held.previous) p (copies p t (Known absent_word) false) (awaits p t held.previous)
+    (copies_spares p t (Known absent_word) false bounds) (ends_spares p t _)))
     (ends_spares p t _)
 
 nowhere_spares : (p : Places) (t : TryState) → IsWalkSparing p t.walk → IsTrySparing p (met_nowhere p t)
@@ -179,8 +180,10 @@ count_spares p t taken bounds = either_spares (is_past_taken (bounds_at t.occasi
 
 disk_spares : (p : Places) (t : TryState) (addr : Addr) → IsWalkSparing p t.walk → IsTrySparing p (met_disk p t addr)
 disk_spares p t addr bounds =
-    either_spares (is_read t.request.op) p (awaits p t addr) _ (ends_spares p t _)
-    (either_spares (is_blind t.request.op) p (copies p t (Known absent_word) false) (held_used p t addr t.request.held) (copies_spares p t (Known absent_word) false bounds) (held_spares p t addr t.request.held bounds))
+    either_spares (is_read t.request.op) p _ _
+    (either_spares (is_chain_end t.request.floor addr) p (ends p t answer.Absent) (awaits p t addr) (ends_spares p t answer.Absent) (ends_spares p t _))
+    (either_spares (is_blind t.request.op || is_chain_end t.request.floor addr) p (copies p t (Known absent_word) false) (held_used p t addr t.request.held)
+    (copies_spares p t (Known absent_word) false bounds) (held_spares p t addr t.request.held bounds))
 
 changes_spares : (p : Places) (t : TryState) (addr : Addr) → IsWalkSparing p t.walk → IsTrySparing p (changes t addr)
 changes_spares p t addr bounds = either_spares (is_blind t.request.op) p (record t { step = SwapsValue addr }) (record t { walk = walk_on t.walk; step = LoadsCurrent addr }) tt (walk_on_spares p t.walk bounds)

@@ -24,7 +24,7 @@ use Rattle.law_world.specs.Below.fkv_session.CatchCause.{CatchCause}
 use Rattle.law_world.specs.Below.fkv_session.CatchCause.TheVariants as cause
 use Rattle.law_world.specs.Below.fkv_session.Sitting.{Sitting}
 use Rattle.law_world.specs.Below.fkv_session.Sitting.TheVariants.{Idle, Attempts, CatchesUp, ClearsMail, Polls, StoresOwing, Turns, StoresCut, Leaves, LoadsDurable}
-use Rattle.law_world.specs.Below.fkv_session.Sessions.{SessionState, Seat, bits_of, room_of, entry_of, answers_after_turn, attempts, polls_request, polls_at, is_no_room, with_request, serial_taken, accepts, shifts, attempted, attempt_left, attempt_ledto, catch_ledto, clear_ledto, is_finished, is_owed, request_finished, finishes_request, lacks_room, keeps_request, poll_ledto, attempt_moved, caught, own_turn_moved, session_next, sitting_next}
+use Rattle.law_world.specs.Below.fkv_session.Sessions.{SessionState, Seat, bits_of, room_of, entry_of, answers_after_turn, attempts, polls_request, polls_at, is_no_room, with_request, serial_taken, accepts, shifts, attempted, attempt_left, poll_left, attempt_ledto, catch_ledto, clear_ledto, is_finished, is_owed, request_finished, finishes_request, lacks_room, keeps_request, poll_ledto, attempt_moved, caught, own_turn_moved, session_next, sitting_next}
 use Rattle.law_world.proofs.Below.fkv_session.Shown.{attempt_keeps}
 use Rattle.law_world.proofs.OfRuns.EffectStays.{turn_keeps as turned_keeps, leave_keeps}
 
@@ -70,8 +70,9 @@ polls_keep k s index = request_keeps k s index (slice_get s.requests index)
 poll_keeps : (k : Seat) (s : SessionState) (index : ℕ) (ask : Ask TryAnswer) → (poll_ledto k s index ask).effect ≡ s.effect
 unfolding poll_ledto finishes_request keeps_request
 poll_keeps k s index (Done its) = either_keeps (is_finished its) _ _ s.effect
-    (either_keeps (is_owed (attempt_left s)) (request_finished (attempt_left s) index its) _ s.effect refl (polls_keep k (request_finished (attempt_left s) index its) index))
-    (polls_keep k (record (attempt_left s) { requests = slice_set s.requests index s.attempt.pending; wants_turn = s.wants_turn || lacks_room its }) (index + 1))
+    (either_keeps (is_owed (poll_left s)) (request_finished (poll_left s) index its) _ s.effect refl
+    (polls_keep k (request_finished (poll_left s) index its) index))
+    (polls_keep k (record (poll_left s) { requests = slice_set s.requests index s.attempt.pending; wants_turn = s.wants_turn || lacks_room its }) (index + 1))
 poll_keeps k s index ask = refl
 
 catch_keeps : (k : Seat) (s : SessionState) (its : CatchCause) (ask : Ask (Unit {0})) → (catch_ledto k s its ask).effect ≡ s.effect

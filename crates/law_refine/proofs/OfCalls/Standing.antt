@@ -36,7 +36,7 @@ use Rattle.law_world.specs.Below.fkv_session.Sitting.{Sitting}
 use Rattle.law_world.specs.Below.fkv_session.Sitting.TheVariants.{Idle, Attempts, CatchesUp, ClearsMail, Polls, StoresOwing, Turns, StoresCut, Leaves, LoadsDurable}
 use Rattle.law_world.specs.Below.fkv_session.CatchingUp.{catch_ask}
 use Rattle.law_world.specs.Below.fkv_session.OwnTurns.{own_turn_ask, own_turn_given}
-use Rattle.law_world.specs.Below.fkv_session.Sessions.{SessionState, Seat, bits_of, room_of, session_ask, answers, answers_after_turn, refuses, attempts, polls_request, polls_at, update_done, is_no_room, with_request, serial_taken, ticket_after, name_of, accepts, shifts, attempted, attempt_left, attempt_ledto, caught_up, catch_ledto, clear_ledto, is_finished, is_owed, request_finished, finishes_request, lacks_room, keeps_request, poll_ledto, turn_ledto, leave_ledto, attempt_moved, caught, own_turn_moved, sitting_next, sitting_given, is_word_ask, asks_after, refusal_of, op_begun, refresh_call, poll_begun, poll_call, sleep_call, wake_call, call_begun, session_begun}
+use Rattle.law_world.specs.Below.fkv_session.Sessions.{SessionState, Seat, bits_of, room_of, session_ask, answers, answers_after_turn, refuses, attempts, polls_request, polls_at, update_done, is_no_room, with_request, serial_taken, ticket_after, name_of, accepts, shifts, attempted, attempt_left, poll_left, attempt_ledto, caught_up, catch_ledto, clear_ledto, is_finished, is_owed, request_finished, finishes_request, lacks_room, keeps_request, poll_ledto, turn_ledto, leave_ledto, attempt_moved, caught, own_turn_moved, sitting_next, sitting_given, is_word_ask, asks_after, refusal_of, op_begun, refresh_call, poll_begun, poll_call, sleep_call, wake_call, call_begun, session_begun}
 use Rattle.law_world.proofs.Below.fkv_session.Shown.{IsUnderWay, IsUpdateEnd, KnowsUpdate, attempt_ends, attempt_keeps, attempt_so}
 use Rattle.law_refine.proofs.OfCalls.Named.{AreEach, each_on, each_more, each_less, each_set, each_at, caught_each}
 
@@ -334,10 +334,11 @@ polled_called P requests index pending at all = rw at.name (rw at.op (each_at P 
 polled_stands : (Fresh : Type 0) (l : Ledger) (k : Seat) (s : SessionState) (index : ℕ) (ask : Ask TryAnswer) → s.step ≡ Polls index → Calm Fresh l s → IsInPoll s.requests index s.attempt.pending → IsStanding Fresh l (poll_ledto k s index ask)
 unfolding poll_ledto
 polled_stands Fresh l k s index (Done its) step calm at =
-    let left : Calm Fresh l (attempt_left s) = record { waiting = calm.waiting; none = calm.none; later = calm.later } in
-    either_stands Fresh l (is_finished its) (finishes_request k (attempt_left s) index its) (keeps_request k (attempt_left s) index its)
-    (finishes_stands Fresh l k (attempt_left s) index its left)
-    (keeps_stands Fresh l k (attempt_left s) index its left (polled_called (IsCalled Fresh l.updates l.reads s.serial s.ticket) s.requests index s.attempt.pending at calm.waiting))
+    let left : Calm Fresh l (poll_left s) = record { waiting = calm.waiting; none = calm.none; later = calm.later } in
+    either_stands Fresh l (is_finished its) (finishes_request k (poll_left s) index its) (keeps_request k (poll_left s) index its)
+    (finishes_stands Fresh l k (poll_left s) index its left)
+    (keeps_stands Fresh l k (poll_left s) index its left
+    (polled_called (IsCalled Fresh l.updates l.reads s.serial s.ticket) s.requests index s.attempt.pending at calm.waiting))
 polled_stands Fresh l k s index ask step calm at = still Fresh l s (Polls index) step (record { waiting = calm.waiting; next = calm.none; later = calm.later })
 
 -- ---- each other state

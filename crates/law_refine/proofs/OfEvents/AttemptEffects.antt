@@ -1,6 +1,7 @@
 -- The effect of a reply to an attempt is what takes effect by the log's events of the step.
 use Rattle.std.proofs.Common.{◌≡◌, ℕ, refl, sym, subst, Bool, true, false, List, [], ◌++◌}
 use Rattle.std.specs.Prelude.{◌==◌, if◌then◌else◌, Option, Some, None}
+use Rattle.fkv_base.specs.declared.numbers.Addr.{Addr}
 use Rattle.fkv_map.specs.declared.operations.Op.{Op}
 use Rattle.fkv_map.specs.declared.operations.Op.TheVariants.{Read}
 use Rattle.fkv_map.specs.Keys.{key_of}
@@ -23,9 +24,9 @@ use Rattle.law_world.specs.Below.fkv_pending.TheAttempting.TheVariants.{Ended, L
 use Rattle.law_world.specs.Below.fkv_pending.MailAnswer.{MailAnswer}
 use Rattle.law_world.specs.Below.fkv_pending.MailAnswer.TheVariants as mail
 use Rattle.law_world.specs.Below.fkv_pending.MailRecord.{MailRecord}
-use Rattle.law_world.specs.Below.fkv_pending.Mailing.{mail_ask, mail_next}
-use Rattle.law_world.specs.Below.fkv_pending.Pending.{with_sought, with_held, with_latch, with_asked}
-use Rattle.law_world.specs.Below.fkv_pending.Attempting.{AttemptState, attempting_ask, attempt_ask, attempt_ended, waits_for_disk, puts_addr, puts, tries, is_seeking_read, held_of, moved_on, read_on, record_taken, look_ledto, held_kept, awaits_record, tried, try_ledto, put_ledto, mail_moved, try_moved, attempting_next, attempt_next}
+use Rattle.law_world.specs.Below.fkv_pending.Mailing.{mail_ask, mail_next, begin_told, is_gone}
+use Rattle.law_world.specs.Below.fkv_pending.Pending.{with_sought, with_held, with_latch, with_asked, without_gone}
+use Rattle.law_world.specs.Below.fkv_pending.Attempting.{AttemptState, attempting_ask, attempt_ask, attempt_ended, waits_for_disk, puts_addr, puts, tries, is_seeking_read, held_of, moved_on, read_on, record_taken, look_ledto, held_kept, awaits_record, tried, try_ledto, put_ledto, mail_moved, try_moved, attempting_next, attempt_next, goes_anew, mail_taken}
 use Rattle.law_world.proofs.Below.fkv_pending.Shown.{AttemptRestsOrAsks}
 use Rattle.law_world.specs.Below.fkv_session.Sessions.{Seat, bits_of, room_of}
 use Rattle.law_refine.specs.Events.Tries.{try_ghosts}
@@ -34,7 +35,7 @@ use Rattle.fkv_map.specs.declared.operations.Reply.{Reply}
 use Rattle.law_refine.specs.Events.Reservations.{try_reserves, attempt_reserves}
 use Rattle.law_refine.specs.Events.Effects.{AreQuiet, Stepped, stepped, TakesEffect, Quietly, Behind}
 use Rattle.law_refine.specs.Events.Sessions.{value_ghosts, tried_ghosts, attempt_ghosts}
-use Rattle.law_world.specs.Below.fkv_ops.Requests.{is_read}
+use Rattle.law_world.specs.Below.fkv_ops.Requests.{is_read, is_chain_end}
 use Rattle.law_refine.proofs.OfEvents.ReadTries.{read_quiet}
 use Rattle.law_refine.proofs.OfEvents.RequestNames.{TriesAt, TriesIts}
 use Rattle.law_refine.proofs.OfEvents.TryEffects.{made_entry, passes_on, quiet, try_takes}
@@ -52,16 +53,28 @@ read_keeps : (a : AttemptState) (its : MailRecord) (said : HeaderSaid) → (read
 read_keeps a its Spoiled = puts_keeps a a.pending.sought
 read_keeps a its (Says previous version) =
     let next : AttemptState = record a { pending = with_sought a.pending (moved_on a.pending.sought previous) } in
-    either_keeps (its.key.0 == (key_of a.pending.request.op).0) (attempt_ended a (told_value (value_of its.value))) (if previous.0 == 0 then attempt_ended a answer.Absent else puts next) a.effect refl
-    (either_keeps (previous.0 == 0) (attempt_ended a answer.Absent) (puts next) a.effect refl (puts_keeps next next.pending.sought))
+    either_keeps (its.key.0 == (key_of a.pending.request.op).0) (attempt_ended a (told_value (value_of its.value)))
+    (if is_chain_end a.pending.request.floor previous then attempt_ended a answer.Absent else puts next) a.effect refl
+    (either_keeps (is_chain_end a.pending.request.floor previous) (attempt_ended a answer.Absent) (puts next) a.effect refl
+    (puts_keeps next next.pending.sought))
 
 taken_keeps : (p : Places) (bits : ℕ) (a : AttemptState) (its : MailRecord) (said : HeaderSaid) → (record_taken p bits a its said).effect ≡ a.effect
 taken_keeps p bits a its said =
     either_keeps (is_seeking_read a) (read_on a its said) (tries p bits (record a { pending = with_held a.pending (held_of a.pending.sought its said) })) a.effect (read_keeps a its said) refl
 
+anew_keeps : (p : Places) (bits : ℕ) (a : AttemptState) (begin : Addr) → (goes_anew p bits a begin).effect ≡ a.effect
+anew_keeps p bits a begin =
+    let its : AttemptState = record a { pending = without_gone a.pending begin } in
+    either_keeps (is_seeking_read a) (waits_for_disk its) (tries p bits its) a.effect refl refl
+
+mail_keeps : (p : Places) (bits : ℕ) (a : AttemptState) (its : MailRecord) → (mail_taken p bits a its).effect ≡ a.effect
+mail_keeps p bits a its =
+    either_keeps (is_gone its) (goes_anew p bits a (begin_told its)) (record_taken p bits a its (header_said its.header)) a.effect
+    (anew_keeps p bits a (begin_told its)) (taken_keeps p bits a its (header_said its.header))
+
 look_keeps : (p : Places) (bits : ℕ) (a : AttemptState) (ask : Ask MailAnswer) → (look_ledto p bits a ask).effect ≡ a.effect
 unfolding look_ledto
-look_keeps p bits a (Done (mail.Taken its)) = taken_keeps p bits (record a { is_emptied = true; pending = with_asked a.pending false }) its (header_said its.header)
+look_keeps p bits a (Done (mail.Taken its)) = mail_keeps p bits (record a { is_emptied = true; pending = with_asked a.pending false }) its
 look_keeps p bits a (Done other) = either_keeps (is_seeking_read a) (waits_for_disk a) (tries p bits a) a.effect refl refl
 look_keeps p bits a ask = refl
 

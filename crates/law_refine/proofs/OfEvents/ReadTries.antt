@@ -19,10 +19,10 @@ use Rattle.law_world.specs.Below.fkv_ops.TheTrying.{Trying}
 use Rattle.law_world.specs.Below.fkv_ops.TheTrying.TheVariants.{Ended, TakesShared, LoadsPhase, Walks, CountsTaken, LoadsSafe, SwapsValue, LoadsCurrent, ChangesValue, LoadsAnswer, TakesExclusive, LoadsOld, Appends, LoadsTail, LoadsTaken, DropsExclusive, DropsShared}
 use Rattle.law_world.specs.Below.fkv_ops.WalkAnswer.{WalkAnswer}
 use Rattle.law_world.specs.Below.fkv_ops.WalkAnswer.TheVariants as walk
-use Rattle.law_world.specs.Below.fkv_ops.Requests.{is_read}
+use Rattle.law_world.specs.Below.fkv_ops.Requests.{is_read, is_chain_end}
 use Rattle.law_world.specs.Below.fkv_ops.Values.{value_of}
 use Rattle.law_world.specs.Below.fkv_ops.Walking.{walk_on}
-use Rattle.law_world.specs.Below.fkv_ops.Trying.{TryState, with_latch, is_wait, ended_without, ends_so, ends_by, ends, full_at, wants_shared, walks, try_begun, shared_ledto, must_shift, region_met, walked, has_walked, walk_ledto, told_value, answer_ledto, exclusive_dropped, shared_dropped, trying_next, try_next, new_try, is_next_marked, is_still_in, phase_loaded}
+use Rattle.law_world.specs.Below.fkv_ops.Trying.{TryState, with_latch, is_wait, ended_without, ends_so, ends_by, ends, full_at, wants_shared, walks, try_begun, shared_ledto, must_shift, region_met, walked, has_walked, walk_ledto, told_value, answer_ledto, exclusive_dropped, shared_dropped, trying_next, try_next, new_try, is_next_marked, is_still_in, phase_loaded, awaits}
 use Rattle.law_world.specs.Below.fkv_pending.PendingRequest.{PendingRequest}
 use Rattle.law_refine.specs.Events.Effects.{AreQuiet}
 use Rattle.law_refine.specs.Events.Tries.{try_ghosts}
@@ -84,7 +84,9 @@ ends_read p t its e = ends_by_read p t its (waiting_of its) e
 walked_read : (p : Places) (t : TryState) (its : WalkAnswer) → is_read t.request.op ≡ true → IsReadTry (walked p t its)
 walked_read p t (walk.Found addr version) e = then_read (is_read t.request.op) (record t { walk = walk_on t.walk; step = LoadsAnswer }) (region_met p t addr version _) e (record { reads = e; step = tt })
 walked_read p t walk.Nowhere e = then_read (is_read t.request.op) (ends p t answer.Absent) _ e (ends_read p t answer.Absent e)
-walked_read p t (walk.OnDisk addr) e = then_read (is_read t.request.op) (ends p t _) _ e (ends_read p t _ e)
+walked_read p t (walk.OnDisk addr) e =
+    then_read (is_read t.request.op) _ _ e
+    (either_read (is_chain_end t.request.floor addr) (ends p t answer.Absent) (awaits p t addr) (ends_read p t answer.Absent e) (ends_read p t _ e))
 walked_read p t (walk.Value value) e = ends_read p t (answer.Wait reason.Contended) e
 walked_read p t walk.Full e = ends_read p t (full_at t.occasion answer.IndexFull) e
 walked_read p t walk.Kept e = ends_read p t (full_at t.occasion answer.IndexFull) e

@@ -6,7 +6,6 @@ use Rattle.fkv_base.specs.declared.faults.Fault.{Fault}
 use Rattle.fkv_map.specs.declared.operations.Call.{Call}
 use Rattle.fkv_map.specs.declared.operations.Call.TheVariants as call
 use Rattle.fkv_map.specs.declared.operations.Op.{Op}
-use Rattle.fkv_map.specs.Keys.{key_of}
 use Rattle.fkv_plane.specs.declared.actions.Action.{Action}
 use Rattle.fkv_plane.specs.declared.asks.Ask.{Ask}
 use Rattle.fkv_plane.specs.declared.asks.Ask.TheVariants.{Done}
@@ -21,28 +20,23 @@ use Rattle.law_world.specs.Below.fkv_ops.Reason.{Reason}
 use Rattle.law_world.specs.Below.fkv_ops.Reason.TheVariants as reason
 use Rattle.law_world.specs.Below.fkv_ops.TryAnswer.{TryAnswer}
 use Rattle.law_world.specs.Below.fkv_ops.TryAnswer.TheVariants as answer
-use Rattle.law_world.specs.Below.fkv_ops.HeaderSaid.{HeaderSaid}
-use Rattle.law_world.specs.Below.fkv_ops.HeaderSaid.TheVariants.{Says, Spoiled}
 use Rattle.law_world.specs.Below.fkv_ops.Occasion.{Occasion}
 use Rattle.law_world.specs.Below.fkv_ops.Occasion.TheVariants.{Call as AtCall, Poll as AtPoll}
 use Rattle.law_world.specs.Below.fkv_ops.Bounds.{bounds_of}
 use Rattle.law_world.specs.Below.fkv_ops.Seen.{Seen}
-use Rattle.law_world.specs.Below.fkv_ops.HeaderWords.{header_said}
 use Rattle.law_world.specs.Below.fkv_ops.Requests.{is_read}
-use Rattle.law_world.specs.Below.fkv_ops.Values.{value_of}
-use Rattle.law_world.specs.Below.fkv_ops.Trying.{TryState, try_ask, told_value}
+use Rattle.law_world.specs.Below.fkv_ops.Trying.{TryState, try_ask}
 use Rattle.law_world.specs.Below.fkv_pending.TheAttempting.{Attempting}
 use Rattle.law_world.specs.Below.fkv_pending.TheAttempting.TheVariants.{Ended, Looks, Tries, Puts}
 use Rattle.law_world.specs.Below.fkv_pending.MailAnswer.{MailAnswer}
 use Rattle.law_world.specs.Below.fkv_pending.MailAnswer.TheVariants as mail
-use Rattle.law_world.specs.Below.fkv_pending.MailRecord.{MailRecord}
 use Rattle.law_world.specs.Below.fkv_pending.MailTask.TheVariants.{Clear}
 use Rattle.law_world.specs.Below.fkv_pending.TheMailing.TheVariants.{LoadsState}
 use Rattle.law_world.specs.Below.fkv_pending.PendingRequest.{PendingRequest}
 use Rattle.law_world.specs.Below.fkv_pending.RequestName.{RequestName}
 use Rattle.law_world.specs.Below.fkv_pending.Mailing.{mail_ask, mail_next}
-use Rattle.law_world.specs.Below.fkv_pending.Pending.{with_sought, with_held, with_latch, with_asked}
-use Rattle.law_world.specs.Below.fkv_pending.Attempting.{AttemptState, attempt_begun, attempt_ask, attempt_ended, waits_for_disk, puts_addr, puts, tries, is_seeking_read, goes_on, held_of, moved_on, read_on, record_taken, look_ledto, held_kept, awaits_record, tried, try_ledto, put_ledto, mail_moved, try_moved, attempting_next, attempt_next, new_attempt}
+use Rattle.law_world.specs.Below.fkv_pending.Pending.{with_sought, with_held, with_latch}
+use Rattle.law_world.specs.Below.fkv_pending.Attempting.{AttemptState, attempt_begun, attempt_ask, waits_for_disk, puts_addr, puts, tries, is_seeking_read, goes_on, look_ledto, held_kept, awaits_record, tried, try_ledto, put_ledto, mail_moved, try_moved, attempting_next, attempt_next, new_attempt}
 use Rattle.law_world.specs.Below.fkv_session.Told.{Told}
 use Rattle.law_world.specs.Below.fkv_session.Told.TheVariants as told
 use Rattle.law_world.specs.Below.fkv_session.Catching.{Catching}
@@ -54,7 +48,7 @@ use Rattle.law_world.specs.Below.fkv_session.Sitting.TheVariants.{Idle, Attempts
 use Rattle.law_world.specs.Below.fkv_session.CatchingUp.{CatchState, catch_ask, latched, latch_marked, catching_requests}
 use Rattle.law_world.specs.Below.fkv_session.OwnTurns.{own_turn_ask, own_turn_begun, own_turn_given}
 use Rattle.law_world.specs.Below.fkv_session.SessionRun.{SessionEvent, Begins, Replies, Gets, begins, session_happens, session_run}
-use Rattle.law_world.specs.Below.fkv_session.Sessions.{SessionState, Seat, bits_of, room_of, is_busy, session_ask, answers, answers_after_turn, request_in_hand, attempts, polls_request, polls_at, update_done, is_no_room, with_request, serial_taken, ticket_after, accepts, shifts, attempted, attempt_left, attempt_ledto, caught_up, catch_ledto, clear_ledto, is_finished, is_owed, request_finished, finishes_request, lacks_room, keeps_request, poll_ledto, turn_ledto, leave_ledto, attempt_moved, caught, own_turn_moved, sitting_next, sitting_given, is_word_ask, asks_after, refusal_of, op_begun, refresh_call, poll_begun, poll_call, sleep_call, wake_call, call_begun}
+use Rattle.law_world.specs.Below.fkv_session.Sessions.{SessionState, Seat, bits_of, room_of, is_busy, session_ask, answers, answers_after_turn, request_in_hand, attempts, polls_request, polls_at, update_done, is_no_room, with_request, serial_taken, ticket_after, accepts, shifts, attempted, attempt_left, poll_left, attempt_ledto, caught_up, catch_ledto, clear_ledto, is_finished, is_owed, request_finished, finishes_request, lacks_room, keeps_request, poll_ledto, turn_ledto, leave_ledto, attempt_moved, caught, own_turn_moved, sitting_next, sitting_given, is_word_ask, asks_after, refusal_of, op_begun, refresh_call, poll_begun, poll_call, sleep_call, wake_call, call_begun}
 use Rattle.law_world.proofs.Below.fkv_session.Shown.{attempt_keeps}
 use Rattle.fkv_map.specs.declared.operations.Call.TheVariants.{Refresh}
 use Rattle.law_world.specs.Below.fkv_world.OwnEvents.{session_part_of}
@@ -66,6 +60,7 @@ use Rattle.law_world.proofs.OfRuns.Nothing.{none_then}
 use Rattle.law_refine.specs.Events.Names.{is_read_name, IsNamedSo, AreNamedSo, AttemptsNamedSo, RequestsAreNamed}
 use Rattle.law_refine.proofs.OfEvents.ReadTries.{IsReadTry, try_read, begun_read}
 use Rattle.law_refine.proofs.OfEvents.TryAppends.{IsTryAt, begun_at, try_at}
+use Rattle.law_refine.proofs.OfEvents.Looks.{look_holds}
 
 -- ---- an attempt
 -- the try of this request: a read's is one of a read, and what it appends has the mark of the request's version, and its key
@@ -103,23 +98,10 @@ tries_anew p bits a = record {
   of_request = begun_at p bits a.pending.request a.seen a.occasion a.spare;
 }
 
-read_on_tries : (a : AttemptState) (its : MailRecord) (said : HeaderSaid) → TriesIts (read_on a its said)
-read_on_tries a its Spoiled = puts_tries a a.pending.sought
-read_on_tries a its (Says previous version) =
-    let next : AttemptState = record a { pending = with_sought a.pending (moved_on a.pending.sought previous) } in
-    either_tries (its.key.0 == (key_of a.pending.request.op).0) (attempt_ended a (told_value (value_of its.value))) (if previous.0 == 0 then attempt_ended a answer.Absent else puts next) tt
-    (either_tries (previous.0 == 0) (attempt_ended a answer.Absent) (puts next) tt (puts_tries next next.pending.sought))
-
-taken_tries : (p : Places) (bits : ℕ) (a : AttemptState) (its : MailRecord) (said : HeaderSaid) → TriesIts (record_taken p bits a its said)
-taken_tries p bits a its said =
-    let holds : AttemptState = record a { pending = with_held a.pending (held_of a.pending.sought its said) } in
-    either_tries (is_seeking_read a) (read_on a its said) (tries p bits holds) (read_on_tries a its said) (tries_anew p bits holds)
-
 look_tries : (p : Places) (bits : ℕ) (a : AttemptState) (ask : Ask MailAnswer) → a.step ≡ Looks → TriesIts (look_ledto p bits a ask)
-unfolding look_ledto
-look_tries p bits a (Done (mail.Taken its)) at = taken_tries p bits (record a { is_emptied = true; pending = with_asked a.pending false }) its (header_said its.header)
-look_tries p bits a (Done other) at = either_tries (is_seeking_read a) (waits_for_disk a) (tries p bits a) tt (tries_anew p bits a)
-look_tries p bits a ask at = still_tries a Looks at tt
+look_tries p bits a ask at =
+    look_holds (λ its. TriesIts its) (λ its told. tt) (λ its sought. puts_tries its sought) p bits (λ its. tries_anew p bits its) a ask
+    (still_tries a Looks at tt)
 
 awaits_tries : (a : AttemptState) (sought : DiskRecord) → TriesIts (awaits_record a sought)
 awaits_tries a sought = either_tries a.pending.has_asked (waits_for_disk its) (puts next) tt (puts_tries next next.pending.sought)
@@ -296,7 +278,8 @@ keeps_so k s index its all named =
 polled_so : (k : Seat) (s : SessionState) (index : ℕ) (ask : Ask TryAnswer) → s.step ≡ Polls index → AreNamedSo s.requests → IsAttemptSo s.attempt → IsSo (poll_ledto k s index ask)
 unfolding poll_ledto
 polled_so k s index (Done its) at all tries =
-    either_so (is_finished its) (finishes_request k (attempt_left s) index its) (keeps_request k (attempt_left s) index its) (finishes_so k (attempt_left s) index its all) (keeps_so k (attempt_left s) index its all tries.named)
+    either_so (is_finished its) (finishes_request k (poll_left s) index its) (keeps_request k (poll_left s) index its)
+    (finishes_so k (poll_left s) index its all) (keeps_so k (poll_left s) index its all tries.named)
 polled_so k s index ask at all tries = still_so s (Polls index) at all tries
 
 caught_so : (k : Seat) (s : SessionState) (its : CatchCause) → AreNamedSo s.requests → IsSo (caught_up k s its)

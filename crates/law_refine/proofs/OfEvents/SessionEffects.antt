@@ -24,7 +24,7 @@ use Rattle.law_world.specs.Below.fkv_session.Sitting.{Sitting}
 use Rattle.law_world.specs.Below.fkv_session.Sitting.TheVariants.{Idle, Attempts, CatchesUp, ClearsMail, Polls, StoresOwing, Turns, StoresCut, Leaves, LoadsDurable}
 use Rattle.law_world.specs.Below.fkv_session.CatchingUp.{catch_ask}
 use Rattle.law_world.specs.Below.fkv_session.OwnTurns.{own_turn_ask, own_turn_begun}
-use Rattle.law_world.specs.Below.fkv_session.Sessions.{SessionState, Seat, bits_of, room_of, sitting_ask, session_ask, answers, answers_after_turn, attempts, polls_request, polls_at, update_done, is_no_room, with_request, serial_taken, ticket_after, accepts, shifts, attempted, attempt_left, attempt_ledto, caught_up, catch_ledto, clear_ledto, is_finished, is_owed, request_finished, finishes_request, lacks_room, keeps_request, poll_ledto, attempt_moved, caught, own_turn_moved, sitting_next, is_word_ask, asks_after, entry_of}
+use Rattle.law_world.specs.Below.fkv_session.Sessions.{SessionState, Seat, bits_of, room_of, sitting_ask, session_ask, answers, answers_after_turn, attempts, polls_request, polls_at, update_done, is_no_room, with_request, serial_taken, ticket_after, accepts, shifts, attempted, attempt_left, poll_left, attempt_ledto, caught_up, catch_ledto, clear_ledto, is_finished, is_owed, request_finished, finishes_request, lacks_room, keeps_request, poll_ledto, attempt_moved, caught, own_turn_moved, sitting_next, is_word_ask, asks_after, entry_of}
 use Rattle.law_world.specs.Below.fkv_world.Past.{Traced}
 use Rattle.law_world.specs.Below.fkv_world.Runs.{World, run}
 use Rattle.law_world.specs.Below.fkv_world.World.{Event, seat_at}
@@ -108,7 +108,9 @@ keeps_keeps k s index its = polls_keeps k (record s { requests = slice_set s.req
 
 pub polled_keeps : (k : Seat) (s : SessionState) (index : ℕ) (ask : Ask TryAnswer) → (poll_ledto k s index ask).effect ≡ s.effect
 unfolding poll_ledto
-polled_keeps k s index (Done its) = either_keeps (is_finished its) (finishes_request k (attempt_left s) index its) (keeps_request k (attempt_left s) index its) s.effect (finishes_keeps k (attempt_left s) index its) (keeps_keeps k (attempt_left s) index its)
+polled_keeps k s index (Done its) =
+    either_keeps (is_finished its) (finishes_request k (poll_left s) index its) (keeps_request k (poll_left s) index its) s.effect
+    (finishes_keeps k (poll_left s) index its) (keeps_keeps k (poll_left s) index its)
 polled_keeps k s index ask = refl
 
 caught_keeps : (k : Seat) (s : SessionState) (its : CatchCause) → (caught_up k s its).effect ≡ s.effect

@@ -29,7 +29,7 @@ use Rattle.law_world.specs.Below.fkv_session.Sitting.{Sitting}
 use Rattle.law_world.specs.Below.fkv_session.Sitting.TheVariants.{Idle, Attempts, CatchesUp, ClearsMail, Polls, StoresOwing, Turns, StoresCut, Leaves, LoadsDurable}
 use Rattle.law_world.specs.Below.fkv_session.CatchingUp.{catch_ask}
 use Rattle.law_world.specs.Below.fkv_session.OwnTurns.{own_turn_ask, own_turn_begun}
-use Rattle.law_world.specs.Below.fkv_session.Sessions.{SessionState, Seat, bits_of, room_of, sitting_ask, session_ask, answers, answers_after_turn, request_in_hand, attempts, polls_request, polls_at, update_done, is_no_room, with_request, serial_taken, ticket_after, accepts, shifts, attempted, attempt_left, attempt_ledto, caught_up, catch_ledto, clear_ledto, is_finished, is_owed, request_finished, finishes_request, lacks_room, keeps_request, poll_ledto, turn_ledto, leave_ledto, attempt_moved, caught, own_turn_moved, sitting_next, is_word_ask, asks_after}
+use Rattle.law_world.specs.Below.fkv_session.Sessions.{SessionState, Seat, bits_of, room_of, sitting_ask, session_ask, answers, answers_after_turn, request_in_hand, attempts, polls_request, polls_at, update_done, is_no_room, with_request, serial_taken, ticket_after, accepts, shifts, attempted, attempt_left, poll_left, attempt_ledto, caught_up, catch_ledto, clear_ledto, is_finished, is_owed, request_finished, finishes_request, lacks_room, keeps_request, poll_ledto, turn_ledto, leave_ledto, attempt_moved, caught, own_turn_moved, sitting_next, is_word_ask, asks_after}
 use Rattle.law_world.specs.Below.fkv_world.Past.{Traced}
 use Rattle.law_world.specs.Below.fkv_world.Runs.{World, run}
 use Rattle.law_world.specs.Below.fkv_world.World.{Event, seat_at}
@@ -112,7 +112,8 @@ polled_holds : (number : ℕ) (k : Seat) (s : SessionState) (index : ℕ) (ask :
 unfolding poll_ledto
 polled_holds number k s index (Done its) at ends =
     ended_holds_none number s.attempt s.attempt.step (sym ends)
-    ∙ sym (either_free number (is_finished its) (finishes_request k (attempt_left s) index its) (keeps_request k (attempt_left s) index its) (finishes_free number k (attempt_left s) index its) (keeps_free number k (attempt_left s) index its))
+    ∙ sym (either_free number (is_finished its) (finishes_request k (poll_left s) index its) (keeps_request k (poll_left s) index its)
+    (finishes_free number k (poll_left s) index its) (keeps_free number k (poll_left s) index its))
 polled_holds number k s index ask at ends = sym (ap (sitting_reserves number s) at)
 
 -- ---- each other state

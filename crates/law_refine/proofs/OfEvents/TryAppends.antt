@@ -1,6 +1,6 @@
 -- What a try appends has the mark of its request's version, and is published by a word that carries the address which it has reserved, behind the record that was found.
 use Rattle.std.proofs.Common.{◌≡◌, ℕ, ◌^◌, ◌<◌, arith, refl, sym, ap, subst, Bool, true, false}
-use Rattle.std.specs.Prelude.{◌==◌, ◌&&◌, not, nat_le, nat_lt, if◌then◌else◌, ⊤, Option, Some, None}
+use Rattle.std.specs.Prelude.{◌==◌, ◌&&◌, not, nat_le, nat_lt, if◌then◌else◌, ⊤, Option, Some, None, ◌||◌}
 use Rattle.std.proofs.lemmas.Bool.Decides.{nat_tests}
 use Rattle.fkv_base.specs.declared.numbers.Addr.{Addr}
 use Rattle.fkv_base.specs.declared.numbers.Version.{Version}
@@ -47,7 +47,7 @@ use Rattle.law_world.specs.Below.fkv_ops.TheTrying.{Trying}
 use Rattle.law_world.specs.Below.fkv_ops.TheTrying.TheVariants.{Ended, TakesShared, LoadsPhase, Walks, CountsTaken, LoadsSafe, SwapsValue, LoadsCurrent, ChangesValue, LoadsAnswer, TakesExclusive, LoadsOld, Appends, LoadsTail, LoadsTaken, DropsExclusive, DropsShared}
 use Rattle.law_world.specs.Below.fkv_ops.WalkAnswer.{WalkAnswer}
 use Rattle.law_world.specs.Below.fkv_ops.WalkAnswer.TheVariants as walk
-use Rattle.law_world.specs.Below.fkv_ops.Requests.{is_read, is_blind}
+use Rattle.law_world.specs.Below.fkv_ops.Requests.{is_read, is_blind, is_chain_end}
 use Rattle.law_world.specs.Below.fkv_ops.Values.{value_of}
 use Rattle.law_world.specs.Below.fkv_ops.Walking.{walk_on}
 use Rattle.law_world.specs.Below.fkv_ops.Appending.{AppendState, append_ended, append_ask, append_next, reserve_ledto, fill_ledto, publish_ledto, invalidate_ledto, appending_next}
@@ -192,7 +192,8 @@ held_at p request t addr None e = ends_at p request t _ e
 held_at p request t addr (Some held) e =
     either_at (held.entry == t.walk.entry) request _ (awaits p t addr)
     (either_at (held.key.0 == (key_of t.request.op).0) request (copies p t (Known held.value) false) _ (copies_at p request t (Known held.value) false e)
-    (either_at (held.previous.0 == 0) request (copies p t (Known absent_word) false) (awaits p t held.previous) (copies_at p request t (Known absent_word) false e) (ends_at p request t _ e)))
+    (either_at (is_chain_end t.request.floor held.previous) request (copies p t (Known absent_word) false) (awaits p t held.previous)
+    (copies_at p request t (Known absent_word) false e) (ends_at p request t _ e)))
     (ends_at p request t _ e)
 
 changes_at : (request : Request) (t : TryState) (addr : Addr) (c : Bool) → is_blind t.request.op ≡ c → t.request ≡ request → IsTryAt request (if c then record t { step = SwapsValue addr } else record t { walk = walk_on t.walk; step = LoadsCurrent addr })
@@ -213,8 +214,11 @@ walked_at p request t walk.Nowhere e =
     either_at (is_read t.request.op) request (ends p t answer.Absent) _ (ends_at p request t answer.Absent e)
     (either_at (must_count p t) request (record t { step = CountsTaken }) (copies p t (Known absent_word) false) (record { same = e; knows = tt }) (copies_at p request t (Known absent_word) false e))
 walked_at p request t (walk.OnDisk addr) e =
-    either_at (is_read t.request.op) request (awaits p t addr) _ (ends_at p request t _ e)
-    (either_at (is_blind t.request.op) request (copies p t (Known absent_word) false) (held_used p t addr t.request.held) (copies_at p request t (Known absent_word) false e) (held_at p request t addr t.request.held e))
+    either_at (is_read t.request.op) request _ _
+    (either_at (is_chain_end t.request.floor addr) request (ends p t answer.Absent) (awaits p t addr) (ends_at p request t answer.Absent e)
+    (ends_at p request t _ e))
+    (either_at (is_blind t.request.op || is_chain_end t.request.floor addr) request (copies p t (Known absent_word) false) (held_used p t addr t.request.held)
+    (copies_at p request t (Known absent_word) false e) (held_at p request t addr t.request.held e))
 walked_at p request t (walk.Value value) e = ends_at p request t (answer.Wait reason.Contended) e
 walked_at p request t walk.Full e = ends_at p request t (full_at t.occasion answer.IndexFull) e
 walked_at p request t walk.Kept e = ends_at p request t (full_at t.occasion answer.IndexFull) e

@@ -1,6 +1,6 @@
 -- The effect of a reply to a try is what takes effect by the log's events of the step.
 use Rattle.std.proofs.Common.{◌≡◌, ℕ, ◌<◌, ◌∙◌, arith, refl, sym, ap, subst, Bool, true, false, List, [], ◌∷◌}
-use Rattle.std.specs.Prelude.{◌==◌, ◌&&◌, not, nat_le, if◌then◌else◌, Option, Some, None, nat_lt, ◌^◌}
+use Rattle.std.specs.Prelude.{◌==◌, ◌&&◌, not, nat_le, if◌then◌else◌, Option, Some, None, nat_lt, ◌^◌, ◌||◌}
 use Rattle.std.proofs.lemmas.Bool.Decides.{nat_tests}
 use Rattle.fkv_base.specs.declared.numbers.Addr.{Addr}
 use Rattle.fkv_base.specs.declared.numbers.Key.{Key}
@@ -41,7 +41,7 @@ use Rattle.law_world.specs.Below.fkv_ops.TheTrying.{Trying}
 use Rattle.law_world.specs.Below.fkv_ops.TheTrying.TheVariants.{Ended, TakesShared, LoadsPhase, Walks, CountsTaken, LoadsSafe, SwapsValue, LoadsCurrent, ChangesValue, LoadsAnswer, TakesExclusive, LoadsOld, Appends, LoadsTail, LoadsTaken, DropsExclusive, DropsShared}
 use Rattle.law_world.specs.Below.fkv_ops.WalkAnswer.{WalkAnswer}
 use Rattle.law_world.specs.Below.fkv_ops.WalkAnswer.TheVariants as walk
-use Rattle.law_world.specs.Below.fkv_ops.Requests.{is_read, is_blind}
+use Rattle.law_world.specs.Below.fkv_ops.Requests.{is_read, is_blind, is_chain_end}
 use Rattle.law_world.specs.Below.fkv_ops.Values.{value_of, word_of}
 use Rattle.law_world.specs.Below.fkv_ops.Walking.{WalkState, walk_ask, walk_next, walk_on}
 use Rattle.law_world.specs.Below.fkv_ops.Appending.{AppendState, append_ask, append_next, append_ended, appending_ask, reserve_ledto, fill_ledto, publish_ledto, invalidate_ledto, appending_next}
@@ -232,11 +232,14 @@ unfolding held_used
 held_keeps p t addr None = ends_keeps p t (answer.AwaitsDisk (record { entry = t.walk.entry; addr = addr }))
 held_keeps p t addr (Some held) =
     either_keeps (held.entry == t.walk.entry)
-    (if held.key.0 == (key_of t.request.op).0 then copies p t (Known held.value) false else if held.previous.0 == 0 then copies p t (Known absent_word) false else awaits p t held.previous)
+    (if held.key.0 == (key_of t.request.op).0 then copies p t (Known held.value) false
+    else if is_chain_end t.request.floor held.previous then copies p t (Known absent_word) false else awaits p t held.previous)
     (awaits p t addr) t.effect
-    (either_keeps (held.key.0 == (key_of t.request.op).0) (copies p t (Known held.value) false) (if held.previous.0 == 0 then copies p t (Known absent_word) false else awaits p t held.previous) t.effect
+    (either_keeps (held.key.0 == (key_of t.request.op).0) (copies p t (Known held.value) false)
+    (if is_chain_end t.request.floor held.previous then copies p t (Known absent_word) false else awaits p t held.previous) t.effect
     (copies_keeps p t (Known held.value) false)
-    (either_keeps (held.previous.0 == 0) (copies p t (Known absent_word) false) (awaits p t held.previous) t.effect (copies_keeps p t (Known absent_word) false) (ends_keeps p t (answer.AwaitsDisk (record { entry = t.walk.entry; addr = held.previous })))))
+    (either_keeps (is_chain_end t.request.floor held.previous) (copies p t (Known absent_word) false) (awaits p t held.previous) t.effect
+    (copies_keeps p t (Known absent_word) false) (ends_keeps p t (answer.AwaitsDisk (record { entry = t.walk.entry; addr = held.previous })))))
     (ends_keeps p t (answer.AwaitsDisk (record { entry = t.walk.entry; addr = addr })))
 
 nowhere_keeps : (p : Places) (t : TryState) → (met_nowhere p t).effect ≡ t.effect
@@ -250,9 +253,13 @@ count_keeps p t taken = either_keeps (is_past_taken (bounds_at t.occasion) taken
 
 disk_keeps : (p : Places) (t : TryState) (addr : Addr) → (met_disk p t addr).effect ≡ t.effect
 disk_keeps p t addr =
-    either_keeps (is_read t.request.op) (awaits p t addr) (if is_blind t.request.op then copies p t (Known absent_word) false else held_used p t addr t.request.held) t.effect
-    (ends_keeps p t (answer.AwaitsDisk (record { entry = t.walk.entry; addr = addr })))
-    (either_keeps (is_blind t.request.op) (copies p t (Known absent_word) false) (held_used p t addr t.request.held) t.effect (copies_keeps p t (Known absent_word) false) (held_keeps p t addr t.request.held))
+    let dead : Bool = is_chain_end t.request.floor addr in
+    either_keeps (is_read t.request.op) (if dead then ends p t answer.Absent else awaits p t addr)
+    (if is_blind t.request.op || dead then copies p t (Known absent_word) false else held_used p t addr t.request.held) t.effect
+    (either_keeps dead (ends p t answer.Absent) (awaits p t addr) t.effect (ends_keeps p t answer.Absent)
+    (ends_keeps p t (answer.AwaitsDisk (record { entry = t.walk.entry; addr = addr }))))
+    (either_keeps (is_blind t.request.op || dead) (copies p t (Known absent_word) false) (held_used p t addr t.request.held) t.effect
+    (copies_keeps p t (Known absent_word) false) (held_keeps p t addr t.request.held))
 
 changes_keeps : (t : TryState) (addr : Addr) → (changes t addr).effect ≡ t.effect
 changes_keeps t addr = either_keeps (is_blind t.request.op) (record t { step = SwapsValue addr }) (record t { walk = walk_on t.walk; step = LoadsCurrent addr }) t.effect refl refl

@@ -1,6 +1,6 @@
 -- How a reply to a try moves what it has reserved, beside the log's events of the step: none but an append reserves anything.
 use Rattle.std.proofs.Common.{◌≡◌, ℕ, ◌∙◌, refl, sym, ap, subst, Bool, true, false, List, [], ◌∷◌}
-use Rattle.std.specs.Prelude.{◌==◌, ◌&&◌, not, nat_le, if◌then◌else◌, Option, Some, None}
+use Rattle.std.specs.Prelude.{◌==◌, ◌&&◌, not, nat_le, if◌then◌else◌, Option, Some, None, ◌||◌}
 use Rattle.fkv_base.specs.declared.numbers.Addr.{Addr}
 use Rattle.fkv_base.specs.declared.numbers.Version.{Version}
 use Rattle.fkv_map.specs.declared.operations.Reply.{Reply}
@@ -37,7 +37,7 @@ use Rattle.law_world.specs.Below.fkv_ops.TheTrying.{Trying}
 use Rattle.law_world.specs.Below.fkv_ops.TheTrying.TheVariants.{Ended, TakesShared, LoadsPhase, Walks, CountsTaken, LoadsSafe, SwapsValue, LoadsCurrent, ChangesValue, LoadsAnswer, TakesExclusive, LoadsOld, Appends, LoadsTail, LoadsTaken, DropsExclusive, DropsShared}
 use Rattle.law_world.specs.Below.fkv_ops.WalkAnswer.{WalkAnswer}
 use Rattle.law_world.specs.Below.fkv_ops.WalkAnswer.TheVariants as walk
-use Rattle.law_world.specs.Below.fkv_ops.Requests.{is_read, is_blind}
+use Rattle.law_world.specs.Below.fkv_ops.Requests.{is_read, is_blind, is_chain_end}
 use Rattle.law_world.specs.Below.fkv_ops.Values.{value_of}
 use Rattle.law_world.specs.Below.fkv_ops.Walking.{walk_ask, walk_next, walk_on}
 use Rattle.law_world.specs.Below.fkv_ops.Appending.{AppendState, append_ask, append_next}
@@ -104,11 +104,14 @@ unfolding held_used
 held_free p t addr None = ends_free p t (answer.AwaitsDisk (record { entry = t.walk.entry; addr = addr }))
 held_free p t addr (Some held) =
     either_free (held.entry == t.walk.entry)
-    (if held.key.0 == (key_of t.request.op).0 then copies p t (Known held.value) false else if held.previous.0 == 0 then copies p t (Known absent_word) false else awaits p t held.previous)
+    (if held.key.0 == (key_of t.request.op).0 then copies p t (Known held.value) false
+    else if is_chain_end t.request.floor held.previous then copies p t (Known absent_word) false else awaits p t held.previous)
     (awaits p t addr)
-    (either_free (held.key.0 == (key_of t.request.op).0) (copies p t (Known held.value) false) (if held.previous.0 == 0 then copies p t (Known absent_word) false else awaits p t held.previous)
+    (either_free (held.key.0 == (key_of t.request.op).0) (copies p t (Known held.value) false)
+    (if is_chain_end t.request.floor held.previous then copies p t (Known absent_word) false else awaits p t held.previous)
     (copies_free p t (Known held.value) false)
-    (either_free (held.previous.0 == 0) (copies p t (Known absent_word) false) (awaits p t held.previous) (copies_free p t (Known absent_word) false) (ends_free p t (answer.AwaitsDisk (record { entry = t.walk.entry; addr = held.previous })))))
+    (either_free (is_chain_end t.request.floor held.previous) (copies p t (Known absent_word) false) (awaits p t held.previous)
+    (copies_free p t (Known absent_word) false) (ends_free p t (answer.AwaitsDisk (record { entry = t.walk.entry; addr = held.previous })))))
     (ends_free p t (answer.AwaitsDisk (record { entry = t.walk.entry; addr = addr })))
 
 nowhere_free : (p : Places) (t : TryState) → IsFree (met_nowhere p t)
@@ -122,9 +125,13 @@ count_free p t taken = either_free (is_past_taken (bounds_at t.occasion) taken) 
 
 disk_free : (p : Places) (t : TryState) (addr : Addr) → IsFree (met_disk p t addr)
 disk_free p t addr =
-    either_free (is_read t.request.op) (awaits p t addr) (if is_blind t.request.op then copies p t (Known absent_word) false else held_used p t addr t.request.held)
-    (ends_free p t (answer.AwaitsDisk (record { entry = t.walk.entry; addr = addr })))
-    (either_free (is_blind t.request.op) (copies p t (Known absent_word) false) (held_used p t addr t.request.held) (copies_free p t (Known absent_word) false) (held_free p t addr t.request.held))
+    let dead : Bool = is_chain_end t.request.floor addr in
+    either_free (is_read t.request.op) (if dead then ends p t answer.Absent else awaits p t addr)
+    (if is_blind t.request.op || dead then copies p t (Known absent_word) false else held_used p t addr t.request.held)
+    (either_free dead (ends p t answer.Absent) (awaits p t addr) (ends_free p t answer.Absent)
+    (ends_free p t (answer.AwaitsDisk (record { entry = t.walk.entry; addr = addr }))))
+    (either_free (is_blind t.request.op || dead) (copies p t (Known absent_word) false) (held_used p t addr t.request.held)
+    (copies_free p t (Known absent_word) false) (held_free p t addr t.request.held))
 
 changes_free : (t : TryState) (addr : Addr) → IsFree (changes t addr)
 changes_free t addr = either_free (is_blind t.request.op) (record t { step = SwapsValue addr }) (record t { walk = walk_on t.walk; step = LoadsCurrent addr }) (λ session pending. refl) (λ session pending. refl)

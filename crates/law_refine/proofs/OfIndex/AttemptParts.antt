@@ -2,6 +2,7 @@
 use Rattle.std.proofs.Common.{◌≡◌, ℕ, ◌∙◌, refl, sym, ap, subst, Bool, true, false}
 use Rattle.std.specs.Prelude.{if◌then◌else◌, ◌==◌, ⊤, Option, Some, None}
 use Rattle.fkv_base.specs.declared.numbers.Key.{Key}
+use Rattle.fkv_base.specs.declared.numbers.Addr.{Addr}
 use Rattle.fkv_map.specs.Keys.{key_of}
 use Rattle.fkv_plane.specs.declared.asks.Ask.{Ask}
 use Rattle.fkv_plane.specs.declared.asks.Ask.TheVariants.{Done}
@@ -28,9 +29,10 @@ use Rattle.law_world.specs.Below.fkv_pending.MailRecord.{MailRecord}
 use Rattle.law_world.specs.Below.fkv_pending.MailTask.TheVariants.{Take}
 use Rattle.law_world.specs.Below.fkv_pending.TheMailing.TheVariants.{LoadsState}
 use Rattle.law_world.specs.Below.fkv_pending.PendingRequest.{PendingRequest}
-use Rattle.law_world.specs.Below.fkv_pending.Mailing.{mail_ask, mail_next}
-use Rattle.law_world.specs.Below.fkv_pending.Pending.{with_sought, with_held, with_latch, with_asked}
-use Rattle.law_world.specs.Below.fkv_pending.Attempting.{AttemptState, attempt_ended, waits_for_disk, puts_addr, puts, tries, is_seeking_read, goes_on, attempt_begun, held_of, moved_on, read_on, record_taken, look_ledto, held_kept, tried, try_ledto, put_ledto, mail_moved, try_moved, attempting_next, attempt_next, new_attempt}
+use Rattle.law_world.specs.Below.fkv_pending.Mailing.{mail_ask, mail_next, begin_told, is_gone}
+use Rattle.law_world.specs.Below.fkv_pending.Pending.{with_sought, with_held, with_latch, with_asked, without_gone}
+use Rattle.law_world.specs.Below.fkv_ops.Requests.{is_chain_end}
+use Rattle.law_world.specs.Below.fkv_pending.Attempting.{AttemptState, attempt_ended, waits_for_disk, puts_addr, puts, tries, is_seeking_read, goes_on, attempt_begun, held_of, moved_on, read_on, record_taken, look_ledto, held_kept, tried, try_ledto, put_ledto, mail_moved, try_moved, attempting_next, attempt_next, new_attempt, goes_anew, mail_taken}
 use Rattle.law_world.proofs.Below.fkv_pending.Shown.{is_attempt_end, AttemptAsksAt, AttemptRestsOrAsks}
 use Rattle.law_refine.specs.Index.Finders.{NoWork, IndexPart, try_part, attempt_part}
 use Rattle.law_refine.proofs.OfIndex.Goes.{Drops, Goes, part, leads_on}
@@ -85,12 +87,23 @@ read_free p reply a its Spoiled = puts_free p reply a a.pending.sought
 read_free p reply a its (Says previous version) =
     let moved : AttemptState = record a { pending = with_sought a.pending (moved_on a.pending.sought previous) } in
     either_free (its.key.0 == (key_of a.pending.request.op).0) (attempt_ended a (told_value (value_of its.value))) _ (ended_free p reply a _)
-    (either_free (previous.0 == 0) (attempt_ended a answer.Absent) (puts moved) (ended_free p reply a _) (puts_free p reply moved moved.pending.sought))
+    (either_free (is_chain_end a.pending.request.floor previous) (attempt_ended a answer.Absent) (puts moved) (ended_free p reply a _)
+    (puts_free p reply moved moved.pending.sought))
 
 record_free : (p : Places) (bits reply : ℕ) (a : AttemptState) (its : MailRecord) (said : HeaderSaid) → HaveHomes p bits → Free p reply (record_taken p bits a its said) a.spare
 record_free p bits reply a its said homes =
     let held : AttemptState = record a { pending = with_held a.pending (held_of a.pending.sought its said) } in
     either_free (is_seeking_read a) (read_on a its said) (tries p bits held) (read_free p reply a its said) (tries_free p bits reply held homes)
+
+anew_free : (p : Places) (bits reply : ℕ) (a : AttemptState) (begin : Addr) → HaveHomes p bits → Free p reply (goes_anew p bits a begin) a.spare
+anew_free p bits reply a begin homes =
+    let its : AttemptState = record a { pending = without_gone a.pending begin } in
+    either_free (is_seeking_read a) (waits_for_disk its) (tries p bits its) (ended_free p reply its _) (tries_free p bits reply its homes)
+
+mail_free : (p : Places) (bits reply : ℕ) (a : AttemptState) (its : MailRecord) → HaveHomes p bits → Free p reply (mail_taken p bits a its) a.spare
+mail_free p bits reply a its homes =
+    either_free (is_gone its) (goes_anew p bits a (begin_told its)) (record_taken p bits a its (header_said its.header))
+    (anew_free p bits reply a (begin_told its) homes) (record_free p bits reply a its (header_said its.header) homes)
 
 stays_free : (p : Places) (reply : ℕ) (a : AttemptState) (step : Attempting) → a.step ≡ step → AttemptKnows p a step → attempt_part a step ≡ part NoWork a.spare → Free p reply a a.spare
 stays_free p reply a step at knows none = record {
@@ -100,7 +113,8 @@ stays_free p reply a step at knows none = record {
 
 look_free : (p : Places) (bits reply : ℕ) (a : AttemptState) (ask : Ask MailAnswer) → a.step ≡ Looks → HaveHomes p bits → Free p reply (look_ledto p bits a ask) a.spare
 unfolding look_ledto
-look_free p bits reply a (Done (mail.Taken its)) at homes = record_free p bits reply (record a { is_emptied = true; pending = with_asked a.pending false }) its (header_said its.header) homes
+look_free p bits reply a (Done (mail.Taken its)) at homes =
+    mail_free p bits reply (record a { is_emptied = true; pending = with_asked a.pending false }) its homes
 look_free p bits reply a (Done other) at homes = either_free (is_seeking_read a) (waits_for_disk a) (tries p bits a) (ended_free p reply a _) (tries_free p bits reply a homes)
 look_free p bits reply a ask at homes = stays_free p reply a Looks at tt refl
 

@@ -36,7 +36,7 @@ use Rattle.law_world.specs.Below.fkv_session.Sitting.{Sitting}
 use Rattle.law_world.specs.Below.fkv_session.Sitting.TheVariants.{Idle, Attempts, CatchesUp, ClearsMail, Polls, StoresOwing, Turns, StoresCut, Leaves, LoadsDurable}
 use Rattle.law_world.specs.Below.fkv_session.CatchingUp.{catch_ask, refresh_begun, wake_begun}
 use Rattle.law_world.specs.Below.fkv_session.OwnTurns.{own_turn_begun, own_turn_ask, own_turn_given}
-use Rattle.law_world.specs.Below.fkv_session.Sessions.{SessionState, Seat, IsOpened, is_busy, bits_of, room_of, answers, refuses, answers_after_turn, request_in_hand, attempts, polls_request, polls_at, refusal_of, op_begun, refresh_call, poll_begun, poll_call, sleep_call, wake_call, call_begun, ticket_after, attempt_left, serial_taken, update_done, is_no_room, lacks_room, with_request, accepts, shifts, attempted, attempt_ledto, caught_up, catch_ledto, clear_ledto, is_finished, is_owed, request_finished, finishes_request, keeps_request, poll_ledto, turn_ledto, leave_ledto, attempt_moved, caught, own_turn_moved, session_ask, sitting_next, session_next, session_begun, session_given, sitting_given, asks_after, is_word_ask}
+use Rattle.law_world.specs.Below.fkv_session.Sessions.{SessionState, Seat, IsOpened, is_busy, bits_of, room_of, answers, refuses, answers_after_turn, request_in_hand, attempts, polls_request, polls_at, refusal_of, op_begun, refresh_call, poll_begun, poll_call, sleep_call, wake_call, call_begun, ticket_after, attempt_left, poll_left, serial_taken, update_done, is_no_room, lacks_room, with_request, accepts, shifts, attempted, attempt_ledto, caught_up, catch_ledto, clear_ledto, is_finished, is_owed, request_finished, finishes_request, keeps_request, poll_ledto, turn_ledto, leave_ledto, attempt_moved, caught, own_turn_moved, session_ask, sitting_next, session_next, session_begun, session_given, sitting_given, asks_after, is_word_ask}
 use Rattle.law_world.specs.Below.fkv_session.SessionRun.{SessionEvent, Begins as BeginsCall, Replies, Gets, begins, session_happens, session_run}
 use Rattle.fkv_index.proofs.Shown.{homes_are_there}
 use Rattle.law_refine.specs.Index.Finders.{NoWork, IndexPart, sitting_part, session_part}
@@ -154,7 +154,8 @@ poll_ends : (k : Seat) (reply : ℕ) (before : IndexPart) (s : SessionState) (in
 unfolding poll_ledto
 poll_ends k reply before s index (Done its) at asks homes rests led =
     freed k reply before s.attempt.spare _ (has_ended k reply before s.attempt its rests asks led)
-    (either_led (is_finished its) k (finishes_request k (attempt_left s) index its) (keeps_request k (attempt_left s) index its) (finishes_led k (attempt_left s) index its homes) (keeps_led k (attempt_left s) index its homes))
+    (either_led (is_finished its) k (finishes_request k (poll_left s) index its) (keeps_request k (poll_left s) index its)
+    (finishes_led k (poll_left s) index its homes) (keeps_led k (poll_left s) index its homes))
 poll_ends k reply before s index ask at asks homes rests led = record {
   knows = subst (λ x. SittingKnows k.places s x) (sym at) (record { rests = rests; knows = led.knows });
   goes = subst (λ x. Goes k.places reply before (sitting_part s x)) (sym at) led.goes;

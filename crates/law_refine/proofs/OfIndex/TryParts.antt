@@ -1,6 +1,6 @@
 -- What a try is about in the index, and how a reply moves it.
 use Rattle.std.proofs.Common.{◌≡◌, ℕ, ◌∙◌, refl, sym, ap, subst, Bool, true, false}
-use Rattle.std.specs.Prelude.{if◌then◌else◌, ◌==◌, ◌&&◌, not, nat_le, ⊤, Option, Some, None}
+use Rattle.std.specs.Prelude.{if◌then◌else◌, ◌==◌, ◌&&◌, not, nat_le, ⊤, Option, Some, None, ◌||◌}
 use Rattle.fkv_base.specs.declared.numbers.Addr.{Addr}
 use Rattle.fkv_base.specs.declared.numbers.Version.{Version}
 use Rattle.fkv_map.specs.declared.operations.Op.{Op}
@@ -41,7 +41,7 @@ use Rattle.law_world.specs.Below.fkv_ops.TheTrying.TheVariants.{Ended, TakesShar
 use Rattle.law_world.specs.Below.fkv_ops.WalkAnswer.{WalkAnswer}
 use Rattle.law_world.specs.Below.fkv_ops.WalkAnswer.TheVariants as walk
 use Rattle.law_world.specs.Below.fkv_ops.Values.{value_of}
-use Rattle.law_world.specs.Below.fkv_ops.Requests.{is_read, is_blind, purpose_at, update_within}
+use Rattle.law_world.specs.Below.fkv_ops.Requests.{is_read, is_blind, purpose_at, update_within, is_chain_end}
 use Rattle.law_world.specs.Below.fkv_ops.Walking.{walk_ask, walk_next, walk_on}
 use Rattle.law_world.specs.Below.fkv_ops.Appending.{append_ask, append_next}
 use Rattle.law_world.specs.Below.fkv_ops.Trying.{TryState, with_latch, is_wait, ended_without, ends_so, ends_by, is_bounded, tail_loaded, taken_loaded, must_count, count_loaded, ends, takes_effect, walks, wants_shared, try_begun, shared_ledto, must_shift, wants_exclusive, appends, copies_from, copies, awaits, held_used, met_nowhere, met_disk, changes, is_own_version, region_met, met_record, walked, has_walked, walk_ledto, safe_loaded, current_ledto, value_changed, told_value, answer_ledto, exclusive_ledto, old_ledto, append_ledto, exclusive_dropped, shared_dropped, latch_moved, walk_moved, trying_next, try_next, new_try, is_next_marked, latch_shared, is_still_in, phase_loaded, is_surely_own}
@@ -158,7 +158,8 @@ held_left p t addr None home by = ends_left p t _ home
 held_left p t addr (Some held) home by =
     either_left (held.entry == t.walk.entry) _ (awaits p t addr)
     (either_left (held.key.0 == (key_of t.request.op).0) (copies p t (Known held.value) false) _ (copies_left p t (Known held.value) false home by)
-    (either_left (held.previous.0 == 0) (copies p t (Known absent_word) false) (awaits p t held.previous) (copies_left p t (Known absent_word) false home by) (ends_left p t _ home)))
+    (either_left (is_chain_end t.request.floor held.previous) (copies p t (Known absent_word) false) (awaits p t held.previous)
+    (copies_left p t (Known absent_word) false home by) (ends_left p t _ home)))
     (ends_left p t _ home)
 
 -- where the request is no read
@@ -178,8 +179,12 @@ count_left p t taken home by = either_left (is_past_taken (bounds_at t.occasion)
 
 disk_left : (p : Places) (t : TryState) (addr : Addr) → IsHome p t.home → is_finding t.walk.step ≡ false → Left p t (met_disk p t addr)
 disk_left p t addr home past =
-    by_read (is_read t.request.op) (awaits p t addr) _ (λ read. ends_left p t _ home)
-    (λ update. either_left (is_blind t.request.op) (copies p t (Known absent_word) false) (held_used p t addr t.request.held) (copies_left p t (Known absent_word) false home (record { update = update; past = past })) (held_left p t addr t.request.held home (record { update = update; past = past })))
+    by_read (is_read t.request.op) _ _
+    (λ read. either_left (is_chain_end t.request.floor addr) (ends p t answer.Absent) (awaits p t addr) (ends_left p t answer.Absent home)
+    (ends_left p t _ home))
+    (λ update. either_left (is_blind t.request.op || is_chain_end t.request.floor addr) (copies p t (Known absent_word) false)
+    (held_used p t addr t.request.held) (copies_left p t (Known absent_word) false home (record { update = update; past = past }))
+    (held_left p t addr t.request.held home (record { update = update; past = past })))
 
 changes_left : (p : Places) (t : TryState) (addr : Addr) → IsHome p t.home → is_finding t.walk.step ≡ false → Left p t (changes t addr)
 changes_left p t addr home past =

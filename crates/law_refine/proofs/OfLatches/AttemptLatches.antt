@@ -1,6 +1,6 @@
 -- How one reply to an attempt moves its machine for latches.
 use Rattle.std.proofs.Common.{◌≡◌, ℕ, ◌<◌, ◌∙◌, refl, sym, ap, subst, List, [], Bool, true, false}
-use Rattle.std.specs.Prelude.{if◌then◌else◌, ◌==◌, ⊤, Option, Some, None}
+use Rattle.std.specs.Prelude.{if◌then◌else◌, ⊤, Option, Some, None}
 use Rattle.fkv_map.specs.Keys.{key_of}
 use Rattle.fkv_plane.specs.declared.asks.Ask.{Ask}
 use Rattle.fkv_plane.specs.declared.asks.Ask.TheVariants.{Done}
@@ -15,31 +15,27 @@ use Rattle.fkv_latch.specs.Latching.{latch_first, latch_next, latch_next_ask}
 use Rattle.law_world.specs.Below.fkv_ops.DiskRecord.{DiskRecord}
 use Rattle.law_world.specs.Below.fkv_ops.TryAnswer.{TryAnswer}
 use Rattle.law_world.specs.Below.fkv_ops.TryAnswer.TheVariants as answer
-use Rattle.law_world.specs.Below.fkv_ops.HeaderSaid.{HeaderSaid}
-use Rattle.law_world.specs.Below.fkv_ops.HeaderSaid.TheVariants.{Says, Spoiled}
 use Rattle.law_world.specs.Below.fkv_ops.Occasion.{Occasion}
 use Rattle.law_world.specs.Below.fkv_ops.Seen.{Seen}
 use Rattle.law_world.specs.Below.fkv_ops.TheTrying.{Trying}
 use Rattle.law_world.specs.Below.fkv_ops.TheTrying.TheVariants as trying
-use Rattle.law_world.specs.Below.fkv_ops.HeaderWords.{header_said}
-use Rattle.law_world.specs.Below.fkv_ops.Trying.{TryState, try_ask, try_next, told_value}
-use Rattle.law_world.specs.Below.fkv_ops.Values.{value_of}
+use Rattle.law_world.specs.Below.fkv_ops.Trying.{TryState, try_ask, try_next}
 use Rattle.law_world.proofs.Below.fkv_ops.Shown.{is_try_end, TryRestsOrAsks, try_done, try_rests}
 use Rattle.law_world.specs.Below.fkv_pending.TheAttempting.{Attempting}
 use Rattle.law_world.specs.Below.fkv_pending.TheAttempting.TheVariants.{Ended, Looks, Tries, Puts}
 use Rattle.law_world.specs.Below.fkv_pending.MailAnswer.{MailAnswer}
 use Rattle.law_world.specs.Below.fkv_pending.MailAnswer.TheVariants as mail
-use Rattle.law_world.specs.Below.fkv_pending.MailRecord.{MailRecord}
 use Rattle.law_world.specs.Below.fkv_pending.MailTask.TheVariants.{Take}
 use Rattle.law_world.specs.Below.fkv_pending.TheMailing.TheVariants.{LoadsState}
 use Rattle.law_world.specs.Below.fkv_pending.PendingRequest.{PendingRequest}
 use Rattle.law_world.specs.Below.fkv_pending.Mailing.{mail_ask, mail_next}
 use Rattle.law_world.specs.Below.fkv_pending.Pending.{with_sought, with_held, with_latch, with_asked}
-use Rattle.law_world.specs.Below.fkv_pending.Attempting.{AttemptState, attempt_ended, waits_for_disk, puts_addr, puts, tries, is_seeking_read, goes_on, attempt_begun, held_of, moved_on, read_on, record_taken, look_ledto, held_kept, tried, try_ledto, put_ledto, mail_moved, try_moved, attempting_next, attempt_next, new_attempt}
+use Rattle.law_world.specs.Below.fkv_pending.Attempting.{AttemptState, attempt_ended, waits_for_disk, puts_addr, puts, tries, is_seeking_read, goes_on, attempt_begun, look_ledto, held_kept, tried, try_ledto, put_ledto, mail_moved, try_moved, attempting_next, attempt_next, new_attempt}
 use Rattle.law_world.proofs.Below.fkv_pending.Shown.{AttemptAsksAt, AttemptRestsOrAsks}
 use Rattle.law_world.proofs.OfGuardSessions.AttemptsOuter.{HomesAreLow}
 use Rattle.law_refine.specs.Latches.Latchers.{try_latching, try_alone, attempt_latching, attempt_alone}
 use Rattle.law_refine.proofs.OfLatches.TryLatches.{alone_left, alone_given, is_first, HasHeld, Fits, Keeps, Starts, IsTry, TryLed, try_led, begun_led}
+use Rattle.law_refine.proofs.OfEvents.Looks.{look_holds}
 
 -- the same as of a try, of a latch of the index
 pub data FitsAt (p : Places) (step : Latching) (held : List ℕ) (its : Latching) (alone : List ℕ) : Type 0 where
@@ -99,18 +95,6 @@ attempt_begun_led p bits pending seen occasion spare is_orphaned homes =
 ended_led : (p : Places) (a : AttemptState) (its : TryAnswer) → AttemptLed p latching.AtRest [] (attempt_ended a its)
 ended_led p a its = record { knows = tt; fits = KeepsAt refl refl refl }
 
-read_led : (p : Places) (a : AttemptState) (its : MailRecord) (said : HeaderSaid) → AttemptLed p latching.AtRest [] (read_on a its said)
-read_led p a its Spoiled = puts_led p a a.pending.sought
-read_led p a its (Says previous version) =
-    let moved : AttemptState = record a { pending = with_sought a.pending (moved_on a.pending.sought previous) } in
-    either_led (its.key.0 == (key_of a.pending.request.op).0) p (attempt_ended a (told_value (value_of its.value))) _ (ended_led p a _)
-    (either_led (previous.0 == 0) p (attempt_ended a answer.Absent) (puts moved) (ended_led p a _) (puts_led p moved moved.pending.sought))
-
-record_led : (p : Places) (bits : ℕ) (a : AttemptState) (its : MailRecord) (said : HeaderSaid) → HomesAreLow p bits → AttemptLed p latching.AtRest [] (record_taken p bits a its said)
-record_led p bits a its said homes =
-    let held : AttemptState = record a { pending = with_held a.pending (held_of a.pending.sought its said) } in
-    either_led (is_seeking_read a) p (read_on a its said) (tries p bits held) (read_led p a its said) (tries_led p bits held homes)
-
 -- a machine besides that for latches goes on
 stays_led : (p : Places) (a : AttemptState) (step : Attempting) → a.step ≡ step → AttemptKnows p a step → attempt_latching a step ≡ latching.AtRest → attempt_alone p a step ≡ [] → AttemptLed p latching.AtRest [] a
 stays_led p a step at knows rests none =
@@ -121,10 +105,9 @@ stays_led p a step at knows rests none =
     }
 
 look_led : (p : Places) (bits : ℕ) (a : AttemptState) (ask : Ask MailAnswer) → a.step ≡ Looks → HomesAreLow p bits → AttemptLed p latching.AtRest [] (look_ledto p bits a ask)
-unfolding look_ledto
-look_led p bits a (Done (mail.Taken its)) at homes = record_led p bits (record a { is_emptied = true; pending = with_asked a.pending false }) its (header_said its.header) homes
-look_led p bits a (Done other) at homes = either_led (is_seeking_read a) p (waits_for_disk a) (tries p bits a) (ended_led p a _) (tries_led p bits a homes)
-look_led p bits a ask at homes = stays_led p a Looks at tt refl refl
+look_led p bits a ask at homes =
+    look_holds (λ its. AttemptLed p latching.AtRest [] its) (λ its told. ended_led p its told) (λ its sought. puts_led p its sought) p bits
+    (λ its. tries_led p bits its homes) a ask (stays_led p a Looks at tt refl refl)
 
 put_led : (p : Places) (a : AttemptState) (ask : Ask MailAnswer) → a.step ≡ Puts → AttemptLed p latching.AtRest [] (put_ledto a ask)
 unfolding put_ledto

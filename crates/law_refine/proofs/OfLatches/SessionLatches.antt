@@ -47,7 +47,7 @@ use Rattle.law_world.specs.Below.fkv_session.Sitting.{Sitting}
 use Rattle.law_world.specs.Below.fkv_session.Sitting.TheVariants.{Idle, Attempts, CatchesUp, ClearsMail, Polls, StoresOwing, Turns, StoresCut, Leaves, LoadsDurable}
 use Rattle.law_world.specs.Below.fkv_session.CatchingUp.{CatchState, catching_ask, catch_ask, refresh_begun, wake_begun}
 use Rattle.law_world.specs.Below.fkv_session.OwnTurns.{own_turn_begun, own_turn_ask, own_turn_given}
-use Rattle.law_world.specs.Below.fkv_session.Sessions.{SessionState, Seat, bits_of, room_of, answers, refuses, answers_after_turn, request_in_hand, attempts, polls_request, polls_at, refusal_of, op_begun, refresh_call, poll_begun, poll_call, sleep_call, wake_call, call_begun, session_begun, ticket_after, attempt_left, serial_taken, update_done, is_no_room, lacks_room, with_request, accepts, shifts, attempted, attempt_ledto, caught_up, catch_ledto, clear_ledto, is_finished, is_owed, request_finished, finishes_request, keeps_request, poll_ledto, turn_ledto, leave_ledto, attempt_moved, caught, own_turn_moved, sitting_ask, session_ask, sitting_next, session_next, sitting_given, session_given, asks_after, is_word_ask}
+use Rattle.law_world.specs.Below.fkv_session.Sessions.{SessionState, Seat, bits_of, room_of, answers, refuses, answers_after_turn, request_in_hand, attempts, polls_request, polls_at, refusal_of, op_begun, refresh_call, poll_begun, poll_call, sleep_call, wake_call, call_begun, session_begun, ticket_after, attempt_left, poll_left, serial_taken, update_done, is_no_room, lacks_room, with_request, accepts, shifts, attempted, attempt_ledto, caught_up, catch_ledto, clear_ledto, is_finished, is_owed, request_finished, finishes_request, keeps_request, poll_ledto, turn_ledto, leave_ledto, attempt_moved, caught, own_turn_moved, sitting_ask, session_ask, sitting_next, session_next, sitting_given, session_given, asks_after, is_word_ask}
 use Rattle.law_world.proofs.OfGuardSessions.AttemptsOuter.{HomesAreLow}
 use Rattle.law_world.proofs.OfGuardSessions.SessionsOuter.{Homes}
 use Rattle.law_refine.specs.Latches.Latchers.{try_latching, attempt_latching, catch_latching, sitting_latching, session_latching, attempt_alone, sitting_alone, session_alone}
@@ -167,7 +167,8 @@ poll_ends : (k : Seat) (step : Latching) (held : List ℕ) (s : SessionState) (i
 unfolding poll_ledto
 poll_ends k step held s index (Done its) at asks homes rests led =
     freed k step held _ (end_is_free k.places s.attempt s.attempt.step step held (has_ended k s.attempt its rests asks) led.fits)
-    (either_led (is_finished its) k (finishes_request k (attempt_left s) index its) (keeps_request k (attempt_left s) index its) (finishes_led k (attempt_left s) index its homes) (keeps_led k (attempt_left s) index its homes))
+    (either_led (is_finished its) k (finishes_request k (poll_left s) index its) (keeps_request k (poll_left s) index its)
+    (finishes_led k (poll_left s) index its homes) (keeps_led k (poll_left s) index its homes))
 poll_ends k step held s index ask at asks homes rests led =
     let at' = sym at in
     record {

@@ -1,6 +1,6 @@
 -- How one reply to a try moves its machine for latches, and what the try holds alone then.
 use Rattle.std.proofs.Common.{◌≡◌, ℕ, ◌<◌, ◌∙◌, refl, sym, ap, subst, List, [], ◌∷◌, Bool, true, false, arith}
-use Rattle.std.specs.Prelude.{if◌then◌else◌, ◌==◌, ◌&&◌, not, nat_le, ⊤, Option, Some, None}
+use Rattle.std.specs.Prelude.{if◌then◌else◌, ◌==◌, ◌&&◌, not, nat_le, ⊤, Option, Some, None, ◌||◌}
 use Rattle.std.proofs.lemmas.Bool.Decides.{nat_tests}
 use Rattle.fkv_base.specs.declared.numbers.Addr.{Addr}
 use Rattle.fkv_base.specs.declared.numbers.Version.{Version}
@@ -38,7 +38,7 @@ use Rattle.law_world.specs.Below.fkv_ops.TheTrying.TheVariants.{Ended, TakesShar
 use Rattle.law_world.specs.Below.fkv_ops.WalkAnswer.{WalkAnswer}
 use Rattle.law_world.specs.Below.fkv_ops.WalkAnswer.TheVariants as walk
 use Rattle.law_world.specs.Below.fkv_ops.Values.{value_of}
-use Rattle.law_world.specs.Below.fkv_ops.Requests.{is_read, is_blind}
+use Rattle.law_world.specs.Below.fkv_ops.Requests.{is_read, is_blind, is_chain_end}
 use Rattle.law_world.specs.Below.fkv_ops.Walking.{walk_ask, walk_next, walk_on}
 use Rattle.law_world.specs.Below.fkv_ops.Appending.{append_ask, append_next}
 use Rattle.law_world.specs.Below.fkv_ops.Trying.{TryState, with_latch, is_wait, is_prepare, ended_without, ends_so, ends_by, is_bounded, tail_loaded, taken_loaded, must_count, count_loaded, ends, takes_effect, walks, wants_shared, try_begun, shared_ledto, must_shift, wants_exclusive, appends, copies_from, copies, awaits, held_used, met_nowhere, met_disk, changes, is_own_version, region_met, met_record, walked, has_walked, walk_ledto, safe_loaded, current_ledto, value_changed, told_value, answer_ledto, exclusive_ledto, old_ledto, append_ledto, exclusive_dropped, shared_dropped, latch_moved, trying_next, try_next, new_try, is_next_marked, latch_shared, is_still_in, phase_loaded, is_surely_own}
@@ -200,7 +200,8 @@ held_led p t addr None low alone = ends_none p t _ low alone
 held_led p t addr (Some held) low alone =
     either_led (held.entry == t.walk.entry) p latching.AtRest [] _ (awaits p t addr)
     (either_led (held.key.0 == (key_of t.request.op).0) p latching.AtRest [] (copies p t (Known held.value) false) _ (copies_led p t (Known held.value) false low alone)
-    (either_led (held.previous.0 == 0) p latching.AtRest [] (copies p t (Known absent_word) false) (awaits p t held.previous) (copies_led p t (Known absent_word) false low alone) (ends_none p t _ low alone)))
+    (either_led (is_chain_end t.request.floor held.previous) p latching.AtRest [] (copies p t (Known absent_word) false) (awaits p t held.previous)
+    (copies_led p t (Known absent_word) false low alone) (ends_none p t _ low alone)))
     (ends_none p t _ low alone)
 
 nowhere_led : (p : Places) (t : TryState) → t.home.bucket < p.buckets → IsNotAlone t → TryLed p latching.AtRest [] (met_nowhere p t)
@@ -215,8 +216,11 @@ count_led p t taken low alone =
 
 disk_led : (p : Places) (t : TryState) (addr : Addr) → t.home.bucket < p.buckets → IsNotAlone t → TryLed p latching.AtRest [] (met_disk p t addr)
 disk_led p t addr low alone =
-    either_led (is_read t.request.op) p latching.AtRest [] (awaits p t addr) _ (ends_none p t _ low alone)
-    (either_led (is_blind t.request.op) p latching.AtRest [] (copies p t (Known absent_word) false) (held_used p t addr t.request.held) (copies_led p t (Known absent_word) false low alone) (held_led p t addr t.request.held low alone))
+    either_led (is_read t.request.op) p latching.AtRest [] _ _
+    (either_led (is_chain_end t.request.floor addr) p latching.AtRest [] (ends p t answer.Absent) (awaits p t addr) (ends_none p t answer.Absent low alone)
+    (ends_none p t _ low alone))
+    (either_led (is_blind t.request.op || is_chain_end t.request.floor addr) p latching.AtRest [] (copies p t (Known absent_word) false)
+    (held_used p t addr t.request.held) (copies_led p t (Known absent_word) false low alone) (held_led p t addr t.request.held low alone))
 
 changes_led : (p : Places) (t : TryState) (addr : Addr) → t.home.bucket < p.buckets → IsNotAlone t → TryLed p latching.AtRest [] (changes t addr)
 changes_led p t addr low alone =

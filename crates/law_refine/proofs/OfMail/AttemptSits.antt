@@ -6,6 +6,8 @@ use Rattle.fkv_plane.specs.declared.asks.Ask.{Ask}
 use Rattle.fkv_plane.specs.declared.asks.Ask.TheVariants.{Done}
 use Rattle.fkv_plane.specs.declared.places.Places.{Places}
 use Rattle.fkv_plane.specs.Passing.{passed}
+use Rattle.fkv_base.specs.declared.numbers.Addr.{Addr}
+use Rattle.law_world.specs.Below.fkv_ops.Requests.{is_chain_end}
 use Rattle.law_world.specs.Below.fkv_ops.DiskRecord.{DiskRecord}
 use Rattle.law_world.specs.Below.fkv_ops.TryAnswer.{TryAnswer}
 use Rattle.law_world.specs.Below.fkv_ops.TryAnswer.TheVariants as answer
@@ -24,10 +26,10 @@ use Rattle.law_world.specs.Below.fkv_pending.MailTask.TheVariants.{Take, Put}
 use Rattle.law_world.specs.Below.fkv_pending.TheMailing.{Mailing}
 use Rattle.law_world.specs.Below.fkv_pending.TheMailing.TheVariants as mailing
 use Rattle.law_world.specs.Below.fkv_pending.PendingRequest.{PendingRequest}
-use Rattle.law_world.specs.Below.fkv_pending.Mailing.{mail_ask, mail_next}
+use Rattle.law_world.specs.Below.fkv_pending.Mailing.{mail_ask, mail_next, is_gone, begin_told}
 use Rattle.law_world.specs.Below.fkv_pending.MailWorld.{is_at_end, has_emptied}
-use Rattle.law_world.specs.Below.fkv_pending.Pending.{with_sought, with_held, with_latch, with_asked}
-use Rattle.law_world.specs.Below.fkv_pending.Attempting.{AttemptState, attempting_ask, attempt_ask, attempt_ended, waits_for_disk, puts_addr, puts, tries, is_seeking_read, goes_on, attempt_begun, held_of, moved_on, read_on, record_taken, look_ledto, held_kept, tried, try_ledto, put_ledto, mail_moved, try_moved, attempting_next, attempt_next, new_attempt}
+use Rattle.law_world.specs.Below.fkv_pending.Pending.{with_sought, with_held, with_latch, with_asked, without_gone}
+use Rattle.law_world.specs.Below.fkv_pending.Attempting.{AttemptState, attempting_ask, attempt_ask, attempt_ended, waits_for_disk, puts_addr, puts, tries, is_seeking_read, goes_on, attempt_begun, held_of, moved_on, read_on, record_taken, goes_anew, mail_taken, look_ledto, held_kept, tried, try_ledto, put_ledto, mail_moved, try_moved, attempting_next, attempt_next, new_attempt}
 use Rattle.law_refine.specs.Mail.Mailers.{attempt_mailing}
 
 -- what a machine has become where it may have begun a task
@@ -123,12 +125,21 @@ read_leads a its Spoiled m free = puts_leads a a.pending.sought m free
 read_leads a its (Says previous version) m free =
     let moved : AttemptState = record a { pending = with_sought a.pending (moved_on a.pending.sought previous) } in
     either_leads (its.key.0 == (key_of a.pending.request.op).0) (attempt_ended a (told_value (value_of its.value))) _ m free.0
-    (either_leads (previous.0 == 0) (attempt_ended a answer.Absent) (puts moved) m free.0 (puts_leads moved moved.pending.sought m free))
+    (either_leads (is_chain_end a.pending.request.floor previous) (attempt_ended a answer.Absent) (puts moved) m free.0 (puts_leads moved moved.pending.sought m free))
 
 record_leads : (p : Places) (bits : ℕ) (a : AttemptState) (its : MailRecord) (said : HeaderSaid) (m : Mailing) → IsFree a m → AttemptLeads (record_taken p bits a its said) m
 record_leads p bits a its said m free =
     let held : AttemptState = record a { pending = with_held a.pending (held_of a.pending.sought its said) } in
     either_leads (is_seeking_read a) (read_on a its said) (tries p bits held) m (read_leads a its said m free) (tries_leads p bits held m free)
+
+anew_leads : (p : Places) (bits : ℕ) (a : AttemptState) (begin : Addr) (m : Mailing) → IsFree a m → AttemptLeads (goes_anew p bits a begin) m
+anew_leads p bits a begin m free =
+    let its : AttemptState = record a { pending = without_gone a.pending begin } in
+    either_leads (is_seeking_read a) (waits_for_disk its) (tries p bits its) m free.0 (tries_leads p bits its m free)
+
+mail_leads : (p : Places) (bits : ℕ) (a : AttemptState) (its : MailRecord) (m : Mailing) → IsFree a m → AttemptLeads (mail_taken p bits a its) m
+mail_leads p bits a its m free =
+    either_leads (is_gone its) (goes_anew p bits a (begin_told its)) (record_taken p bits a its (header_said its.header)) m (anew_leads p bits a (begin_told its) m free) (record_leads p bits a its (header_said its.header) m free)
 
 none_leads : (p : Places) (bits : ℕ) (a : AttemptState) (m : Mailing) → is_at_end m ≡ true → a.is_emptied ≡ false
     → AttemptLeads (if is_seeking_read a then waits_for_disk a else tries p bits a) m
@@ -138,7 +149,7 @@ none_leads p bits a m ended emptied =
 look_leads : (p : Places) (bits n : ℕ) (a : AttemptState) (m : Mailing) → a.step ≡ Looks → a.mailing ≡ m → a.is_emptied ≡ false → AttemptLeads (look_ledto p bits a (mail_ask n m)) m
 unfolding look_ledto mail_ask
 look_leads p bits n a (mailing.Ended (mail.Taken its)) at same emptied =
-    record_leads p bits (record a { is_emptied = true; pending = with_asked a.pending false }) its (header_said its.header) (mailing.Ended (mail.Taken its)) (refl, λ e. refl)
+    mail_leads p bits (record a { is_emptied = true; pending = with_asked a.pending false }) its (mailing.Ended (mail.Taken its)) (refl, λ e. refl)
 look_leads p bits n a (mailing.Ended mail.Cleared) at same emptied = none_leads p bits a _ refl emptied
 look_leads p bits n a (mailing.Ended mail.NotReady) at same emptied = none_leads p bits a _ refl emptied
 look_leads p bits n a (mailing.Ended mail.Asked) at same emptied = none_leads p bits a _ refl emptied

@@ -27,7 +27,7 @@ use Rattle.law_world.specs.Below.fkv_keeper.Keeping.{KeeperState, end_told, part
 use Rattle.law_world.specs.Below.fkv_world.Moves.{Near}
 use Rattle.law_world.specs.Below.fkv_world.OwnEvents.{keeper_got, keeper_slots, keeper_steps}
 use Rattle.law_world.proofs.Below.fkv_world.Shown.{keeper_runs_on}
-use Rattle.law_refine.specs.Mail.Servers.{maintain_serving, keeper_serving, serving_of}
+use Rattle.law_refine.specs.Mail.Servers.{maintain_serving, keeper_serving, serving_of, begin_of}
 use Rattle.law_refine.proofs.OfMail.KeeperParts.{TurnsWith, happens_with}
 
 -- it is at the last part of a turn
@@ -169,7 +169,7 @@ no_slot shape p s (serve.StoresKey session mail) actions granted = refl
 no_slot shape p s (serve.StoresValue session mail) actions granted = refl
 no_slot shape p s (serve.StoresReady session) actions granted = refl
 
-next_goes : (shape : Shape) (p : Places) (s : KeeperState) (step : Serving) (reply : ℕ) (granted : Bool) → keeper_next shape p (at_serve s step) reply granted ≡ goes_on shape p s (serve_next shape.sessions step reply)
+next_goes : (shape : Shape) (p : Places) (s : KeeperState) (step : Serving) (reply : ℕ) (granted : Bool) → keeper_next shape p (at_serve s step) reply granted ≡ goes_on shape p s (serve_next shape.sessions (begin_of s) step reply)
 unfolding keeping_next maintaining_next
 next_goes shape p s step reply granted = refl
 
@@ -181,10 +181,10 @@ fails : (shape : Shape) (p : Places) (s : KeeperState) (step : Serving) (bytes :
 unfolding keeping_called maintaining_called maintaining_ask maintain_ledto
 fails shape p s step bytes = refl
 
--- how far it is then
-abbrev pub serve_after : ℕ → List ℕ → List ℕ → Serving → Serving
-serve_after sessions words read (serve.Reads session addr) = serve_read (serve.Reads session addr) read
-serve_after sessions words read step = serve_next sessions step (reply_to words (serve_ask step))
+-- how far it is then, in a log with this begin
+abbrev pub serve_after : ℕ → ℕ → List ℕ → List ℕ → Serving → Serving
+serve_after sessions begin words read (serve.Reads session addr) = serve_read (serve.Reads session addr) read
+serve_after sessions begin words read step = serve_next sessions begin step (reply_to words (serve_ask step))
 
 -- what the keeper's own step is there
 abbrev pub steps_of : Shape → Places → Bool → Bool → List ℕ → Near KeeperState → List KeeperEvent
@@ -213,11 +213,11 @@ word_steps shape p s words actions granted done read (serve.StoresValue session 
 word_steps shape p s words actions granted done read (serve.StoresReady session) asks = refl
 
 replied : (shape : Shape) (p : Places) (s : KeeperState) (words : List ℕ) (actions : List (Option Action)) (granted done : Bool) (read : List ℕ) (step : Serving) → AsksWord step
-    → serving_of (keeper_run shape p (at_serve s step) (steps_of shape p granted done read (beside (at_serve s step) words actions))) ≡ serve_next shape.sessions step (reply_to words (serve_ask step))
+    → serving_of (keeper_run shape p (at_serve s step) (steps_of shape p granted done read (beside (at_serve s step) words actions))) ≡ serve_next shape.sessions (begin_of s) step (reply_to words (serve_ask step))
 unfolding keeper_run keeper_happens
 replied shape p s words actions granted done read step asks =
     let reply : ℕ = reply_to words (serve_ask step) in
-    let next : Serving = serve_next shape.sessions step reply in
+    let next : Serving = serve_next shape.sessions (begin_of s) step reply in
     let steps : steps_of shape p granted done read (beside (at_serve s step) words actions) ≡ Replies reply granted ∷ [] =
     word_steps shape p s words actions granted done read step asks
     ∙ ap (λ (x : KeeperState). keeper_slots actions granted (keeper_ask shape p x) ++ Replies reply granted ∷ []) (next_goes shape p s step reply granted)
@@ -258,7 +258,7 @@ call_runs shape p s words actions granted done read session addr = ap (λ (x : L
 -- The keeper's whole step at the last part: its machine is where it leads, unless the device has failed.
 pub serves_on : (shape : Shape) (p : Places) (s : KeeperState) (words : List ℕ) (actions : List (Option Action)) (granted done : Bool) (read : List ℕ) (step : Serving)
     → (keeper_run shape p (at_serve s step) (steps_of shape p granted done read (beside (at_serve s step) words actions))).is_broken ≡ false
-    → serving_of (keeper_run shape p (at_serve s step) (steps_of shape p granted done read (beside (at_serve s step) words actions))) ≡ serve_after shape.sessions words read step
+    → serving_of (keeper_run shape p (at_serve s step) (steps_of shape p granted done read (beside (at_serve s step) words actions))) ≡ serve_after shape.sessions (begin_of s) words read step
 unfolding serve_next
 serves_on shape p s words actions granted done read serve.AtRest works = rested shape p s words actions granted done read
 serves_on shape p s words actions granted done read (serve.Reads session addr) works =

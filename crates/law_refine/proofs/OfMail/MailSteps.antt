@@ -1,6 +1,6 @@
 -- What the events of a mailbox's world come to that the engine's are.
-use Rattle.std.proofs.Common.{◌≡◌, ℕ, ◌<◌, inl, inr, refl, sym, ap, arith, List, [], ◌∷◌, ◌++◌, length, Bool, true, false}
-use Rattle.std.specs.Prelude.{if◌then◌else◌, Option, Some, None, slice_set}
+use Rattle.std.proofs.Common.{◌≡◌, ℕ, ◌<◌, ◌∙◌, inl, inr, refl, sym, ap, arith, List, [], ◌∷◌, ◌++◌, length, Bool, true, false}
+use Rattle.std.specs.Prelude.{◌==◌, if◌then◌else◌, Option, Some, None, slice_set}
 use Rattle.std.proofs.lemmas.List.{set-get_or}
 use Rattle.std.proofs.lemmas.Bool.Decides.{nat_tests}
 use Rattle.fkv_plane.specs.declared.asks.Ask.{Ask}
@@ -9,11 +9,12 @@ use Rattle.fkv_plane.specs.declared.places.Places.{Places}
 use Rattle.fkv_plane.specs.declared.places.SessionWord.TheVariants as own
 use Rattle.fkv_plane.specs.Asked.{word_at, words_after, reply_to}
 use Rattle.fkv_plane.specs.Places.{session_place}
+use Rattle.law_world.specs.Below.fkv_pending.MailRecord.{MailRecord}
 use Rattle.law_world.specs.Below.fkv_pending.MailTask.{MailTask}
 use Rattle.law_world.specs.Below.fkv_pending.TheMailing.{Mailing}
 use Rattle.law_world.specs.Below.fkv_pending.TheMailing.TheVariants as mailing
 use Rattle.law_world.specs.Below.fkv_pending.Mailing.{mail_asked, mail_ask, mail_next}
-use Rattle.law_world.specs.Below.fkv_pending.MailWorld.{Mailbox, mailbox_of, is_mail_place, MailWorld, MailEvent, Moves, mail_happens, mail_run}
+use Rattle.law_world.specs.Below.fkv_pending.MailWorld.{Mailbox, mailbox_of, is_mail_place, Keeping, FindsState, FindsAddress, Reads, MailWorld, MailEvent, Moves, Serves, mail_happens, mail_run}
 use Rattle.law_world.proofs.Below.fkv_pending.Shown.{KnowsMail, box_moved, spared_box}
 use Rattle.law_refine.specs.Footprint.{IsAmong, Mail, Spares, TheMailbox}
 use Rattle.law_refine.specs.Mail.MailEvents.{begins, changed_by}
@@ -40,6 +41,15 @@ begins_run w (Some (mailing.LoadsKey header)) = refl
 begins_run w (Some (mailing.LoadsValue header key)) = refl
 begins_run w (Some (mailing.StoresEmpty its)) = refl
 begins_run w (Some mailing.StoresAsked) = refl
+
+-- where a record is asked for, the keeper finds that and takes its address up
+pub takes_up : (w : MailWorld) (given : MailRecord) → w.keeping ≡ FindsState → (mailbox_of w.words w.session).state ≡ mail_asked
+    → mail_happens (mail_happens w (Serves given)) (Serves given) ≡ record w { keeping = Reads (record { 0 = (mailbox_of w.words w.session).addr }) }
+unfolding mail_happens
+takes_up w given finds asks =
+    let tests : ((mailbox_of w.words w.session).state == mail_asked) ≡ true = grind (arith, nat_tests, asks) in
+    ap (λ (x : Keeping). mail_happens (mail_happens (record w { keeping = x }) (Serves given)) (Serves given)) finds
+    ∙ ap (λ (c : Bool). mail_happens (record w { keeping = if c then FindsAddress else FindsState }) (Serves given)) tests
 
 -- a load writes back what it finds
 pub loaded : (words : List ℕ) (place : ℕ) → slice_set words place (word_at words place) ≡ words

@@ -1,4 +1,4 @@
--- What the keeper serves is what the device gave it since the record was asked for, over the events of the mailbox's world.
+-- What the keeper serves was given since the record was asked for, over the events of the mailbox's world.
 use Rattle.std.proofs.Common.{◌≡◌, ℕ, ◌∙◌, inl, inr, refl, sym, ap, subst, arith, List, [], ◌∷◌, Bool, true, false}
 use Rattle.std.specs.Prelude.{⊤, ◌==◌, ◌&&◌, not, if◌then◌else◌, Option, Some, None, slice_set}
 use Rattle.fkv_base.specs.declared.numbers.Addr.{Addr}
@@ -17,21 +17,21 @@ use Rattle.law_world.specs.Below.fkv_pending.Mailbox.{MailNote, HasAskedFor, Was
 use Rattle.law_world.proofs.Below.fkv_pending.Shown.{IsSound, Stands, KnowsKeeper, moved_box, happens_sound}
 use Rattle.law_world.specs.Below.fkv_world.World.{Event}
 use Rattle.law_world.specs.Below.fkv_world.Runs.{World}
-use Rattle.law_refine.specs.Mail.Reads.{ReadSince}
+use Rattle.law_refine.specs.Mail.Reads.{GivenSince}
 use Rattle.law_refine.proofs.OfMail.MailSteps.{asked_stays}
 
--- the record that the keeper has in hand was read since what has come to pass
+-- the record that the keeper has in hand was given since what has come to pass
 abbrev pub InHandRead : World → ℕ → List Event → List MailNote → Keeping → Type 0
-InHandRead opening session events notes (GivesHeader addr its) = ReadSince opening session events addr its notes
-InHandRead opening session events notes (GivesKey addr its) = ReadSince opening session events addr its notes
-InHandRead opening session events notes (GivesValue addr its) = ReadSince opening session events addr its notes
-InHandRead opening session events notes (GivesReady addr its) = ReadSince opening session events addr its notes
+InHandRead opening session events notes (GivesHeader addr its) = GivenSince opening session events addr its notes
+InHandRead opening session events notes (GivesKey addr its) = GivenSince opening session events addr its notes
+InHandRead opening session events notes (GivesValue addr its) = GivenSince opening session events addr its notes
+InHandRead opening session events notes (GivesReady addr its) = GivenSince opening session events addr its notes
 InHandRead opening session events notes step = ⊤
 
 -- and each that was served, since what had come to pass before
 abbrev pub AllRead : World → ℕ → List Event → List MailNote → Type 0
 AllRead opening session events [] = ⊤
-AllRead opening session events (WasServed addr its ∷ before) = ReadSince opening session events addr its before × AllRead opening session events before
+AllRead opening session events (WasServed addr its ∷ before) = GivenSince opening session events addr its before × AllRead opening session events before
 AllRead opening session events (note ∷ before) = AllRead opening session events before
 
 pub record IsRead (opening : World) (session : ℕ) (events : List Event) (keeping : Keeping) (notes : List MailNote) : Type 0 where
@@ -39,9 +39,12 @@ pub record IsRead (opening : World) (session : ℕ) (events : List Event) (keepi
   pub all : AllRead opening session events notes
 
 -- the life goes on
-later_since : (opening : World) (session : ℕ) (events : List Event) (event : Event) (addr : Addr) (its : MailRecord) (asked : List MailNote) → ReadSince opening session events addr its asked → ReadSince opening session (event ∷ events) addr its asked
-later_since opening session events event addr its asked read =
-    record { earlier = read.earlier; later = event ∷ read.later; event = read.event; cut = ap (λ xs. event ∷ xs) read.cut; reads = read.reads; gives = read.gives; since = read.since }
+later_since : (opening : World) (session : ℕ) (events : List Event) (event : Event) (addr : Addr) (its : MailRecord) (asked : List MailNote)
+    → GivenSince opening session events addr its asked → GivenSince opening session (event ∷ events) addr its asked
+later_since opening session events event addr its asked (inl read) =
+    inl (record { earlier = read.earlier; later = event ∷ read.later; event = read.event; cut = ap (λ xs. event ∷ xs) read.cut; reads = read.reads; gives = read.gives; since = read.since })
+later_since opening session events event addr its asked (inr gone) =
+    inr (record { earlier = gone.earlier; later = event ∷ gone.later; event = gone.event; cut = ap (λ xs. event ∷ xs) gone.cut; loads = gone.loads; below = gone.below; gives = gone.gives; since = gone.since })
 
 later_hand : (opening : World) (session : ℕ) (events : List Event) (event : Event) (notes : List MailNote) (keeping : Keeping) → InHandRead opening session events notes keeping → InHandRead opening session (event ∷ events) notes keeping
 later_hand opening session events event notes (GivesHeader addr its) read = later_since opening session events event addr its notes read
@@ -148,10 +151,10 @@ moves_still w past sound asks =
 -- what the keeper has in hand is asked for
 hand_asked : (w : MailWorld) (past : MailPast) (keeping : Keeping) (opening : World) (session : ℕ) (events : List Event) → IsSound w past → KnowsKeeper (mailbox_of w.words w.session) keeping → InHandRead opening session events past.notes keeping
     → InHandRead opening session events (past_after w Moves past).notes keeping
-hand_asked w past (GivesHeader addr its) opening session events sound knows read = subst (λ x. ReadSince opening session events addr its x) (sym (moves_still w past sound knows.0)) read
-hand_asked w past (GivesKey addr its) opening session events sound knows read = subst (λ x. ReadSince opening session events addr its x) (sym (moves_still w past sound knows.0)) read
-hand_asked w past (GivesValue addr its) opening session events sound knows read = subst (λ x. ReadSince opening session events addr its x) (sym (moves_still w past sound knows.0)) read
-hand_asked w past (GivesReady addr its) opening session events sound knows read = subst (λ x. ReadSince opening session events addr its x) (sym (moves_still w past sound knows.0)) read
+hand_asked w past (GivesHeader addr its) opening session events sound knows read = subst (λ x. GivenSince opening session events addr its x) (sym (moves_still w past sound knows.0)) read
+hand_asked w past (GivesKey addr its) opening session events sound knows read = subst (λ x. GivenSince opening session events addr its x) (sym (moves_still w past sound knows.0)) read
+hand_asked w past (GivesValue addr its) opening session events sound knows read = subst (λ x. GivenSince opening session events addr its x) (sym (moves_still w past sound knows.0)) read
+hand_asked w past (GivesReady addr its) opening session events sound knows read = subst (λ x. GivenSince opening session events addr its x) (sym (moves_still w past sound knows.0)) read
 hand_asked w past FindsState opening session events sound knows read = tt
 hand_asked w past FindsAddress opening session events sound knows read = tt
 hand_asked w past (Reads addr) opening session events sound knows read = tt

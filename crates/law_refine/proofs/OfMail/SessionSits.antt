@@ -35,7 +35,7 @@ use Rattle.law_world.specs.Below.fkv_session.Sitting.{Sitting}
 use Rattle.law_world.specs.Below.fkv_session.Sitting.TheVariants.{Idle, Attempts, CatchesUp, ClearsMail, Polls, StoresOwing, Turns, StoresCut, Leaves, LoadsDurable}
 use Rattle.law_world.specs.Below.fkv_session.CatchingUp.{refresh_begun, wake_begun}
 use Rattle.law_world.specs.Below.fkv_session.OwnTurns.{own_turn_begun, own_turn_given}
-use Rattle.law_world.specs.Below.fkv_session.Sessions.{SessionState, Seat, bits_of, room_of, answers, refuses, answers_after_turn, request_in_hand, attempts, polls_request, polls_at, refusal_of, op_begun, refresh_call, poll_begun, poll_call, sleep_call, wake_call, call_begun, session_begun, ticket_after, attempt_left, serial_taken, update_done, is_no_room, lacks_room, with_request, accepts, shifts, attempted, attempt_ledto, caught_up, catch_ledto, clear_ledto, is_finished, is_owed, request_finished, finishes_request, keeps_request, poll_ledto, turn_ledto, leave_ledto, attempt_moved, caught, own_turn_moved, session_ask, sitting_next, session_next, sitting_given, session_given, asks_after, is_word_ask, is_busy}
+use Rattle.law_world.specs.Below.fkv_session.Sessions.{SessionState, Seat, bits_of, room_of, answers, refuses, answers_after_turn, request_in_hand, attempts, polls_request, polls_at, refusal_of, op_begun, refresh_call, poll_begun, poll_call, sleep_call, wake_call, call_begun, session_begun, ticket_after, attempt_left, poll_left, serial_taken, update_done, is_no_room, lacks_room, with_request, accepts, shifts, attempted, attempt_ledto, caught_up, catch_ledto, clear_ledto, is_finished, is_owed, request_finished, finishes_request, keeps_request, poll_ledto, turn_ledto, leave_ledto, attempt_moved, caught, own_turn_moved, session_ask, sitting_next, session_next, sitting_given, session_given, asks_after, is_word_ask, is_busy}
 use Rattle.law_refine.specs.Mail.Mailers.{attempt_mailing, sitting_mailing, session_mailing, IsAsFar}
 use Rattle.law_refine.proofs.OfMail.AttemptSits.{begun, moved_of, IsUnderWay, AttemptSits, AttemptLeads, begun_same, attempt_begun_leads, attempt_next_leads, through_ends}
 
@@ -146,8 +146,8 @@ poll_ledto_leads : (k : Seat) (s : SessionState) (index : ℕ) (ask : Ask TryAns
     → SessionLeads (poll_ledto k s index ask) m
 unfolding poll_ledto
 poll_ledto_leads k s index (Done its) m at leads through =
-    either_leads (is_finished its) (finishes_request k (attempt_left s) index its) (keeps_request k (attempt_left s) index its) m
-    (finishes_leads k (attempt_left s) index its m (through its refl)) (keeps_leads k (attempt_left s) index its m (through its refl))
+    either_leads (is_finished its) (finishes_request k (poll_left s) index its) (keeps_request k (poll_left s) index its) m
+    (finishes_leads k (poll_left s) index its m (through its refl)) (keeps_leads k (poll_left s) index its m (through its refl))
 poll_ledto_leads k s index ask m at leads through = polls_on s index m at leads
 
 caught_up_leads : (k : Seat) (s : SessionState) (cause : CatchCause) (m : Mailing) → is_at_end m ≡ true → SessionLeads (caught_up k s cause) m

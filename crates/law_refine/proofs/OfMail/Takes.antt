@@ -1,4 +1,4 @@
--- What a session takes from its mailbox is what was served last, as the device gave it since it was asked for.
+-- What a session takes from its mailbox is what was served last, as it was given since it was asked for.
 use Rattle.std.proofs.Common.{◌≡◌, ℕ, ◌∙◌, refl, ap, subst, arith, List, [], ◌∷◌, ◌++◌, Bool, true, false}
 use Rattle.std.specs.Prelude.{◌==◌, ◌&&◌, not, if◌then◌else◌, Option, Some, None, slice_get}
 use Rattle.std.proofs.lemmas.Bool.Decides.{nat_tests}
@@ -160,7 +160,7 @@ module _ (opening : World) (session : ℕ) (events : List Event) (its : MailReco
         addr = asked.addr;
         before = asked.before;
         notes = step_notes ∙ notes.0 ∙ ap (λ (xs : List MailNote). HasTaken its ∷ xs) asked.form;
-        read = read.0;
+        given = read.0;
       }
 
 pub takes_read : TakesWhatWasRead

@@ -28,7 +28,7 @@ use Rattle.law_world.proofs.Below.fkv_world.Shown.{happens_keeper, lives}
 use Rattle.law_world.proofs.OfRuns.OneWord.{keeper_writes, session_writes}
 use Rattle.law_refine.specs.Mail.MailEvents.{begins, changed_by, asked_by, own_events, moved_events, begun_events, called_events, served_events, record_read, keeper_events}
 use Rattle.law_refine.specs.Mail.Mailers.{session_mailing, IsAsFar}
-use Rattle.law_refine.specs.Mail.Servers.{serving_of, is_serving, ServesIf, KeepsUp}
+use Rattle.law_refine.specs.Mail.Servers.{serving_of, begin_of, is_serving, ServesIf, KeepsUp}
 use Rattle.law_refine.specs.Footprint.{Spares, TheMailbox}
 use Rattle.law_refine.specs.Mail.Shows.{SessionSpares}
 use Rattle.law_refine.proofs.Items.{Here, There, set_at}
@@ -252,7 +252,7 @@ module _ (v : World) (session : ℕ) (w : MailWorld) (past : MailPast) (granted 
       keeper_same v granted done alive
       ∙ ap (λ (x : KeeperState). keeper_run n.shape n.places x (steps_of n.shape n.places granted done (read_by_keeper v) (beside x n.words n.actions))) (is_at n.keeper e)
 
-  served_on : is_at_serve n.keeper n.keeper.step ≡ true → after.keeper.is_broken ≡ false → serving_of after.keeper ≡ serve_after n.shape.sessions n.words (read_by_keeper v) serving
+  served_on : is_at_serve n.keeper n.keeper.step ≡ true → after.keeper.is_broken ≡ false → serving_of after.keeper ≡ serve_after n.shape.sessions (begin_of n.keeper) n.words (read_by_keeper v) serving
   served_on e works =
       ap serving_of (at_last e)
       ∙ serves_on n.shape n.places n.keeper n.words n.actions granted done (read_by_keeper v) serving (ap (λ (x : KeeperState). x.is_broken) (sym (at_last e)) ∙ works)
@@ -266,14 +266,14 @@ module _ (v : World) (session : ℕ) (w : MailWorld) (past : MailPast) (granted 
   other_serves none works = by_part (is_at_serve n.keeper n.keeper.step) refl
     where
       by_part : (c : Bool) → is_at_serve n.keeper n.keeper.step ≡ c → KeepsUp session (serving_of after.keeper) FindsState
-      by_part true e = subst (λ (x : Serving). KeepsUp session x FindsState) (sym (served_on e works)) (other_keeps session n.shape.sessions n.words (read_by_keeper v) serving none)
+      by_part true e = subst (λ (x : Serving). KeepsUp session x FindsState) (sym (served_on e works)) (other_keeps session n.shape.sessions (begin_of n.keeper) n.words (read_by_keeper v) serving none)
       by_part false e = idle_keeps session (serving_of after.keeper) (other_idle e)
 
   other_asked : (box : Mailbox) → is_serving session serving ≡ false → after.keeper.is_broken ≡ false → FindsAsked session (serving_of after.keeper) box
   other_asked box none works = by_part (is_at_serve n.keeper n.keeper.step) refl
     where
       by_part : (c : Bool) → is_at_serve n.keeper n.keeper.step ≡ c → FindsAsked session (serving_of after.keeper) box
-      by_part true e = subst (λ (x : Serving). FindsAsked session x box) (sym (served_on e works)) (other_finds session n.shape.sessions n.words (read_by_keeper v) serving box none)
+      by_part true e = subst (λ (x : Serving). FindsAsked session x box) (sym (served_on e works)) (other_finds session n.shape.sessions (begin_of n.keeper) n.words (read_by_keeper v) serving box none)
       by_part false e = idle_finds session (serving_of after.keeper) box (other_idle e)
 
   serves_other : is_serving session serving ≡ false → session < n.places.sessions → Spares (TheMailbox session) n.places ask → Holds after session (mail_run w (changed_by n.words ask))
@@ -317,9 +317,12 @@ module _ (v : World) (session : ℕ) (w : MailWorld) (past : MailPast) (granted 
   pub own_keeps : is_serving session serving ≡ true → ServesIf true serving w.keeping
   own_keeps own_box = subst (λ (c : Bool). ServesIf c serving w.keeping) own_box (holds.serves (works_now own_box))
 
+  pub own_finds : is_serving session serving ≡ true → FindsAsked session serving (mailbox_of n.words session)
+  own_finds own_box = holds.finds (works_now own_box)
+
   -- the mailbox's events, by the words of the engine and of the mailbox's world
   abbrev its_events : List ℕ → ℕ → List MailEvent
-  its_events words number = served_events (record_read (read_by_keeper v)) done (mailbox_of words number).addr serving
+  its_events words number = served_events (begin_of n.keeper) (record_read (read_by_keeper v)) done (mailbox_of words number).addr serving
 
   serves_own : is_serving session serving ≡ true → Holds after session (mail_run w (its_events n.words session))
   serves_own own_box =
@@ -329,7 +332,7 @@ module _ (v : World) (session : ℕ) (w : MailWorld) (past : MailPast) (granted 
       let asks : FindsAsked w.session serving (mailbox_of w.words w.session) =
       subst (λ (x : List ℕ). FindsAsked w.session serving (mailbox_of x w.session)) (sym holds.words)
       (subst (λ (x : ℕ). FindsAsked x serving (mailbox_of n.words x)) (sym holds.session_same) (holds.finds works)) in
-      let its : ServedOwn w n.shape.sessions (read_by_keeper v) done serving = own_served w n.shape.sessions (read_by_keeper v) done serving own_there keeps asks in
+      let its : ServedOwn w n.shape.sessions (begin_of n.keeper) (read_by_keeper v) done serving = own_served w n.shape.sessions (begin_of n.keeper) (read_by_keeper v) done serving own_there keeps asks in
       let events : its_events w.words w.session ≡ its_events n.words session = ap (λ (x : List ℕ). its_events x w.session) holds.words ∙ ap (λ (x : ℕ). its_events n.words x) holds.session_same in
       let words : words_after w.words (serve_ask serving) ≡ after.words =
       ap (λ (x : List ℕ). words_after x (serve_ask serving)) holds.words
@@ -337,8 +340,8 @@ module _ (v : World) (session : ℕ) (w : MailWorld) (past : MailPast) (granted 
       ∙ ap (λ (x : KeeperState). words_after n.words (keeper_ask n.shape n.places x)) (sym (is_at n.keeper (last_part own_box)))
       ∙ sym (keeper_writes v granted done alive) in
       let given : after.keeper.is_broken ≡ false → IsGiven serving done = λ still. given_then serving (ap (λ (x : KeeperState). x.is_broken) (sym (at_last (last_part own_box))) ∙ still) in
-      let far : after.keeper.is_broken ≡ false → serve_after n.shape.sessions w.words (read_by_keeper v) serving ≡ serving_of after.keeper =
-      λ still. ap (λ (x : List ℕ). serve_after n.shape.sessions x (read_by_keeper v) serving) holds.words ∙ sym (served_on (last_part own_box) still) in
+      let far : after.keeper.is_broken ≡ false → serve_after n.shape.sessions (begin_of n.keeper) w.words (read_by_keeper v) serving ≡ serving_of after.keeper =
+      λ still. ap (λ (x : List ℕ). serve_after n.shape.sessions (begin_of n.keeper) x (read_by_keeper v) serving) holds.words ∙ sym (served_on (last_part own_box) still) in
       subst (λ (x : List MailEvent). Holds after session (mail_run w x)) events (record {
         session_same = its.session_same ∙ holds.session_same;
         words = its.words ∙ words;

@@ -11,7 +11,7 @@ use Rattle.fkv_plane.specs.Places.{frames_start}
 use Rattle.law_world.specs.Below.fkv_flush.GuardCalm.{IsOther}
 use Rattle.law_world.specs.Below.fkv_flush.Guarded.{event_writes, IsPermittedEvent, ArePermittedEvents}
 use Rattle.law_world.specs.Below.fkv_flush.GuardWorld as guard
-use Rattle.law_world.specs.Below.fkv_flush.GuardWorld.{Actor, Work, GuardWorld, GuardEvent, Begins, Resumes, Publishes, Updates, RaisesReadOnly, RaisesFor, Changes, guard_happens, guard_run, is_idle, may_update}
+use Rattle.law_world.specs.Below.fkv_flush.GuardWorld.{Actor, GuardWorld, GuardEvent, Begins, Resumes, Publishes, Updates, RaisesReadOnly, RaisesFor, Changes, guard_happens, guard_run, is_idle, may_update}
 use Rattle.law_world.proofs.Below.fkv_flush.Shown.{IsSound, Spares, unwritten}
 use Rattle.law_world.specs.Below.fkv_keeper.TheKeeping.{Keeping}
 use Rattle.law_world.specs.Below.fkv_keeper.TheKeeping.TheVariants as keeping
@@ -174,7 +174,7 @@ called_none n w place number call (Some s) its = by_test (is_busy s.step) its
 asked_none : (w : GuardWorld) (place a : ℕ) (s : KeeperState) → Writes w place (turn_asked_events a s) → ⊥
 asked_none w place a s its = by_tests (is_in_hand s.step) s.is_broken its
   where
-    by_tests : (b c : Bool) → Writes w place (if b then [] else (if c then [] else Begins a (turn_task s.rests) ∷ [])) → ⊥
+    by_tests : (b c : Bool) → Writes w place (if b then [] else (if c then [] else Begins a (turn_task s.maintain.begin.0 s.rests) ∷ [])) → ⊥
     by_tests true c its = its
     by_tests false true its = its
     by_tests false false (inl e) = writes_none place e

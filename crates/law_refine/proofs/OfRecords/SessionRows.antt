@@ -33,7 +33,7 @@ use Rattle.law_world.specs.Below.fkv_session.Sitting.{Sitting}
 use Rattle.law_world.specs.Below.fkv_session.Sitting.TheVariants.{Idle, Attempts, CatchesUp, ClearsMail, Polls, StoresOwing, Turns, StoresCut, Leaves, LoadsDurable}
 use Rattle.law_world.specs.Below.fkv_session.CatchingUp.{catch_ask}
 use Rattle.law_world.specs.Below.fkv_session.OwnTurns.{own_turn_ask, own_turn_begun, own_turn_given}
-use Rattle.law_world.specs.Below.fkv_session.Sessions.{SessionState, Seat, bits_of, is_busy, session_ask, session_next, session_begun, answers, answers_after_turn, request_in_hand, attempts, polls_request, polls_at, update_done, is_no_room, with_request, serial_taken, ticket_after, accepts, shifts, attempted, attempt_left, attempt_ledto, caught_up, catch_ledto, clear_ledto, is_finished, is_owed, request_finished, finishes_request, lacks_room, keeps_request, poll_ledto, turn_ledto, leave_ledto, attempt_moved, caught, own_turn_moved, sitting_next, sitting_given, is_word_ask, asks_after, is_full, is_spent, refusal_of, op_begun, refresh_call, poll_begun, poll_call, sleep_call, wake_call, call_begun}
+use Rattle.law_world.specs.Below.fkv_session.Sessions.{SessionState, Seat, bits_of, is_busy, session_ask, session_next, session_begun, answers, answers_after_turn, request_in_hand, attempts, polls_request, polls_at, update_done, is_no_room, with_request, serial_taken, ticket_after, accepts, shifts, attempted, attempt_left, poll_left, attempt_ledto, caught_up, catch_ledto, clear_ledto, is_finished, is_owed, request_finished, finishes_request, lacks_room, keeps_request, poll_ledto, turn_ledto, leave_ledto, attempt_moved, caught, own_turn_moved, sitting_next, sitting_given, is_word_ask, asks_after, is_full, is_spent, refusal_of, op_begun, refresh_call, poll_begun, poll_call, sleep_call, wake_call, call_begun}
 use Rattle.law_world.specs.Below.fkv_world.World.{session_called}
 use Rattle.law_refine.proofs.OfRecords.AppendRows.{Standing}
 use Rattle.law_refine.proofs.OfRecords.AttemptRows.{IsAllowed, IsAttemptSo, AttemptWrites, moved_so, attempt_so}
@@ -131,7 +131,8 @@ keeps_so after k s index its all allowed =
 polled_so : (after : Standing) (k : Seat) (s : SessionState) (index : ℕ) (ask : Ask TryAnswer) → s.step ≡ Polls index → AreAllowed s.requests → IsAttemptSo after s.attempt → IsSo after (poll_ledto k s index ask)
 unfolding poll_ledto
 polled_so after k s index (Done its) at all tries =
-    either_so after (is_finished its) (finishes_request k (attempt_left s) index its) (keeps_request k (attempt_left s) index its) (finishes_so after k (attempt_left s) index its all) (keeps_so after k (attempt_left s) index its all tries.allowed)
+    either_so after (is_finished its) (finishes_request k (poll_left s) index its) (keeps_request k (poll_left s) index its)
+    (finishes_so after k (poll_left s) index its all) (keeps_so after k (poll_left s) index its all tries.allowed)
 polled_so after k s index ask at all tries = still_so after s (Polls index) at all tries
 
 caught_so : (after : Standing) (k : Seat) (s : SessionState) (its : CatchCause) → AreAllowed s.requests → CatchIsSo s.op its → IsSo after (caught_up k s its)

@@ -1,6 +1,6 @@
 -- So it is with a try: what stands of the record that it appends is what its append has stored.
 use Rattle.std.proofs.Common.{◌≡◌, ℕ, refl, sym, subst, Bool, true, false}
-use Rattle.std.specs.Prelude.{◌==◌, ◌&&◌, not, nat_le, if◌then◌else◌, ⊤, Option, Some, None}
+use Rattle.std.specs.Prelude.{◌==◌, ◌&&◌, not, nat_le, if◌then◌else◌, ⊤, Option, Some, None, ◌||◌}
 use Rattle.fkv_base.specs.declared.numbers.Addr.{Addr}
 use Rattle.fkv_base.specs.declared.numbers.Version.{Version}
 use Rattle.fkv_map.specs.declared.operations.Reply.{Reply}
@@ -31,7 +31,7 @@ use Rattle.law_world.specs.Below.fkv_ops.TheTrying.{Trying}
 use Rattle.law_world.specs.Below.fkv_ops.TheTrying.TheVariants.{Ended, TakesShared, LoadsPhase, Walks, CountsTaken, LoadsSafe, SwapsValue, LoadsCurrent, ChangesValue, LoadsAnswer, TakesExclusive, LoadsOld, Appends, LoadsTail, LoadsTaken, DropsExclusive, DropsShared}
 use Rattle.law_world.specs.Below.fkv_ops.WalkAnswer.{WalkAnswer}
 use Rattle.law_world.specs.Below.fkv_ops.WalkAnswer.TheVariants as walk
-use Rattle.law_world.specs.Below.fkv_ops.Requests.{is_read, is_blind}
+use Rattle.law_world.specs.Below.fkv_ops.Requests.{is_read, is_blind, is_chain_end}
 use Rattle.law_world.specs.Below.fkv_ops.Values.{value_of}
 use Rattle.law_world.specs.Below.fkv_ops.Walking.{walk_on}
 use Rattle.law_world.specs.Below.fkv_ops.Appending.{append_ask, append_next}
@@ -106,7 +106,8 @@ held_so after p t addr None = ends_so after p t _
 held_so after p t addr (Some held) =
     either_so after (held.entry == t.walk.entry) _ (awaits p t addr)
     (either_so after (held.key.0 == (key_of t.request.op).0) (copies p t (Known held.value) false) _ (copies_so after p t (Known held.value) false)
-    (either_so after (held.previous.0 == 0) (copies p t (Known absent_word) false) (awaits p t held.previous) (copies_so after p t (Known absent_word) false) (ends_so after p t _)))
+    (either_so after (is_chain_end t.request.floor held.previous) (copies p t (Known absent_word) false) (awaits p t held.previous)
+    (copies_so after p t (Known absent_word) false) (ends_so after p t _)))
     (ends_so after p t _)
 
 region_so : (after : Standing) (p : Places) (t : TryState) (addr : Addr) (found : Version) (its : Option Region) → TryStandsNow after (region_met p t addr found its)
@@ -122,8 +123,10 @@ walked_so after p t walk.Nowhere =
     either_so after (is_read t.request.op) (ends p t answer.Absent) _ (ends_so after p t answer.Absent)
     (either_so after (must_count p t) (record t { step = CountsTaken }) (copies p t (Known absent_word) false) tt (copies_so after p t (Known absent_word) false))
 walked_so after p t (walk.OnDisk addr) =
-    either_so after (is_read t.request.op) (awaits p t addr) _ (ends_so after p t _)
-    (either_so after (is_blind t.request.op) (copies p t (Known absent_word) false) (held_used p t addr t.request.held) (copies_so after p t (Known absent_word) false) (held_so after p t addr t.request.held))
+    either_so after (is_read t.request.op) _ _
+    (either_so after (is_chain_end t.request.floor addr) (ends p t answer.Absent) (awaits p t addr) (ends_so after p t answer.Absent) (ends_so after p t _))
+    (either_so after (is_blind t.request.op || is_chain_end t.request.floor addr) (copies p t (Known absent_word) false) (held_used p t addr t.request.held)
+    (copies_so after p t (Known absent_word) false) (held_so after p t addr t.request.held))
 walked_so after p t (walk.Value value) = ends_so after p t (answer.Wait reason.Contended)
 walked_so after p t walk.Full = ends_so after p t (full_at t.occasion answer.IndexFull)
 walked_so after p t walk.Kept = ends_so after p t (full_at t.occasion answer.IndexFull)

@@ -167,14 +167,18 @@ writes_by w a x (Turns s) place sound got its e high = turn_writes w a x s.step 
 writes_by w a x (Flushes flush.AtRest bytes) place sound got its e high = at_rest w a x place sound got e high
 writes_by w a x (Flushes (flush.RaisesFlushed end) bytes) place sound got its e high = low_none w (Some 7) place (omega arith) e high
 writes_by w a x (Flushes step bytes) place sound got its e high = no_place place e
-writes_by w a x (Serves serve.AtRest) place sound got its e high = at_rest w a x place sound got e high
-writes_by w a x (Serves (serve.LoadsState session)) place sound got its e high = no_place place e
-writes_by w a x (Serves (serve.LoadsAddress session)) place sound got its e high = no_place place e
-writes_by w a x (Serves (serve.Reads session addr)) place sound got its e high = no_place place e
-writes_by w a x (Serves (serve.StoresHeader session mail)) place sound got its e high = mail_low w a x session place 7 sound (subst (KnowsAt w a x) its (sound.knows a x got)) (omega arith) e high
-writes_by w a x (Serves (serve.StoresKey session mail)) place sound got its e high = mail_low w a x session place 8 sound (subst (KnowsAt w a x) its (sound.knows a x got)) (omega arith) e high
-writes_by w a x (Serves (serve.StoresValue session mail)) place sound got its e high = mail_low w a x session place 9 sound (subst (KnowsAt w a x) its (sound.knows a x got)) (omega arith) e high
-writes_by w a x (Serves (serve.StoresReady session)) place sound got its e high = mail_low w a x session place 5 sound (subst (KnowsAt w a x) its (sound.knows a x got)) (omega arith) e high
+writes_by w a x (Serves begin serve.AtRest) place sound got its e high = at_rest w a x place sound got e high
+writes_by w a x (Serves begin (serve.LoadsState session)) place sound got its e high = no_place place e
+writes_by w a x (Serves begin (serve.LoadsAddress session)) place sound got its e high = no_place place e
+writes_by w a x (Serves begin (serve.Reads session addr)) place sound got its e high = no_place place e
+writes_by w a x (Serves begin (serve.StoresHeader session mail)) place sound got its e high =
+    mail_low w a x session place 7 sound (subst (KnowsAt w a x) its (sound.knows a x got)) (omega arith) e high
+writes_by w a x (Serves begin (serve.StoresKey session mail)) place sound got its e high =
+    mail_low w a x session place 8 sound (subst (KnowsAt w a x) its (sound.knows a x got)) (omega arith) e high
+writes_by w a x (Serves begin (serve.StoresValue session mail)) place sound got its e high =
+    mail_low w a x session place 9 sound (subst (KnowsAt w a x) its (sound.knows a x got)) (omega arith) e high
+writes_by w a x (Serves begin (serve.StoresReady session)) place sound got its e high =
+    mail_low w a x session place 5 sound (subst (KnowsAt w a x) its (sound.knows a x got)) (omega arith) e high
 
 pub frame_work : (w : GuardWorld) (a : ℕ) (x : Actor) (place : ℕ) → IsSound w → slice_get w.now.actors a ≡ Some x → actor_writes w.now a (slice_get w.now.actors a) ≡ Some place → frames_start w.now.places ≤ place → IsFrameWork x.work
 frame_work w a x place sound got e high = writes_by w a x x.work place sound got refl (sym (ap (actor_writes w.now a) got) ∙ e) high

@@ -33,7 +33,7 @@ use Rattle.law_world.specs.Below.fkv_session.CatchingUp.{catch_ask, refresh_begu
 use Rattle.law_world.specs.Below.fkv_session.OwnTurns.{own_turn_ask, own_turn_begun, own_turn_given}
 use Rattle.law_world.specs.Below.fkv_session.SessionRun.{SessionEvent, Begins, Replies, Gets, begins, session_happens, session_run}
 use Rattle.law_world.specs.Below.fkv_session.Sessions as session
-use Rattle.law_world.specs.Below.fkv_session.Sessions.{SessionState, Seat, is_busy, session_ask, answers, refuses, answers_after_turn, attempts, polls_request, polls_at, is_full, is_spent, refusal_of, op_begun, refresh_call, poll_begun, poll_call, sleep_call, wake_call, call_begun, session_begun, attempt_left, serial_taken, update_done, is_no_room, with_request, ticket_after, accepts, shifts, attempted, attempt_ledto, caught_up, catch_ledto, clear_ledto, is_finished, is_owed, request_finished, finishes_request, lacks_room, keeps_request, poll_ledto, turn_ledto, leave_ledto, attempt_moved, caught, own_turn_moved, sitting_next, is_word_ask, asks_after, session_next, sitting_given, session_given}
+use Rattle.law_world.specs.Below.fkv_session.Sessions.{SessionState, Seat, is_busy, session_ask, answers, refuses, answers_after_turn, attempts, polls_request, polls_at, is_full, is_spent, refusal_of, op_begun, refresh_call, poll_begun, poll_call, sleep_call, wake_call, call_begun, attempt_left, poll_left, serial_taken, update_done, is_no_room, with_request, ticket_after, accepts, shifts, attempted, attempt_ledto, caught_up, catch_ledto, clear_ledto, is_finished, is_owed, request_finished, finishes_request, lacks_room, keeps_request, poll_ledto, turn_ledto, leave_ledto, attempt_moved, caught, own_turn_moved, sitting_next, is_word_ask, asks_after, session_next, sitting_given}
 use Rattle.law_world.specs.Below.fkv_world.OwnEvents.{session_events}
 use Rattle.law_world.specs.Below.fkv_world.Runs.{World, run}
 use Rattle.law_world.specs.Below.fkv_world.World.{Event, seat_at}
@@ -86,7 +86,7 @@ keeps_plain k s index its = polls_plain k (record s { requests = slice_set s.req
 polled_plain : (k : Seat) (s : SessionState) (index : ℕ) (ask : Ask TryAnswer) → s.step ≡ Polls index → HasPlainOp (poll_ledto k s index ask)
 unfolding poll_ledto
 polled_plain k s index (Done its) at =
-    either_plain (is_finished its) (finishes_request k (attempt_left s) index its) (keeps_request k (attempt_left s) index its) (finishes_plain k (attempt_left s) index its) (keeps_plain k (attempt_left s) index its)
+    either_plain (is_finished its) (finishes_request k (poll_left s) index its) (keeps_request k (poll_left s) index its) (finishes_plain k (poll_left s) index its) (keeps_plain k (poll_left s) index its)
 polled_plain k s index ask at = still s (Polls index) at tt
 
 clear_plain : (k : Seat) (s : SessionState) (ask : Ask MailAnswer) → s.step ≡ ClearsMail → HasPlainOp (clear_ledto k s ask)

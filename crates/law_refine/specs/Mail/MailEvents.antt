@@ -17,7 +17,7 @@ use Rattle.law_world.specs.Below.fkv_world.World.{Event, Calls, Moves, KeeperMov
 use Rattle.law_world.specs.Below.fkv_world.Moves.{session_moved}
 use Rattle.law_world.specs.Below.fkv_world.Runs.{World, read_by_keeper, run}
 use Rattle.law_refine.specs.Mail.Mailers.{session_mailing}
-use Rattle.law_refine.specs.Mail.Servers.{serving_of, is_serving, record_of}
+use Rattle.law_refine.specs.Mail.Servers.{serving_of, begin_of, is_serving, record_of}
 
 -- the task that has begun where a machine is at its first step; while a task is under way this changes nothing
 abbrev pub begins : Option Mailing → List mail.MailEvent
@@ -56,14 +56,24 @@ abbrev pub called_events : Now → ℕ → ℕ → Call → Option SessionState 
 called_events n session number call None = []
 called_events n session number call (Some s) = if number == session then begun_events n session call s else []
 
--- What the keeper's step is to the mailbox that it serves. As it loads the address it has found that a record is asked for, and takes the
--- address up where one can be read there; a read that fails gives nothing.
-abbrev pub served_events : MailRecord → Bool → ℕ → Serving → List mail.MailEvent
-served_events given done addr serve.AtRest = []
-served_events given done addr (serve.LoadsState session) = []
-served_events given done addr (serve.LoadsAddress session) = if nat_lt addr (2 ^ 48) then mail.Serves given ∷ mail.Serves given ∷ [] else []
-served_events given done addr (serve.Reads session at) = if done then mail.Serves given ∷ [] else []
-served_events given done addr step = mail.Serves given ∷ []
+-- It is told so that the record asked for is gone: what lay below the log's begin. No record has header 0, and the key is the begin.
+abbrev pub record_gone : ℕ → MailRecord
+record_gone begin = record_of 0 begin 0
+
+-- What the load of an address is to the mailbox: the keeper has found that a record is asked for, and takes the address up where one can be read there.
+-- Below the log's begin it has at once what it gives.
+abbrev pub loaded_events : ℕ → MailRecord → ℕ → List mail.MailEvent
+loaded_events begin given addr =
+    if nat_lt addr begin then mail.Serves (record_gone begin) ∷ mail.Serves (record_gone begin) ∷ mail.Serves (record_gone begin) ∷ []
+    else (if nat_lt addr (2 ^ 48) then mail.Serves given ∷ mail.Serves given ∷ [] else [])
+
+-- What the keeper's step is to the mailbox that it serves, in a log with this begin; a read that fails gives nothing.
+abbrev pub served_events : ℕ → MailRecord → Bool → ℕ → Serving → List mail.MailEvent
+served_events begin given done addr serve.AtRest = []
+served_events begin given done addr (serve.LoadsState session) = []
+served_events begin given done addr (serve.LoadsAddress session) = loaded_events begin given addr
+served_events begin given done addr (serve.Reads session at) = if done then mail.Serves given ∷ [] else []
+served_events begin given done addr step = mail.Serves given ∷ []
 
 -- the record that these bytes of the device are: its three words
 abbrev pub record_read : List ℕ → MailRecord
@@ -72,7 +82,8 @@ record_read read = record_of (number_at read 0) (number_at read 8) (number_at re
 -- the keeper serves this mailbox, or changes some other word
 abbrev pub keeper_events : Now → List ℕ → ℕ → Bool → List mail.MailEvent
 keeper_events n read session done =
-    if is_serving session (serving_of n.keeper) then served_events (record_read read) done (mailbox_of n.words session).addr (serving_of n.keeper)
+    if is_serving session (serving_of n.keeper)
+    then served_events (begin_of n.keeper) (record_read read) done (mailbox_of n.words session).addr (serving_of n.keeper)
     else changed_by n.words (keeper_ask n.shape n.places n.keeper)
 
 -- `read` is what a read of the device gives, where the keeper makes one

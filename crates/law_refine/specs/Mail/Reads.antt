@@ -1,5 +1,5 @@
--- What a session takes from its mailbox, and what the device read for it.
-use Rattle.std.specs.Prelude.{◌≡◌, ◌⊎◌, ℕ, false, List, ◌∷◌, ◌++◌, slice_get, Some}
+-- What a session takes from its mailbox, and what was given for it.
+use Rattle.std.specs.Prelude.{◌≡◌, ◌⊎◌, ◌<◌, ℕ, false, true, List, ◌∷◌, ◌++◌, slice_get, Some}
 use Rattle.fkv_base.specs.declared.numbers.Addr.{Addr}
 use Rattle.fkv_record.specs.Places.{record_place}
 use Rattle.fkv_disk.specs.Bytes.{bytes_at}
@@ -10,15 +10,16 @@ use Rattle.law_world.specs.Below.fkv_flush.TheServing.TheVariants as serve
 use Rattle.law_world.specs.Below.fkv_pending.MailAnswer.TheVariants.{Taken}
 use Rattle.law_world.specs.Below.fkv_pending.MailRecord.{MailRecord}
 use Rattle.law_world.specs.Below.fkv_pending.TheMailing.{Mailing}
-use Rattle.law_world.specs.Below.fkv_pending.Mailing.{mail_ask, mail_next}
+use Rattle.law_world.specs.Below.fkv_pending.Mailing.{mail_ask, mail_next, is_gone}
 use Rattle.law_world.specs.Below.fkv_pending.MailWorld.{Mailbox, mailbox_of}
 use Rattle.law_world.specs.Below.fkv_pending.Mailbox.{MailNote, HasAskedFor, WasServed, HasTaken, MailPast, past_of, SessionChanges, KeeperChanges}
 use Rattle.law_world.specs.Below.fkv_session.Sessions.{SessionState}
+use Rattle.law_world.specs.Below.fkv_world.Opened.{IsOpenedWorld}
 use Rattle.law_world.specs.Below.fkv_world.World.{Event, Moves, KeeperMoves, Now}
 use Rattle.law_world.specs.Below.fkv_world.Runs.{World, run}
-use Rattle.law_refine.specs.Mail.MailEvents.{mapped, record_read}
+use Rattle.law_refine.specs.Mail.MailEvents.{mapped, record_gone, record_read}
 use Rattle.law_refine.specs.Mail.Mailers.{session_mailing}
-use Rattle.law_refine.specs.Mail.Servers.{serving_of}
+use Rattle.law_refine.specs.Mail.Servers.{serving_of, begin_of}
 use Rattle.law_refine.specs.Mail.Shows.{IsOpened, mail_opening}
 
 -- what has come to pass in a life, the newest first
@@ -42,6 +43,21 @@ pub record ReadSince (opening : World) (session : ℕ) (events : List Event) (ad
   pub gives : its ≡ record_there (run opening earlier) addr.0
   pub since : mail_notes opening session earlier ≡ asked
 
+-- The keeper found for the session at such a moment that this address lies below the log's begin, and this is what it tells where a record is gone.
+pub record GoneSince (opening : World) (session : ℕ) (events : List Event) (addr : Addr) (its : MailRecord) (asked : List MailNote) : Type 0 where
+  pub earlier : List Event
+  pub later : List Event
+  pub event : Event
+  pub cut : events ≡ later ++ (event ∷ earlier)
+  pub loads : serving_of (run opening earlier).now.keeper ≡ serve.LoadsAddress session
+  pub below : addr.0 < begin_of (run opening earlier).now.keeper
+  pub gives : its ≡ record_gone (begin_of (run opening earlier).now.keeper)
+  pub since : mail_notes opening session earlier ≡ asked
+
+-- what was given for the session: what was read there, or that it is gone
+abbrev pub GivenSince : World → ℕ → List Event → Addr → MailRecord → List MailNote → Type 0
+GivenSince opening session events addr its asked = ReadSince opening session events addr its asked ⊎ GoneSince opening session events addr its asked
+
 -- the session is at the step with which it takes a record
 pub record IsTaking (n : Now) (session : ℕ) (its : MailRecord) : Type 0 where
   pub taker : SessionState
@@ -50,16 +66,28 @@ pub record IsTaking (n : Now) (session : ℕ) (its : MailRecord) : Type 0 where
   pub under_way : session_mailing taker ≡ Some step
   pub takes : mail_ask session (mail_next step (reply_to n.words (mail_ask session step))) ≡ Done (Taken its)
 
--- The record that it takes was asked for last, at this address, and served once since then; and it is what the device gave there since then.
+-- The record that it takes was asked for last, at this address, and served once since then; and it is what was given for that address since then.
 pub record HasTakenRead (opening : World) (session : ℕ) (events : List Event) (its : MailRecord) : Type 0 where
   pub addr : Addr
   pub before : List MailNote
   pub notes : mail_notes opening session (Moves session ∷ events) ≡ HasTaken its ∷ WasServed addr its ∷ HasAskedFor addr ∷ before
-  pub read : ReadSince opening session events addr its (HasAskedFor addr ∷ before)
+  pub given : GivenSince opening session events addr its (HasAskedFor addr ∷ before)
 
 abbrev pub TakesWhatWasRead : Type 0
 TakesWhatWasRead = (opening : World) (session : ℕ) (events : List Event) (its : MailRecord) → IsOpened opening.now session → (run opening events).now.crashed ≡ false
     → IsTaking (run opening events).now session its → HasTakenRead opening session events its
+
+-- That a record is gone is told by the log's begin, above the address that was asked for.
+pub record TellsBegin (begin : ℕ) (addr : Addr) (its : MailRecord) : Type 0 where
+  pub gone : is_gone its ≡ true
+  pub key : its.key.0 ≡ begin
+  pub above : addr.0 < begin
+
+-- Over a life that is the begin of the opening.
+abbrev pub GoneTellsBegin : Type 0
+GoneTellsBegin =
+    (opening : World) (session : ℕ) (events : List Event) (addr : Addr) (its : MailRecord) (asked : List MailNote) → IsOpenedWorld opening
+    → GoneSince opening session events addr its asked → TellsBegin opening.now.keeper.last.begin.0 addr its
 
 -- What an event does to the mailbox: its session alone leaves the states empty and ready, and the keeper alone the one between.
 abbrev pub ChangesBy : ℕ → Event → Mailbox → Mailbox → Type 0

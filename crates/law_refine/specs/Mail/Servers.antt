@@ -25,6 +25,10 @@ keeper_serving s step = serve.AtRest
 abbrev pub serving_of : KeeperState → Serving
 serving_of s = keeper_serving s s.step
 
+-- the address at which the log begins of which it serves
+abbrev pub begin_of : KeeperState → ℕ
+begin_of s = s.maintain.begin.0
+
 -- it is at this session's mailbox
 abbrev pub is_serving : ℕ → Serving → Bool
 is_serving session serve.AtRest = false
@@ -41,7 +45,8 @@ abbrev pub record_of : ℕ → ℕ → ℕ → MailRecord
 record_of header key value = record { header = header; key = record { 0 = key }; value = value }
 
 -- How far the mailbox's keeper has come where the engine's is at that mailbox: from the read on it is as far, with the words that were read.
--- Before that it finds the state yet: the engine's loads of the state and of the address count as one, as the address is loaded.
+-- Before that it finds the state yet: the engine's loads of the state and of the address count as one, as the address is loaded. So does the read, where
+-- what was asked for is gone.
 abbrev pub ServesIt : Serving → Keeping → Type 0
 ServesIt (serve.Reads session addr) its = its ≡ Reads (record { 0 = addr })
 ServesIt (serve.StoresHeader session mail) its = (addr : Addr) × (its ≡ GivesHeader addr (record_of mail.header mail.key mail.value))

@@ -9,6 +9,7 @@ use Rattle.law_world.specs.Below.fkv_world.Runs.{World, run}
 use Rattle.law_world.specs.Below.fkv_world.World.{Event, near, seat_at}
 use Rattle.law_world.specs.Guarded.Shows.{IsOpened}
 use Rattle.law_refine.specs.Events.GhostEvents.{life_ghosts, safe_at}
+use Rattle.law_refine.specs.Seen.Floors.{HaveFloorsUpto, HasToldUpto, OpensUpto, TellsUpto}
 use Rattle.law_refine.specs.Seen.Ops.{HasPlainOp}
 
 -- what lies below the head that a session has seen is fixed
@@ -36,3 +37,15 @@ CallsMoveByOneAsk =
     → slice_get (run opening events).now.sessions session ≡ Some s → is_busy s.step ≡ true → is_turning s.step ≡ false
     → session_moved (seat_at (run opening events).now session) (near (run opening events).now s)
     ≡ session_replied (seat_at (run opening events).now session) (near (run opening events).now s) (session_ask (seat_at (run opening events).now session) s)
+
+-- each floor stays at or below a begin of the log, where nobody is told a higher one
+abbrev pub FloorsStayBelow : Type 0
+FloorsStayBelow =
+    (opening : World) (before : List Event) (event : Event) (begin : ℕ) → TellsUpto begin (run opening before).now
+    → HaveFloorsUpto begin (run opening before).now → HaveFloorsUpto begin (run opening (event ∷ before)).now
+
+-- so they are over a life
+abbrev pub FloorsLieBelow : Type 0
+FloorsLieBelow =
+    (opening : World) (events : List Event) (begin : ℕ) → OpensUpto begin opening.now → HasToldUpto begin opening events
+    → HaveFloorsUpto begin (run opening events).now

@@ -4,7 +4,6 @@ use Rattle.std.specs.Prelude.{Some, None, slice_get, if◌then◌else◌}
 use Rattle.fkv_plane.specs.declared.actions.Action.{Action}
 use Rattle.fkv_plane.specs.declared.actions.Action.TheVariants as act
 use Rattle.fkv_plane.specs.declared.places.Places.{Places}
-use Rattle.fkv_epoch.specs.EpochWorld.{ToScan}
 use Rattle.fkv_base.specs.declared.commits.CommitKind.{CommitKind}
 use Rattle.fkv_commit.specs.declared.entering.Entering.{Entering}
 use Rattle.fkv_commit.specs.declared.entering.Entering.TheVariants as enter
@@ -18,7 +17,7 @@ use Rattle.fkv_commit.specs.Seeking.{SeekState}
 use Rattle.fkv_commit.specs.Starting.{StartState}
 use Rattle.fkv_flush.specs.GuardLevels.{Levels, levels_of, Rises}
 use Rattle.fkv_flush.specs.GuardSeen.{LastSeen, IsStored}
-use Rattle.fkv_flush.specs.GuardWorld.{Actor, GuardNow, Begins, ToDo}
+use Rattle.fkv_flush.specs.GuardWorld.{Actor, GuardNow, Begins}
 use Rattle.fkv_flush.proofs.Shown.{Fits}
 use Rattle.fkv_keeper.specs.declared.keepers.Keeping.{Keeping}
 use Rattle.fkv_keeper.specs.declared.keepers.Keeping.TheVariants as keeping
@@ -33,7 +32,7 @@ use Rattle.law_world.proofs.OfGuardKeeper.Deferred.{by_deferred}
 use Rattle.law_world.proofs.OfGuardKeeper.PartLed.{stays}
 
 turn_by : (b : Bool) (n : GuardNow) (a : ℕ) (x : Actor) (seen : LastSeen) (s : KeeperState) → s.is_broken ≡ b → slice_get n.actors a ≡ Some x → Fits (likeness seen None None) x → s.finish.sessions ≡ n.places.sessions
-    → KeeperLed n a (if b then [] else Begins a (turn_task s.rests) ∷ []) seen (turn_asked s) n.words n.actions
+    → KeeperLed n a (if b then [] else Begins a (turn_task s.maintain.begin.0 s.rests) ∷ []) seen (turn_asked s) n.words n.actions
 turn_by true n a x seen s e got fits same = turn_refused n a x seen s got fits same e
 turn_by false n a x seen s e got fits same = turn_begins n a x seen s got fits same e
 

@@ -25,12 +25,12 @@ first_loads shape = rw (lt-ltb 0 shape.sessions shape.limits.some_session) refl
 
 -- where writes rest a turn serves
 serves_begins : (n : GuardNow) (a : ℕ) (x : Actor) (seen : LastSeen) (s : KeeperState) → slice_get n.actors a ≡ Some x → Fits (likeness seen None None) x → s.finish.sessions ≡ n.places.sessions → s.is_broken ≡ false → s.rests ≡ true
-    → KeeperLed n a (Begins a ToServe ∷ []) seen (turn_asked s) n.words n.actions
+    → KeeperLed n a (Begins a (ToServe s.maintain.begin.0) ∷ []) seen (turn_asked s) n.words n.actions
 serves_begins n a x seen s got fits same works rests = rw (works, rests) (record {
   follows = record {
-    actor = record x { work = Serves (mailbox_from n.shape.sessions 0) };
-    same = then_begins n a x x [] n.words n.actions ToServe got (stays n a x got) fits.machine fits.work refl;
-    fits = record { machine = fits.machine; work = ap (λ (first : Serving). Serves first) (first_loads n.shape); seen = fits.seen; undecided = fits.undecided };
+    actor = record x { work = Serves s.maintain.begin.0 (mailbox_from n.shape.sessions 0) };
+    same = then_begins n a x x [] n.words n.actions (ToServe s.maintain.begin.0) got (stays n a x got) fits.machine fits.work refl;
+    fits = record { machine = fits.machine; work = ap (λ (first : Serving). Serves s.maintain.begin.0 first) (first_loads n.shape); seen = fits.seen; undecided = fits.undecided };
   };
   knows = record { sessions = same; its = refl };
 })
@@ -48,10 +48,10 @@ scans_begins n a x seen s got fits same works awake = rw (works, awake) (record 
 })
 
 pub turn_begins : (n : GuardNow) (a : ℕ) (x : Actor) (seen : LastSeen) (s : KeeperState) → slice_get n.actors a ≡ Some x → Fits (likeness seen None None) x → s.finish.sessions ≡ n.places.sessions → s.is_broken ≡ false
-    → KeeperLed n a (Begins a (turn_task s.rests) ∷ []) seen (turn_asked s) n.words n.actions
+    → KeeperLed n a (Begins a (turn_task s.maintain.begin.0 s.rests) ∷ []) seen (turn_asked s) n.words n.actions
 turn_begins n a x seen s got fits same works = by s.rests refl
   where
-    by : (rests : Bool) → s.rests ≡ rests → KeeperLed n a (Begins a (turn_task rests) ∷ []) seen (turn_asked s) n.words n.actions
+    by : (rests : Bool) → s.rests ≡ rests → KeeperLed n a (Begins a (turn_task s.maintain.begin.0 rests) ∷ []) seen (turn_asked s) n.words n.actions
     by true rests = serves_begins n a x seen s got fits same works rests
     by false awake = scans_begins n a x seen s got fits same works awake
 

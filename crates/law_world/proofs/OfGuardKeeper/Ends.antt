@@ -142,7 +142,7 @@ turn_over_at shape p l d m maintain.Claims its k busy e f = clash (is_at_rest (C
 turn_over_at shape p l d m maintain.Flushes its k busy e f = clash (is_idle (Flushes m.flushing m.bytes)) (flush_ended p m.flushing m.bytes (device_through (flush_ask p m.flushing) its e f)) busy
 turn_over_at shape p l d m maintain.Shifts its k busy e f = clash (is_done (shift_ask m.shift)) (ended_so (shift_ask m.shift) its e) (shift_asks_so l d m.shift.step m.shift.mover k busy)
 turn_over_at shape p l d m maintain.Turns its k busy e f = clash (is_done (turn_ask shape m.turn)) (ended_so (turn_ask shape m.turn) its e) (turn_asks_so shape l d m.turn.step m.turn.mover k busy)
-turn_over_at shape p l d m maintain.Serves its k busy e f = clash (is_idle (Serves m.serving)) (serve_ended m.serving (device_through (serve_ask m.serving) its e f)) busy
+turn_over_at shape p l d m maintain.Serves its k busy e f = clash (is_idle (Serves m.begin.0 m.serving)) (serve_ended m.begin.0 m.serving (device_through (serve_ask m.serving) its e f)) busy
 
 -- a deferral that seeks a slot, or defers its action, asks for something
 sought_asks_at : (raising : Raising) (arming : Arming) → IsSlotSought (record { raising = raising; arming = arming; step = defer.Seeks }) → is_done (defer_ask (record { raising = raising; arming = arming; step = defer.Seeks })) ≡ false

@@ -127,7 +127,7 @@ module _ (w : GuardWorld) (a : ℕ) (x : Actor) (sound : IsSound w) (got : slice
       subst (λ (r : ℕ). PutsIntoEmpty w.now.actions (turn_ask w.now.shape (turn_next w.now.shape s.turn r))) (sym its) (work_puts_empty w a x (Turns s.turn) sound got fits busy) in
       turns_put w.now.actions w.now.shape w.now.places s (turn_next w.now.shape s.turn reply) (turn_next_ask w.now.shape s.turn reply) empty slot e
   turn_puts_at s maintain.Serves reply fits busy same slot e =
-      let next : Serving = serve_next w.now.shape.sessions s.serving reply in
+      let next : Serving = serve_next w.now.shape.sessions s.begin.0 s.serving reply in
       puts_none w.now.actions (maintain_ask w.now.shape w.now.places (serve_ledto (record s { serving = next; step = maintain.Serves }) (serve_ask next))) (serve_behind w.now.shape w.now.places s next (serve_ask next)) slot e
   turn_puts_at s maintain.Through reply fits busy same slot e = cc
   turn_puts_at s maintain.Spent reply fits busy same slot e = cc

@@ -59,9 +59,9 @@ slot_length s points lost =
     length-spelled (newest_numbers s) ∙ ap (λ (n : ℕ). 8 * n) (sym (unnumbered s)) ∙ sym (length-spelled (newest_numbers (record s { number = 0 })))
     ∙ (newest_spelled (record s { number = 0 }) (omega arith) points lost).whole
 
-slot_whole : (shape : Shape) (c : Commit) (used : Checkpoint) (points : List Serial) (lost : List LostRange) → length (slot_written shape.sessions c.number c.end used points lost) ≡ 512
+slot_whole : (shape : Shape) (c : Commit) (used : Checkpoint) (points : List Serial) (lost : List LostRange) → length (slot_written shape.sessions c.number c.begin c.end used points lost) ≡ 512
 slot_whole shape c used points lost =
-    slot_length (slot_said shape.sessions c.number c.end used points lost)
+    slot_length (slot_said shape.sessions c.number c.begin c.end used points lost)
     (omega (arith, length-map-range_with_len (λ (session : ℕ). point_written points session) 0 shape.sessions, shape.limits.few_sessions))
     (omega (arith, length-take 8 lost))
 

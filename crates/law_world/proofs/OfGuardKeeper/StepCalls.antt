@@ -80,10 +80,10 @@ shift_steps a (Done (shifted.Through tail)) = (tt, (tt, tt))
 shift_steps a (Done (shifted.NoSlot tail)) = (tt, (tt, tt))
 shift_steps a ask = (tt, tt)
 
-turn_steps : (a : ℕ) (ask : Ask MoveAnswer) → MakeNone (turn_events a ask)
-turn_steps a (Done moved.Through) = (tt, (tt, tt))
-turn_steps a (Done moved.NoSlot) = (tt, (tt, tt))
-turn_steps a ask = (tt, tt)
+turn_steps : (a begin : ℕ) (ask : Ask MoveAnswer) → MakeNone (turn_events a begin ask)
+turn_steps a begin (Done moved.Through) = (tt, (tt, tt))
+turn_steps a begin (Done moved.NoSlot) = (tt, (tt, tt))
+turn_steps a begin ask = (tt, tt)
 
 maintained : (a : ℕ) (shape : Shape) (p : Places) (s : MaintainState) (step : Maintaining) (reply : ℕ) → MakeNone (maintain_events a shape p s step reply)
 unfolding maintain_events
@@ -91,7 +91,7 @@ maintained a shape p s maintain.Scans reply = scanned a (scan_ask (scan_next sha
 maintained a shape p s maintain.Claims reply = claimed a (claim_ask (claim_next s.claiming reply))
 maintained a shape p s maintain.Flushes reply = flushed a (flush_ask p (flush_next shape.page s.flushing reply))
 maintained a shape p s maintain.Shifts reply = shift_steps a (shift_next_ask shape s.shift reply)
-maintained a shape p s maintain.Turns reply = turn_steps a (turn_next_ask shape s.turn reply)
+maintained a shape p s maintain.Turns reply = turn_steps a s.begin.0 (turn_next_ask shape s.turn reply)
 maintained a shape p s maintain.Serves reply = (tt, tt)
 maintained a shape p s step reply = tt
 

@@ -43,16 +43,16 @@ turn_stays n s ask e = refl
 -- the mailboxes begin
 mail_begins : (n : GuardNow) (a : ℕ) (x y : Actor) (seen : LastSeen) (s : MaintainState) (words : List ℕ) → slice_get n.actors a ≡ Some x
     → is_at_rest y.machine ≡ true → is_idle y.work ≡ true → y.seen ≡ seen → y.undecided ≡ None → runs_now n (Moves a ∷ []) ≡ put_near n a (near words n.actions y)
-    → TurnLed n a (guard.Begins a ToServe ∷ Moves a ∷ []) seen (serve_begun n.shape s) words
+    → TurnLed n a (guard.Begins a (ToServe s.begin.0) ∷ Moves a ∷ []) seen (serve_begun n.shape s) words
 mail_begins n a x y seen s words got rests idle same none led =
-    serves_on n a y seen s (guard.Begins a ToServe ∷ Moves a ∷ []) (mailbox_from n.shape.sessions 0) words rests same none
-    (then_begins n a x y (Moves a ∷ []) words n.actions ToServe got led rests idle refl)
+    serves_on n a y seen s (guard.Begins a (ToServe s.begin.0) ∷ Moves a ∷ []) (mailbox_from n.shape.sessions 0) words rests same none
+    (then_begins n a x y (Moves a ∷ []) words n.actions (ToServe s.begin.0) got led rests idle refl)
 
 turns_on : (n : GuardNow) (a : ℕ) (x y : Actor) (seen : LastSeen) (s : MaintainState) (t : TurnState) (words : List ℕ) (ask : Ask MoveAnswer) → slice_get n.actors a ≡ Some x
     → (is_done ask ≡ false → ask ≡ turn_ask n.shape t) → Goes ask (Turns t) (Turns (turn_next n.shape t 0)) y → y.seen ≡ seen → y.undecided ≡ None
     → ((there : TurnState) → y.work ≡ Turns there → is_idle (Turns there) ≡ false → FitsMachine (turn_machine there.step there.mover) y.machine)
     → runs_now n (Moves a ∷ []) ≡ put_near n a (near words (actions_after n.actions (turn_ask n.shape t)) y)
-    → TurnLed n a (turn_events a ask) seen (turn_ledto n.shape (in_turn s t) ask) words
+    → TurnLed n a (turn_events a s.begin.0 ask) seen (turn_ledto n.shape (in_turn s t) ask) words
 unfolding turn_ledto maintaining_ask maintaining_next passed
 turns_on n a x y seen s t words (Done moved.Through) got h g same none fits led =
     mail_begins n a x y seen (in_turn s t) words got g.2 g.1 same none (led ∙ ap (λ (actions : List (Option Action)). put_near n a (near words actions y)) (turn_rests_so n.shape n.actions t (ap is_idle (sym g.0) ∙ g.1)))

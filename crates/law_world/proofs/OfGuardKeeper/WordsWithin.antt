@@ -158,16 +158,16 @@ flush_within p (flush.WritesPart part) = tt
 flush_within p (flush.Syncs end) = tt
 flush_within p (flush.RaisesFlushed end) = omega arith
 
-serve_within : (shape : Shape) (l : Levels) (Its : Type 0) (p : Places) (d : EpochMachine) (undecided : Option ℕ) (step : Serving) → p.sessions ≡ shape.sessions → Knows shape l Its d undecided (guard.Serves step) → IsWithin p (serve_ask step)
+serve_within : (shape : Shape) (l : Levels) (Its : Type 0) (p : Places) (d : EpochMachine) (undecided : Option ℕ) (begin : ℕ) (step : Serving) → p.sessions ≡ shape.sessions → Knows shape l Its d undecided (guard.Serves begin step) → IsWithin p (serve_ask step)
 unfolding serve_ask
-serve_within shape l Its p d undecided serve.AtRest same knows = tt
-serve_within shape l Its p d undecided (serve.LoadsState session) same knows = own_within p session own.MailState (omega (arith, same, knows))
-serve_within shape l Its p d undecided (serve.LoadsAddress session) same knows = own_within p session own.MailAddress (omega (arith, same, knows))
-serve_within shape l Its p d undecided (serve.Reads session addr) same knows = tt
-serve_within shape l Its p d undecided (serve.StoresHeader session mail) same knows = own_within p session own.MailHeader (omega (arith, same, knows))
-serve_within shape l Its p d undecided (serve.StoresKey session mail) same knows = own_within p session own.MailKey (omega (arith, same, knows))
-serve_within shape l Its p d undecided (serve.StoresValue session mail) same knows = own_within p session own.MailValue (omega (arith, same, knows))
-serve_within shape l Its p d undecided (serve.StoresReady session) same knows = own_within p session own.MailState (omega (arith, same, knows))
+serve_within shape l Its p d undecided begin serve.AtRest same knows = tt
+serve_within shape l Its p d undecided begin (serve.LoadsState session) same knows = own_within p session own.MailState (omega (arith, same, knows))
+serve_within shape l Its p d undecided begin (serve.LoadsAddress session) same knows = own_within p session own.MailAddress (omega (arith, same, knows))
+serve_within shape l Its p d undecided begin (serve.Reads session addr) same knows = tt
+serve_within shape l Its p d undecided begin (serve.StoresHeader session mail) same knows = own_within p session own.MailHeader (omega (arith, same, knows))
+serve_within shape l Its p d undecided begin (serve.StoresKey session mail) same knows = own_within p session own.MailKey (omega (arith, same, knows))
+serve_within shape l Its p d undecided begin (serve.StoresValue session mail) same knows = own_within p session own.MailValue (omega (arith, same, knows))
+serve_within shape l Its p d undecided begin (serve.StoresReady session) same knows = own_within p session own.MailState (omega (arith, same, knows))
 
 -- what a part passes on
 asked_within : (p : Places) (ask : Ask DeviceAnswer) → IsWithin p ask → IsWithin p (device_asked ask)
@@ -215,7 +215,7 @@ module _ (w : GuardWorld) (a : ℕ) (x : Actor) (seen : LastSeen) (s : KeeperSta
   turn_asks_within m maintain.Shifts machine work = passed_within P (shift_ask m.shift) _ (shift_within (levels_of w.now.words) P x.machine m.shift.step m.shift.mover (its_work (guard.Shifts m.shift) work) its_machine)
   turn_asks_within m maintain.Turns machine work = passed_within P (turn_ask w.now.shape m.turn) _ (turn_within w.now.shape (levels_of w.now.words) P x.machine m.turn.step m.turn.mover (its_work (guard.Turns m.turn) work) its_machine)
   turn_asks_within m maintain.Serves machine work =
-      asked_within P (serve_ask m.serving) (serve_within w.now.shape (levels_of w.now.words) (Awake w.now a x.machine) P x.machine x.undecided m.serving keeps.sound.fits.sessions (its_work (guard.Serves m.serving) work))
+      asked_within P (serve_ask m.serving) (serve_within w.now.shape (levels_of w.now.words) (Awake w.now a x.machine) P x.machine x.undecided m.begin.0 m.serving keeps.sound.fits.sessions (its_work (guard.Serves m.begin.0 m.serving) work))
 
   keeping_within : (step : Keeping) → FitsMachine (keeping_machine s step) x.machine → FitsWork (keeping_work s step) x.work → KeepingKnows (levels_of w.now.words) s step → s.seek.sessions ≤ P.sessions → KeeperRow P s step
       → IsWithin P (keeping_ask w.now.shape P s step)

@@ -165,7 +165,7 @@ module _ (w : GuardWorld) (a : ℕ) (x : Actor) (seen : LastSeen) (s : KeeperSta
   turn_open m maintain.Flushes machine work under = asked_open w (flush_ask P m.flushing) (work_open w a x (guard.Flushes m.flushing m.bytes) keeps.sound keeps.got work under)
   turn_open m maintain.Shifts machine work under = passed_open w (shift_ask m.shift) _ (work_open w a x (guard.Shifts m.shift) keeps.sound keeps.got work under)
   turn_open m maintain.Turns machine work under = passed_open w (turn_ask w.now.shape m.turn) _ (work_open w a x (guard.Turns m.turn) keeps.sound keeps.got work under)
-  turn_open m maintain.Serves machine work under = asked_open w (serve_ask m.serving) (work_open w a x (guard.Serves m.serving) keeps.sound keeps.got work under)
+  turn_open m maintain.Serves machine work under = asked_open w (serve_ask m.serving) (work_open w a x (guard.Serves m.begin.0 m.serving) keeps.sound keeps.got work under)
 
   keeping_open : (step : Keeping) → FitsMachine (keeping_machine s step) x.machine → FitsWork (keeping_work s step) x.work → KeepingKnows (levels_of w.now.words) s step → WritesOpen w (writes (keeping_ask w.now.shape P s step))
   unfolding keeping_ask

@@ -1,6 +1,7 @@
 -- Where one reply leads an attempt, in what the guard's actor is like: only its try is anything to the guard.
 use Rattle.std.proofs.Common.{◌≡◌, ℕ, ◌∙◌, refl, sym, ap, subst, Bool, true, false}
 use Rattle.std.specs.Prelude.{if◌then◌else◌, ◌==◌, Option, Some, None}
+use Rattle.fkv_base.specs.declared.numbers.Addr.{Addr}
 use Rattle.fkv_map.specs.Keys.{key_of}
 use Rattle.fkv_plane.specs.declared.asks.Ask.{Ask}
 use Rattle.fkv_plane.specs.declared.asks.Ask.TheVariants.{Done}
@@ -16,6 +17,7 @@ use Rattle.fkv_ops.specs.declared.requests.Seen.{Seen}
 use Rattle.fkv_ops.specs.declared.trying.Trying.{Trying}
 use Rattle.fkv_ops.specs.declared.trying.Trying.TheVariants as trying
 use Rattle.fkv_ops.specs.HeaderWords.{header_said}
+use Rattle.fkv_ops.specs.Requests.{is_chain_end}
 use Rattle.fkv_ops.specs.Values.{value_of}
 use Rattle.fkv_ops.specs.Trying.{TryState, try_ask, told_value}
 use Rattle.fkv_ops.proofs.Shown.{is_try_end, try_done, TryRestsOrAsks}
@@ -27,9 +29,9 @@ use Rattle.fkv_pending.specs.declared.mailing.MailRecord.{MailRecord}
 use Rattle.fkv_pending.specs.declared.mailing.MailTask.TheVariants.{Take}
 use Rattle.fkv_pending.specs.declared.mailing.Mailing.TheVariants.{LoadsState}
 use Rattle.fkv_pending.specs.declared.pending_requests.PendingRequest.{PendingRequest}
-use Rattle.fkv_pending.specs.Mailing.{mail_ask, mail_next}
-use Rattle.fkv_pending.specs.Pending.{with_sought, with_held, with_latch, with_asked}
-use Rattle.fkv_pending.specs.Attempting.{AttemptState, attempt_ended, waits_for_disk, puts_addr, puts, tries, is_seeking_read, goes_on, attempt_begun, held_of, moved_on, read_on, record_taken, look_ledto, held_kept, tried, try_ledto, put_ledto, mail_moved, attempting_next, new_attempt}
+use Rattle.fkv_pending.specs.Mailing.{mail_ask, mail_next, is_gone, begin_told}
+use Rattle.fkv_pending.specs.Pending.{with_sought, with_held, with_latch, with_asked, without_gone}
+use Rattle.fkv_pending.specs.Attempting.{AttemptState, attempt_ended, waits_for_disk, puts_addr, puts, tries, is_seeking_read, goes_on, attempt_begun, held_of, moved_on, read_on, record_taken, goes_anew, mail_taken, look_ledto, held_kept, tried, try_ledto, put_ledto, mail_moved, attempting_next, new_attempt}
 use Rattle.fkv_flush.specs.GuardSeen.{LastSeen}
 use Rattle.fkv_flush.proofs.Shown.{Likeness}
 use Rattle.law_world.specs.GuardSessions.Likenesses.{through}
@@ -70,16 +72,27 @@ module _ (protected : Bool) where
   read_led seen a its (Says previous version) =
       let moved : AttemptState = record a { pending = with_sought a.pending (moved_on a.pending.sought previous) } in
       either_led (its.key.0 == (key_of a.pending.request.op).0) seen (attempt_ended a (told_value (value_of its.value))) _ (Keeps refl refl)
-      (either_led (previous.0 == 0) seen (attempt_ended a answer.Absent) (puts moved) (Keeps refl refl) (puts_led seen moved moved.pending.sought))
+      (either_led (is_chain_end a.pending.request.floor previous) seen (attempt_ended a answer.Absent) (puts moved) (Keeps refl refl) (puts_led seen moved moved.pending.sought))
 
   record_led : (p : Places) (bits : ℕ) (seen : LastSeen) (a : AttemptState) (its : MailRecord) (said : HeaderSaid) → Free seen (record_taken p bits a its said)
   record_led p bits seen a its said =
       let held : AttemptState = record a { pending = with_held a.pending (held_of a.pending.sought its said) } in
       either_led (is_seeking_read a) seen (read_on a its said) (tries p bits held) (read_led seen a its said) (tries_led p bits seen held)
 
+  -- where the record is gone a read waits, and any other request is tried anew
+  anew_led : (p : Places) (bits : ℕ) (seen : LastSeen) (a : AttemptState) (begin : Addr) → Free seen (goes_anew p bits a begin)
+  anew_led p bits seen a begin =
+      let its : AttemptState = record a { pending = without_gone a.pending begin } in
+      either_led (is_seeking_read a) seen (waits_for_disk its) (tries p bits its) (Keeps refl refl) (tries_led p bits seen its)
+
+  mail_led : (p : Places) (bits : ℕ) (seen : LastSeen) (a : AttemptState) (its : MailRecord) → Free seen (mail_taken p bits a its)
+  mail_led p bits seen a its =
+      either_led (is_gone its) seen (goes_anew p bits a (begin_told its)) (record_taken p bits a its (header_said its.header))
+      (anew_led p bits seen a (begin_told its)) (record_led p bits seen a its (header_said its.header))
+
   look_led : (p : Places) (bits : ℕ) (seen : LastSeen) (a : AttemptState) (ask : Ask MailAnswer) → a.step ≡ Looks → Free seen (look_ledto p bits a ask)
   unfolding look_ledto
-  look_led p bits seen a (Done (mail.Taken its)) at = record_led p bits seen (record a { is_emptied = true; pending = with_asked a.pending false }) its (header_said its.header)
+  look_led p bits seen a (Done (mail.Taken its)) at = mail_led p bits seen (record a { is_emptied = true; pending = with_asked a.pending false }) its
   look_led p bits seen a (Done other) at = either_led (is_seeking_read a) seen (waits_for_disk a) (tries p bits a) (Keeps refl refl) (tries_led p bits seen a)
   look_led p bits seen a ask at = rw at (Keeps refl refl)
 

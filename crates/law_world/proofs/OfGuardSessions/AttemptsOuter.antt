@@ -1,6 +1,7 @@
 -- The words that an attempt writes beside its records' and its mailbox are none of the guard's.
 use Rattle.std.proofs.Common.{◌≡◌, ℕ, ◌<◌, refl, sym, subst, Bool, true, false}
 use Rattle.std.specs.Prelude.{if◌then◌else◌, ◌==◌, ⊤, Option, Some, None}
+use Rattle.fkv_base.specs.declared.numbers.Addr.{Addr}
 use Rattle.fkv_map.specs.Keys.{key_of}
 use Rattle.fkv_plane.specs.declared.asks.Ask.{Ask}
 use Rattle.fkv_plane.specs.declared.asks.Ask.TheVariants.{Done}
@@ -16,6 +17,7 @@ use Rattle.fkv_ops.specs.declared.header_words.HeaderSaid.TheVariants.{Says, Spo
 use Rattle.fkv_ops.specs.declared.requests.Occasion.{Occasion}
 use Rattle.fkv_ops.specs.declared.requests.Seen.{Seen}
 use Rattle.fkv_ops.specs.HeaderWords.{header_said}
+use Rattle.fkv_ops.specs.Requests.{is_chain_end}
 use Rattle.fkv_ops.specs.Trying.{try_ask, try_next, told_value}
 use Rattle.fkv_ops.specs.Values.{value_of}
 use Rattle.fkv_pending.specs.declared.attempting.Attempting.{Attempting}
@@ -26,9 +28,9 @@ use Rattle.fkv_pending.specs.declared.mailing.MailRecord.{MailRecord}
 use Rattle.fkv_pending.specs.declared.mailing.MailTask.TheVariants.{Take}
 use Rattle.fkv_pending.specs.declared.mailing.Mailing.TheVariants as mailing
 use Rattle.fkv_pending.specs.declared.pending_requests.PendingRequest.{PendingRequest}
-use Rattle.fkv_pending.specs.Mailing.{mail_ask, mail_next}
-use Rattle.fkv_pending.specs.Pending.{with_sought, with_held, with_latch, with_asked}
-use Rattle.fkv_pending.specs.Attempting.{AttemptState, attempting_ask, attempt_ended, waits_for_disk, puts_addr, puts, tries, is_seeking_read, goes_on, attempt_begun, held_of, moved_on, read_on, record_taken, look_ledto, held_kept, tried, try_ledto, put_ledto, mail_moved, try_moved, attempting_next, attempt_next, new_attempt}
+use Rattle.fkv_pending.specs.Mailing.{mail_ask, mail_next, is_gone, begin_told}
+use Rattle.fkv_pending.specs.Pending.{with_sought, with_held, with_latch, with_asked, without_gone}
+use Rattle.fkv_pending.specs.Attempting.{AttemptState, attempting_ask, attempt_ended, waits_for_disk, puts_addr, puts, tries, is_seeking_read, goes_on, attempt_begun, held_of, moved_on, read_on, record_taken, goes_anew, mail_taken, look_ledto, held_kept, tried, try_ledto, put_ledto, mail_moved, try_moved, attempting_next, attempt_next, new_attempt}
 use Rattle.law_world.specs.GuardSessions.Attempts.{AttemptWritesOuter}
 use Rattle.law_world.proofs.OfGuardSessions.TriesOuter.{IsTryOuter, try_owes, try_next_outer, try_begun_outer}
 
@@ -80,16 +82,27 @@ read_outer p a its Spoiled = puts_outer p a a.pending.sought
 read_outer p a its (Says previous version) =
     let moved : AttemptState = record a { pending = with_sought a.pending (moved_on a.pending.sought previous) } in
     either_outer (its.key.0 == (key_of a.pending.request.op).0) p (attempt_ended a (told_value (value_of its.value))) _ tt
-    (either_outer (previous.0 == 0) p (attempt_ended a answer.Absent) (puts moved) tt (puts_outer p moved moved.pending.sought))
+    (either_outer (is_chain_end a.pending.request.floor previous) p (attempt_ended a answer.Absent) (puts moved) tt (puts_outer p moved moved.pending.sought))
 
 record_outer : (p : Places) (bits : ℕ) (a : AttemptState) (its : MailRecord) (said : HeaderSaid) → HomesAreLow p bits → IsAttemptOuter p (record_taken p bits a its said)
 record_outer p bits a its said homes =
     let held : AttemptState = record a { pending = with_held a.pending (held_of a.pending.sought its said) } in
     either_outer (is_seeking_read a) p (read_on a its said) (tries p bits held) (read_outer p a its said) (tries_outer p bits held homes)
 
+-- where the record is gone a read waits, and any other request is tried anew
+anew_outer : (p : Places) (bits : ℕ) (a : AttemptState) (begin : Addr) → HomesAreLow p bits → IsAttemptOuter p (goes_anew p bits a begin)
+anew_outer p bits a begin homes =
+    let its : AttemptState = record a { pending = without_gone a.pending begin } in
+    either_outer (is_seeking_read a) p (waits_for_disk its) (tries p bits its) tt (tries_outer p bits its homes)
+
+mail_outer : (p : Places) (bits : ℕ) (a : AttemptState) (its : MailRecord) → HomesAreLow p bits → IsAttemptOuter p (mail_taken p bits a its)
+mail_outer p bits a its homes =
+    either_outer (is_gone its) p (goes_anew p bits a (begin_told its)) (record_taken p bits a its (header_said its.header))
+    (anew_outer p bits a (begin_told its) homes) (record_outer p bits a its (header_said its.header) homes)
+
 look_outer : (p : Places) (bits : ℕ) (a : AttemptState) (ask : Ask MailAnswer) → a.step ≡ Looks → HomesAreLow p bits → IsAttemptOuter p (look_ledto p bits a ask)
 unfolding look_ledto
-look_outer p bits a (Done (mail.Taken its)) at homes = record_outer p bits (record a { is_emptied = true; pending = with_asked a.pending false }) its (header_said its.header) homes
+look_outer p bits a (Done (mail.Taken its)) at homes = mail_outer p bits (record a { is_emptied = true; pending = with_asked a.pending false }) its homes
 look_outer p bits a (Done other) at homes = either_outer (is_seeking_read a) p (waits_for_disk a) (tries p bits a) tt (tries_outer p bits a homes)
 look_outer p bits a ask at homes = stays_outer p a Looks at tt
 

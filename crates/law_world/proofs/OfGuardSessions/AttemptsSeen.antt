@@ -1,6 +1,7 @@
 -- An attempt keeps what its session has seen, and so does its try.
 use Rattle.std.proofs.Common.{◌≡◌, ℕ, refl, sym, subst, Bool, true, false}
 use Rattle.std.specs.Prelude.{if◌then◌else◌, ◌==◌, ⊤, Option, Some, None}
+use Rattle.fkv_base.specs.declared.numbers.Addr.{Addr}
 use Rattle.fkv_map.specs.Keys.{key_of}
 use Rattle.fkv_plane.specs.declared.asks.Ask.{Ask}
 use Rattle.fkv_plane.specs.declared.asks.Ask.TheVariants.{Done}
@@ -13,6 +14,7 @@ use Rattle.fkv_ops.specs.declared.header_words.HeaderSaid.TheVariants.{Says, Spo
 use Rattle.fkv_ops.specs.declared.requests.Occasion.{Occasion}
 use Rattle.fkv_ops.specs.declared.requests.Seen.{Seen}
 use Rattle.fkv_ops.specs.HeaderWords.{header_said}
+use Rattle.fkv_ops.specs.Requests.{is_chain_end}
 use Rattle.fkv_ops.specs.Trying.{try_ask, try_next, told_value}
 use Rattle.fkv_ops.specs.Values.{value_of}
 use Rattle.fkv_pending.specs.declared.attempting.Attempting.{Attempting}
@@ -23,9 +25,9 @@ use Rattle.fkv_pending.specs.declared.mailing.MailRecord.{MailRecord}
 use Rattle.fkv_pending.specs.declared.mailing.MailTask.TheVariants.{Take}
 use Rattle.fkv_pending.specs.declared.mailing.Mailing.TheVariants as mailing
 use Rattle.fkv_pending.specs.declared.pending_requests.PendingRequest.{PendingRequest}
-use Rattle.fkv_pending.specs.Mailing.{mail_ask, mail_next}
-use Rattle.fkv_pending.specs.Pending.{with_sought, with_held, with_latch, with_asked}
-use Rattle.fkv_pending.specs.Attempting.{AttemptState, attempt_ended, waits_for_disk, puts_addr, puts, tries, is_seeking_read, goes_on, attempt_begun, held_of, moved_on, read_on, record_taken, look_ledto, held_kept, tried, try_ledto, put_ledto, mail_moved, try_moved, attempting_next, attempt_next, new_attempt}
+use Rattle.fkv_pending.specs.Mailing.{mail_ask, mail_next, is_gone, begin_told}
+use Rattle.fkv_pending.specs.Pending.{with_sought, with_held, with_latch, with_asked, without_gone}
+use Rattle.fkv_pending.specs.Attempting.{AttemptState, attempt_ended, waits_for_disk, puts_addr, puts, tries, is_seeking_read, goes_on, attempt_begun, held_of, moved_on, read_on, record_taken, goes_anew, mail_taken, look_ledto, held_kept, tried, try_ledto, put_ledto, mail_moved, try_moved, attempting_next, attempt_next, new_attempt}
 use Rattle.law_world.proofs.OfGuardSessions.TriesSeen.{IsTryAbove, try_next_above, try_begun_above}
 
 abbrev pub AttemptAbove : Seen → AttemptState → Attempting → Type 0
@@ -64,16 +66,27 @@ read_above seen a its Spoiled same = puts_above seen a a.pending.sought same
 read_above seen a its (Says previous version) same =
     let moved : AttemptState = record a { pending = with_sought a.pending (moved_on a.pending.sought previous) } in
     either_above (its.key.0 == (key_of a.pending.request.op).0) seen (attempt_ended a (told_value (value_of its.value))) _ (record { same = same; above = tt })
-    (either_above (previous.0 == 0) seen (attempt_ended a answer.Absent) (puts moved) (record { same = same; above = tt }) (puts_above seen moved moved.pending.sought same))
+    (either_above (is_chain_end a.pending.request.floor previous) seen (attempt_ended a answer.Absent) (puts moved) (record { same = same; above = tt }) (puts_above seen moved moved.pending.sought same))
 
 record_above : (p : Places) (bits : ℕ) (seen : Seen) (a : AttemptState) (its : MailRecord) (said : HeaderSaid) → a.seen ≡ seen → IsAttemptAbove seen (record_taken p bits a its said)
 record_above p bits seen a its said same =
     let held : AttemptState = record a { pending = with_held a.pending (held_of a.pending.sought its said) } in
     either_above (is_seeking_read a) seen (read_on a its said) (tries p bits held) (read_above seen a its said same) (tries_above p bits seen held same)
 
+-- where the record is gone a read waits, and any other request is tried anew
+anew_above : (p : Places) (bits : ℕ) (seen : Seen) (a : AttemptState) (begin : Addr) → a.seen ≡ seen → IsAttemptAbove seen (goes_anew p bits a begin)
+anew_above p bits seen a begin same =
+    let its : AttemptState = record a { pending = without_gone a.pending begin } in
+    either_above (is_seeking_read a) seen (waits_for_disk its) (tries p bits its) (record { same = same; above = tt }) (tries_above p bits seen its same)
+
+mail_above : (p : Places) (bits : ℕ) (seen : Seen) (a : AttemptState) (its : MailRecord) → a.seen ≡ seen → IsAttemptAbove seen (mail_taken p bits a its)
+mail_above p bits seen a its same =
+    either_above (is_gone its) seen (goes_anew p bits a (begin_told its)) (record_taken p bits a its (header_said its.header))
+    (anew_above p bits seen a (begin_told its) same) (record_above p bits seen a its (header_said its.header) same)
+
 look_above : (p : Places) (bits : ℕ) (seen : Seen) (a : AttemptState) (ask : Ask MailAnswer) → a.step ≡ Looks → a.seen ≡ seen → IsAttemptAbove seen (look_ledto p bits a ask)
 unfolding look_ledto
-look_above p bits seen a (Done (mail.Taken its)) at same = record_above p bits seen (record a { is_emptied = true; pending = with_asked a.pending false }) its (header_said its.header) same
+look_above p bits seen a (Done (mail.Taken its)) at same = mail_above p bits seen (record a { is_emptied = true; pending = with_asked a.pending false }) its same
 look_above p bits seen a (Done other) at same = either_above (is_seeking_read a) seen (waits_for_disk a) (tries p bits a) (record { same = same; above = tt }) (tries_above p bits seen a same)
 look_above p bits seen a ask at same = stays_above seen a Looks at same tt
 

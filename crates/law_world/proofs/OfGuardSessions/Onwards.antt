@@ -39,7 +39,7 @@ started_likeness mid task = mid
 
 abbrev pub IsOfSessions : GuardTask → Type 0
 IsOfSessions ToFlush = ⊥
-IsOfSessions ToServe = ⊥
+IsOfSessions (ToServe begin) = ⊥
 IsOfSessions task = ⊤
 
 -- Behind a step the actor is like this, and like that once what begins has begun. Whether its session is protected is known.
@@ -72,7 +72,7 @@ may_start protected m a y mid (ToInvalidate header) its of fits rests may = rw (
 may_start protected m a y mid ToShift its of fits rests may = refl
 may_start protected m a y mid (ToTurnPage form tail) its of fits rests may = refl
 may_start protected m a y mid ToFlush its of fits rests may = refl
-may_start protected m a y mid ToServe its of fits rests may = refl
+may_start protected m a y mid (ToServe begin) its of fits rests may = refl
 
 fits_none : (machine : EpochMachine) (found : Option EpochMachine) → found ≡ None → FitsMachine found machine → is_at_rest machine ≡ true
 fits_none machine None e fits = fits
@@ -86,7 +86,7 @@ started_fits m y mid (ToInvalidate header) of fits = record { machine = fits.mac
 started_fits m y mid ToShift of fits = record { machine = fits.machine; work = refl; seen = fits.seen; undecided = fits.undecided }
 started_fits m y mid (ToTurnPage form tail) of fits = record { machine = fits.machine; work = refl; seen = fits.seen; undecided = fits.undecided }
 started_fits m y mid ToFlush of fits = absurd of
-started_fits m y mid ToServe of fits = absurd of
+started_fits m y mid (ToServe begin) of fits = absurd of
 
 work_idle : (work : guard.Work) (found : Option guard.Work) → found ≡ None → FitsWork found work → is_idle work ≡ true
 work_idle work None e fits = fits

@@ -31,7 +31,7 @@ use Rattle.fkv_session.specs.declared.sessions.CatchCause.TheVariants.{Refreshes
 use Rattle.fkv_session.specs.declared.sessions.Sitting.TheVariants.{Attempts, CatchesUp, ClearsMail, Polls, Turns, StoresCut}
 use Rattle.fkv_session.specs.CatchingUp.{catch_ask, wake_begun}
 use Rattle.fkv_session.specs.OwnTurns.{own_turn_begun}
-use Rattle.fkv_session.specs.Sessions.{SessionState, Seat, bits_of, answers, refuses, answers_after_turn, request_in_hand, attempts, polls_request, polls_at, refusal_of, op_begun, refresh_call, poll_begun, poll_call, sleep_call, wake_call, call_begun, session_begun, ticket_after, attempt_left, serial_taken, update_done, is_no_room, lacks_room, with_request, accepts, shifts, attempted, attempt_ledto, caught_up, catch_ledto, clear_ledto, is_finished, is_owed, request_finished, finishes_request, keeps_request, poll_ledto, leave_ledto}
+use Rattle.fkv_session.specs.Sessions.{SessionState, Seat, bits_of, answers, refuses, answers_after_turn, request_in_hand, attempts, polls_request, polls_at, refusal_of, op_begun, refresh_call, poll_begun, poll_call, sleep_call, wake_call, call_begun, session_begun, ticket_after, attempt_left, serial_taken, update_done, is_no_room, lacks_room, with_request, accepts, shifts, attempted, attempt_ledto, caught_up, catch_ledto, clear_ledto, is_finished, is_owed, request_finished, finishes_request, keeps_request, poll_left, poll_ledto, leave_ledto}
 use Rattle.std.specs.Prelude.{if◌then◌else◌, ◌==◌, ◌||◌, not, Option, Some, None, slice_get, slice_set}
 use Rattle.fkv_plane.specs.declared.asks.Ask.TheVariants.{Done}
 use Rattle.fkv_epoch.specs.EpochWorld.{ToScan, ToRefresh, ToProtect}
@@ -150,8 +150,8 @@ pub poll_ends : (k : Seat) (mid : Likeness) (s : SessionState) (index : ℕ) (as
 unfolding poll_ledto
 poll_ends k mid s index (Done its) at asks rests led =
     let ended = attempt_through true k (last_seen s.seen) mid s.attempt s.attempt.step (has_ended true k s.attempt its rests asks) led in
-    subst (λ m. SessionLed true m (if is_finished its then finishes_request k (attempt_left s) index its else keeps_request k (attempt_left s) index its)) (sym ended)
-    (either_led true k (is_finished its) (last_seen s.seen) (finishes_request k (attempt_left s) index its) (keeps_request k (attempt_left s) index its) (finishes_led true k (attempt_left s) index its) (keeps_led true k (attempt_left s) index its))
+    subst (λ m. SessionLed true m (if is_finished its then finishes_request k (poll_left s) index its else keeps_request k (poll_left s) index its)) (sym ended)
+    (either_led true k (is_finished its) (last_seen s.seen) (finishes_request k (poll_left s) index its) (keeps_request k (poll_left s) index its) (finishes_led true k (poll_left s) index its) (keeps_led true k (poll_left s) index its))
 poll_ends k mid s index ask at asks rests led = rw at (record { leads = led; knows = rests })
 
 pub catch_ends : (protected : Bool) (k : Seat) (mid : Likeness) (s : SessionState) (cause : CatchCause) (ask : Ask (Unit {0})) → s.step ≡ CatchesUp cause → catch_ask k.places k.number s.catching s.requests ≡ ask

@@ -32,7 +32,7 @@ use Rattle.fkv_session.specs.declared.sessions.Sitting.{Sitting}
 use Rattle.fkv_session.specs.declared.sessions.Sitting.TheVariants.{Idle, Attempts, CatchesUp, ClearsMail, Polls, StoresOwing, Turns, StoresCut, Leaves, LoadsDurable}
 use Rattle.fkv_session.specs.CatchingUp.{refresh_begun, wake_begun}
 use Rattle.fkv_session.specs.OwnTurns.{own_turn_begun, own_turn_given}
-use Rattle.fkv_session.specs.Sessions.{SessionState, Seat, IsOpened, bits_of, room_of, answers, refuses, answers_after_turn, request_in_hand, attempts, polls_request, polls_at, refusal_of, op_begun, refresh_call, poll_begun, poll_call, sleep_call, wake_call, call_begun, ticket_after, attempt_left, serial_taken, update_done, is_no_room, lacks_room, with_request, accepts, shifts, attempted, attempt_ledto, caught_up, catch_ledto, clear_ledto, is_finished, is_owed, request_finished, finishes_request, keeps_request, poll_ledto, turn_ledto, leave_ledto, attempt_moved, caught, own_turn_moved, sitting_ask, session_ask, sitting_next, session_next, sitting_given, session_given, asks_after, is_word_ask, is_busy}
+use Rattle.fkv_session.specs.Sessions.{SessionState, Seat, IsOpened, bits_of, room_of, answers, refuses, answers_after_turn, request_in_hand, attempts, polls_request, polls_at, refusal_of, op_begun, refresh_call, poll_begun, poll_call, sleep_call, wake_call, call_begun, ticket_after, attempt_left, serial_taken, update_done, is_no_room, lacks_room, with_request, accepts, shifts, attempted, attempt_ledto, caught_up, catch_ledto, clear_ledto, is_finished, is_owed, request_finished, finishes_request, keeps_request, poll_left, poll_ledto, turn_ledto, leave_ledto, attempt_moved, caught, own_turn_moved, sitting_ask, session_ask, sitting_next, session_next, sitting_given, session_given, asks_after, is_word_ask, is_busy}
 use Rattle.fkv_session.specs.SessionRun.{SessionEvent, Begins, Replies, Gets, begins, session_happens, session_run}
 use Rattle.fkv_session.specs.Shares.{HasItsBuckets}
 use Rattle.law_world.specs.GuardSessions.Sessions.{SittingWritesOuter, SessionWritesOuter}
@@ -133,7 +133,7 @@ keeps_outer k homes s index its = polls_outer k homes (record s { requests = sli
 
 poll_ledto_outer : (k : Seat) (homes : Homes k) (s : SessionState) (index : ℕ) (ask : Ask TryAnswer) → s.step ≡ Polls index → IsAttemptOuter k.places s.attempt → IsSessionOuter k.places (poll_ledto k s index ask)
 unfolding poll_ledto
-poll_ledto_outer k homes s index (Done its) at row = either_outer (is_finished its) k.places (finishes_request k (attempt_left s) index its) (keeps_request k (attempt_left s) index its) (finishes_outer k homes (attempt_left s) index its) (keeps_outer k homes (attempt_left s) index its)
+poll_ledto_outer k homes s index (Done its) at row = either_outer (is_finished its) k.places (finishes_request k (poll_left s) index its) (keeps_request k (poll_left s) index its) (finishes_outer k homes (poll_left s) index its) (keeps_outer k homes (poll_left s) index its)
 poll_ledto_outer k homes s index ask at row = stays_outer k.places s (Polls index) at row
 
 caught_up_outer : (k : Seat) (homes : Homes k) (s : SessionState) (cause : CatchCause) → IsSessionOuter k.places (caught_up k s cause)

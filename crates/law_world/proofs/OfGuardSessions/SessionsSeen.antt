@@ -30,7 +30,7 @@ use Rattle.fkv_session.specs.declared.sessions.Sitting.{Sitting}
 use Rattle.fkv_session.specs.declared.sessions.Sitting.TheVariants.{Idle, Attempts, CatchesUp, ClearsMail, Polls, StoresOwing, Turns, StoresCut, Leaves, LoadsDurable}
 use Rattle.fkv_session.specs.CatchingUp.{refresh_begun, wake_begun}
 use Rattle.fkv_session.specs.OwnTurns.{own_turn_begun, own_turn_given}
-use Rattle.fkv_session.specs.Sessions.{SessionState, Seat, IsOpened, bits_of, room_of, answers, refuses, answers_after_turn, request_in_hand, attempts, polls_request, polls_at, refusal_of, op_begun, refresh_call, poll_begun, poll_call, sleep_call, wake_call, call_begun, ticket_after, attempt_left, serial_taken, update_done, is_no_room, lacks_room, with_request, accepts, shifts, attempted, attempt_ledto, caught_up, catch_ledto, clear_ledto, is_finished, is_owed, request_finished, finishes_request, keeps_request, poll_ledto, turn_ledto, leave_ledto, attempt_moved, caught, own_turn_moved, session_ask, sitting_next, session_next, sitting_given, session_given, asks_after, is_word_ask, is_busy}
+use Rattle.fkv_session.specs.Sessions.{SessionState, Seat, IsOpened, bits_of, room_of, answers, refuses, answers_after_turn, request_in_hand, attempts, polls_request, polls_at, refusal_of, op_begun, refresh_call, poll_begun, poll_call, sleep_call, wake_call, call_begun, ticket_after, attempt_left, serial_taken, update_done, is_no_room, lacks_room, with_request, accepts, shifts, attempted, attempt_ledto, caught_up, catch_ledto, clear_ledto, is_finished, is_owed, request_finished, finishes_request, keeps_request, poll_left, poll_ledto, turn_ledto, leave_ledto, attempt_moved, caught, own_turn_moved, session_ask, sitting_next, session_next, sitting_given, session_given, asks_after, is_word_ask, is_busy}
 use Rattle.fkv_session.specs.SessionRun.{SessionEvent, Begins, Replies, Gets, begins, session_happens, session_run}
 use Rattle.law_world.proofs.OfGuardSessions.AttemptsSeen.{IsAttemptAbove, attempt_begun_above, attempt_next_above}
 use Rattle.fkv_ops.specs.Bounds.{bounds_of}
@@ -104,7 +104,7 @@ keeps_above k s index its = polls_above k (record s { requests = slice_set s.req
 
 poll_ledto_above : (k : Seat) (s : SessionState) (index : ℕ) (ask : Ask TryAnswer) → s.step ≡ Polls index → IsAttemptAbove s.seen s.attempt → IsSessionAbove (poll_ledto k s index ask)
 unfolding poll_ledto
-poll_ledto_above k s index (Done its) at above = either_above (is_finished its) (finishes_request k (attempt_left s) index its) (keeps_request k (attempt_left s) index its) (finishes_above k (attempt_left s) index its) (keeps_above k (attempt_left s) index its)
+poll_ledto_above k s index (Done its) at above = either_above (is_finished its) (finishes_request k (poll_left s) index its) (keeps_request k (poll_left s) index its) (finishes_above k (poll_left s) index its) (keeps_above k (poll_left s) index its)
 poll_ledto_above k s index ask at above = stays_above s (Polls index) at above
 
 caught_up_above : (k : Seat) (s : SessionState) (cause : CatchCause) → IsSessionAbove (caught_up k s cause)

@@ -1,6 +1,6 @@
 -- Where one reply leads a try, in what the guard's actor is like: only an append is anything to the guard.
 use Rattle.std.proofs.Common.{◌≡◌, ℕ, ◌∙◌, refl, sym, ap, subst, Bool, true, false}
-use Rattle.std.specs.Prelude.{if◌then◌else◌, ◌==◌, ◌&&◌, not, nat_le, Option, Some, None}
+use Rattle.std.specs.Prelude.{if◌then◌else◌, ◌==◌, ◌&&◌, ◌||◌, not, nat_le, Option, Some, None}
 use Rattle.fkv_base.specs.declared.numbers.Addr.{Addr}
 use Rattle.fkv_base.specs.declared.numbers.Version.{Version}
 use Rattle.fkv_map.specs.declared.operations.Reply.{Reply}
@@ -36,7 +36,7 @@ use Rattle.fkv_ops.specs.declared.trying.Trying.TheVariants.{Ended, TakesShared,
 use Rattle.fkv_ops.specs.declared.walking.WalkAnswer.{WalkAnswer}
 use Rattle.fkv_ops.specs.declared.walking.WalkAnswer.TheVariants as walk
 use Rattle.fkv_ops.specs.Values.{value_of}
-use Rattle.fkv_ops.specs.Requests.{is_read, is_blind}
+use Rattle.fkv_ops.specs.Requests.{is_read, is_blind, is_chain_end}
 use Rattle.fkv_ops.specs.Walking.{walk_ask, walk_next, walk_on}
 use Rattle.fkv_ops.specs.Appending.{AppendState, append_ask}
 use Rattle.fkv_ops.specs.Trying.{TryState, with_latch, is_wait, ended_without, ends_so, ends, is_bounded, ends_by, tail_loaded, taken_loaded, must_count, count_loaded, takes_effect, full_at, walks, wants_shared, try_begun, shared_ledto, must_shift, wants_exclusive, appends, copies_from, copies, awaits, held_used, met_nowhere, met_disk, changes, is_own_version, region_met, met_record, walked, has_walked, walk_ledto, current_ledto, told_value, answer_ledto, exclusive_ledto, old_ledto, append_ledto, exclusive_dropped, shared_dropped, latch_moved, walk_moved, trying_next, new_try, is_next_marked, is_still_in, phase_loaded, is_surely_own}
@@ -106,7 +106,7 @@ held_led p seen t addr None = ends_led p seen t _
 held_led p seen t addr (Some held) =
     either_led (held.entry == t.walk.entry) seen _ (awaits p t addr)
     (either_led (held.key.0 == (key_of t.request.op).0) seen (copies p t (Known held.value) false) _ (copies_led p seen t (Known held.value) false)
-    (either_led (held.previous.0 == 0) seen (copies p t (Known absent_word) false) (awaits p t held.previous) (copies_led p seen t (Known absent_word) false) (ends_led p seen t _)))
+    (either_led (is_chain_end t.request.floor held.previous) seen (copies p t (Known absent_word) false) (awaits p t held.previous) (copies_led p seen t (Known absent_word) false) (ends_led p seen t _)))
     (ends_led p seen t _)
 
 nowhere_led : (p : Places) (seen : LastSeen) (t : TryState) → Free seen (met_nowhere p t)
@@ -120,8 +120,10 @@ count_led p seen t taken = either_led (is_past_taken (bounds_at t.occasion) take
 
 disk_led : (p : Places) (seen : LastSeen) (t : TryState) (addr : Addr) → Free seen (met_disk p t addr)
 disk_led p seen t addr =
-    either_led (is_read t.request.op) seen (awaits p t addr) _ (ends_led p seen t _)
-    (either_led (is_blind t.request.op) seen (copies p t (Known absent_word) false) (held_used p t addr t.request.held) (copies_led p seen t (Known absent_word) false) (held_led p seen t addr t.request.held))
+    either_led (is_read t.request.op) seen _ _
+    (either_led (is_chain_end t.request.floor addr) seen (ends p t answer.Absent) (awaits p t addr) (ends_led p seen t _) (ends_led p seen t _))
+    (either_led (is_blind t.request.op || is_chain_end t.request.floor addr) seen (copies p t (Known absent_word) false) (held_used p t addr t.request.held)
+    (copies_led p seen t (Known absent_word) false) (held_led p seen t addr t.request.held))
 
 changes_led : (seen : LastSeen) (t : TryState) (addr : Addr) → Free seen (changes t addr)
 changes_led seen t addr = either_led (is_blind t.request.op) seen (record t { step = SwapsValue addr }) (record t { walk = walk_on t.walk; step = LoadsCurrent addr }) (Keeps refl refl) (Keeps refl refl)

@@ -1,6 +1,6 @@
 -- The words that a try writes beside its records' are none of the guard's: they are latches, links and entries of the index.
 use Rattle.std.proofs.Common.{◌≡◌, ℕ, ◌<◌, ◌∙◌, refl, sym, ap, subst, Bool, true, false}
-use Rattle.std.specs.Prelude.{if◌then◌else◌, ◌==◌, ◌&&◌, not, nat_le, ⊤, Option, Some, None}
+use Rattle.std.specs.Prelude.{if◌then◌else◌, ◌==◌, ◌&&◌, ◌||◌, not, nat_le, ⊤, Option, Some, None}
 use Rattle.fkv_base.specs.declared.numbers.Addr.{Addr}
 use Rattle.fkv_base.specs.declared.numbers.Version.{Version}
 use Rattle.fkv_map.specs.declared.operations.Reply.{Reply}
@@ -39,7 +39,7 @@ use Rattle.fkv_ops.specs.declared.trying.Trying.TheVariants.{Ended, TakesShared,
 use Rattle.fkv_ops.specs.declared.walking.WalkAnswer.{WalkAnswer}
 use Rattle.fkv_ops.specs.declared.walking.WalkAnswer.TheVariants as walk
 use Rattle.fkv_ops.specs.Values.{value_of}
-use Rattle.fkv_ops.specs.Requests.{purpose_at, update_within, is_read, is_blind}
+use Rattle.fkv_ops.specs.Requests.{purpose_at, update_within, is_read, is_blind, is_chain_end}
 use Rattle.fkv_ops.specs.Walking.{WalkState, walk_ask, walk_next, walk_on}
 use Rattle.fkv_ops.specs.Appending.{append_ask, append_next}
 use Rattle.fkv_ops.specs.Trying.{TryState, trying_ask, with_latch, is_wait, ended_without, ends_so, ends, is_bounded, ends_by, tail_loaded, taken_loaded, must_count, count_loaded, takes_effect, walks, wants_shared, try_begun, shared_ledto, must_shift, wants_exclusive, slot_of, words_of, appends, copies_from, copies, awaits, held_used, met_nowhere, met_disk, changes, is_own_version, region_met, met_record, walked, has_walked, walk_ledto, safe_loaded, current_ledto, value_changed, told_value, answer_ledto, exclusive_ledto, old_ledto, append_ledto, exclusive_dropped, shared_dropped, latch_moved, trying_next, try_next, new_try, is_next_marked, is_still_in, phase_loaded, is_surely_own}
@@ -179,7 +179,7 @@ held_outer p t addr None low its = ends_outer p t _ low
 held_outer p t addr (Some held) low its =
     either_outer (held.entry == t.walk.entry) p _ (awaits p t addr)
     (either_outer (held.key.0 == (key_of t.request.op).0) p (copies p t (Known held.value) false) _ (copies_outer p t (Known held.value) false low its)
-    (either_outer (held.previous.0 == 0) p (copies p t (Known absent_word) false) (awaits p t held.previous) (copies_outer p t (Known absent_word) false low its) (ends_outer p t _ low)))
+    (either_outer (is_chain_end t.request.floor held.previous) p (copies p t (Known absent_word) false) (awaits p t held.previous) (copies_outer p t (Known absent_word) false low its) (ends_outer p t _ low)))
     (ends_outer p t _ low)
 
 -- a walk that has come to its end: a read's, or an update's, which has its slot
@@ -210,8 +210,10 @@ count_outer p t taken low its = either_outer (is_past_taken (bounds_at t.occasio
 
 disk_outer : (p : Places) (t : TryState) (addr : Addr) → HasCome p t → IsTryOuter p (met_disk p t addr)
 disk_outer p t addr its =
-    by_kind p t (awaits p t addr) _ its (ends_outer p t _ its.low)
-    (λ walked. either_outer (is_blind t.request.op) p (copies p t (Known absent_word) false) (held_used p t addr t.request.held) (copies_outer p t (Known absent_word) false its.low walked) (held_outer p t addr t.request.held its.low walked))
+    by_kind p t _ _ its
+    (either_outer (is_chain_end t.request.floor addr) p (ends p t answer.Absent) (awaits p t addr) (ends_outer p t _ its.low) (ends_outer p t _ its.low))
+    (λ walked. either_outer (is_blind t.request.op || is_chain_end t.request.floor addr) p (copies p t (Known absent_word) false) (held_used p t addr t.request.held)
+    (copies_outer p t (Known absent_word) false its.low walked) (held_outer p t addr t.request.held its.low walked))
 
 changes_outer : (p : Places) (t : TryState) (addr : Addr) → t.home.bucket < p.buckets → HasWalked p t.walk → IsTryOuter p (changes t addr)
 changes_outer p t addr low its = either_outer (is_blind t.request.op) p (record t { step = SwapsValue addr }) (record t { walk = walk_on t.walk; step = LoadsCurrent addr }) (record { low = low; row = tt }) (record { low = low; row = walk_on_outer p false t.walk its.walk })

@@ -1,7 +1,7 @@
 -- A try changes a value in place only at or above the read-only offset that its session has seen.
 use Rattle.std.proofs.Common.{◌≡◌, ℕ, ◌<◌, ◌≤◌, refl, sym, subst, arith, Bool, true, false}
 use Rattle.std.proofs.lemmas.Bool.Decides.{nat_tests}
-use Rattle.std.specs.Prelude.{if◌then◌else◌, ◌==◌, ◌&&◌, not, nat_le, nat_lt, ⊤, Option, Some, None}
+use Rattle.std.specs.Prelude.{if◌then◌else◌, ◌==◌, ◌&&◌, ◌||◌, not, nat_le, nat_lt, ⊤, Option, Some, None}
 use Rattle.fkv_base.specs.declared.numbers.Addr.{Addr}
 use Rattle.fkv_base.specs.declared.numbers.Version.{Version}
 use Rattle.fkv_map.specs.declared.operations.Reply.{Reply}
@@ -34,7 +34,7 @@ use Rattle.fkv_ops.specs.declared.trying.Trying.TheVariants.{Ended, TakesShared,
 use Rattle.fkv_ops.specs.declared.walking.WalkAnswer.{WalkAnswer}
 use Rattle.fkv_ops.specs.declared.walking.WalkAnswer.TheVariants as walk
 use Rattle.fkv_ops.specs.Values.{value_of}
-use Rattle.fkv_ops.specs.Requests.{is_read, is_blind}
+use Rattle.fkv_ops.specs.Requests.{is_read, is_blind, is_chain_end}
 use Rattle.fkv_ops.specs.Walking.{walk_ask, walk_next, walk_on}
 use Rattle.fkv_ops.specs.Appending.{append_ask, append_next}
 use Rattle.fkv_ops.specs.Trying.{TryState, with_latch, is_wait, ended_without, ends_so, ends, is_bounded, ends_by, tail_loaded, taken_loaded, must_count, count_loaded, takes_effect, walks, wants_shared, try_begun, shared_ledto, must_shift, wants_exclusive, appends, copies_from, copies, awaits, held_used, met_nowhere, met_disk, changes, is_own_version, region_met, met_record, walked, has_walked, walk_ledto, safe_loaded, current_ledto, value_changed, told_value, answer_ledto, exclusive_ledto, old_ledto, append_ledto, exclusive_dropped, shared_dropped, latch_moved, trying_next, try_next, new_try, is_next_marked, is_still_in, phase_loaded, is_surely_own}
@@ -112,7 +112,7 @@ held_above p seen t addr None same = ends_above p seen t _ same
 held_above p seen t addr (Some held) same =
     either_above (held.entry == t.walk.entry) seen _ (awaits p t addr)
     (either_above (held.key.0 == (key_of t.request.op).0) seen (copies p t (Known held.value) false) _ (copies_above p seen t (Known held.value) false same)
-    (either_above (held.previous.0 == 0) seen (copies p t (Known absent_word) false) (awaits p t held.previous) (copies_above p seen t (Known absent_word) false same) (ends_above p seen t _ same)))
+    (either_above (is_chain_end t.request.floor held.previous) seen (copies p t (Known absent_word) false) (awaits p t held.previous) (copies_above p seen t (Known absent_word) false same) (ends_above p seen t _ same)))
     (ends_above p seen t _ same)
 
 nowhere_above : (p : Places) (seen : Seen) (t : TryState) → t.seen ≡ seen → IsTryAbove seen (met_nowhere p t)
@@ -126,8 +126,10 @@ count_above p seen t taken same = either_above (is_past_taken (bounds_at t.occas
 
 disk_above : (p : Places) (seen : Seen) (t : TryState) (addr : Addr) → t.seen ≡ seen → IsTryAbove seen (met_disk p t addr)
 disk_above p seen t addr same =
-    either_above (is_read t.request.op) seen (awaits p t addr) _ (ends_above p seen t _ same)
-    (either_above (is_blind t.request.op) seen (copies p t (Known absent_word) false) (held_used p t addr t.request.held) (copies_above p seen t (Known absent_word) false same) (held_above p seen t addr t.request.held same))
+    either_above (is_read t.request.op) seen _ _
+    (either_above (is_chain_end t.request.floor addr) seen (ends p t answer.Absent) (awaits p t addr) (ends_above p seen t _ same) (ends_above p seen t _ same))
+    (either_above (is_blind t.request.op || is_chain_end t.request.floor addr) seen (copies p t (Known absent_word) false) (held_used p t addr t.request.held)
+    (copies_above p seen t (Known absent_word) false same) (held_above p seen t addr t.request.held same))
 
 changes_above : (seen : Seen) (t : TryState) (addr : Addr) → t.seen ≡ seen → t.seen.offsets.read_only.0 ≤ addr.0 → IsTryAbove seen (changes t addr)
 changes_above seen t addr same high = either_above (is_blind t.request.op) seen (record t { step = SwapsValue addr }) (record t { walk = walk_on t.walk; step = LoadsCurrent addr }) (record { same = same; above = high }) (record { same = same; above = high })

@@ -73,10 +73,10 @@ shift_steps a (Done (shifted.Through tail)) = then_quiet_of (OfKeeper a) a _ (Mo
 shift_steps a (Done (shifted.NoSlot tail)) = then_quiet_of (OfKeeper a) a _ (Moves a ∷ []) (mine a) tt tt (moves a)
 shift_steps a ask = moves a
 
-turn_steps : (a : ℕ) (ask : Ask MoveAnswer) → IsStepOf (OfKeeper a) a (turn_events a ask)
-turn_steps a (Done moved.Through) = then_quiet_of (OfKeeper a) a _ (Moves a ∷ []) (mine a) tt tt (moves a)
-turn_steps a (Done moved.NoSlot) = then_quiet_of (OfKeeper a) a _ (Moves a ∷ []) (mine a) tt tt (moves a)
-turn_steps a ask = moves a
+turn_steps : (a begin : ℕ) (ask : Ask MoveAnswer) → IsStepOf (OfKeeper a) a (turn_events a begin ask)
+turn_steps a begin (Done moved.Through) = then_quiet_of (OfKeeper a) a _ (Moves a ∷ []) (mine a) tt tt (moves a)
+turn_steps a begin (Done moved.NoSlot) = then_quiet_of (OfKeeper a) a _ (Moves a ∷ []) (mine a) tt tt (moves a)
+turn_steps a begin ask = moves a
 
 maintained : (a : ℕ) (shape : Shape) (p : Places) (s : MaintainState) (step : Maintaining) (reply : ℕ) → IsStepOf (OfKeeper a) a (maintain_events a shape p s step reply)
 unfolding maintain_events
@@ -84,7 +84,7 @@ maintained a shape p s maintain.Scans reply = scanned a (scan_ask (scan_next sha
 maintained a shape p s maintain.Claims reply = claimed a (claim_ask (claim_next s.claiming reply))
 maintained a shape p s maintain.Flushes reply = flushed a (Moves a) (flush_ask p (flush_next shape.page s.flushing reply)) (mine a) tt
 maintained a shape p s maintain.Shifts reply = shift_steps a (shift_next_ask shape s.shift reply)
-maintained a shape p s maintain.Turns reply = turn_steps a (turn_next_ask shape s.turn reply)
+maintained a shape p s maintain.Turns reply = turn_steps a s.begin.0 (turn_next_ask shape s.turn reply)
 maintained a shape p s maintain.Serves reply = moves a
 maintained a shape p s step reply = tt
 
@@ -190,7 +190,7 @@ keeper_steps a shape p granted done read s words = keeper_step a _ (keeper_makes
 pub turn_asked_makes : (a : ℕ) (s : KeeperState) → IsStepOf (OfKeeper a) a (turn_asked_events a s)
 turn_asked_makes a s = by_test_of (OfKeeper a) a (is_in_hand s.step) [] _ tt (by_test_of (OfKeeper a) a s.is_broken [] _ tt (one_of (OfKeeper a) a _ (mine a) (begins s.rests)))
   where
-    begins : (rests : Bool) → OfKeeper a (Begins a (turn_task rests))
+    begins : (rests : Bool) → OfKeeper a (Begins a (turn_task s.maintain.begin.0 rests))
     begins true = tt
     begins false = tt
 

@@ -3,8 +3,9 @@ use Rattle.std.proofs.Common.{◌≡◌, List, ◌∷◌, sym, subst, true}
 use Rattle.fkv_keeper.specs.KeeperLaws.{IsBrokenForGood, IsWritten}
 use Rattle.fkv_keeper.specs.KeeperRun.{KeeperEvent, has_failed, keeper_happens, keeper_run}
 use Rattle.fkv_keeper.specs.Keeping.{KeeperState}
+use Rattle.fkv_keeper.specs.SlotLaws.{BeginsAt}
 use Rattle.fkv_keeper.specs.declared.keepers.Keeping.TheVariants.{Finishes}
-use Rattle.fkv_keeper.proofs.Shown.{run_broken, run_finished}
+use Rattle.fkv_keeper.proofs.Shown.{run_begins, run_broken, run_finished}
 use Rattle.law_world.specs.Keeper.Lives.{keeper_after, life_writing}
 use Rattle.fkv_world.specs.Opened.{IsOpenedWorld}
 use Rattle.fkv_world.specs.OwnEvents.{keeper_events}
@@ -45,3 +46,9 @@ pub keeper_finishes : (opening : World) (events : List Event) → IsOpenedWorld 
 keeper_finishes opening events opened finishes =
     of_keeper (λ s. IsWritten opening.now.shape s (life_writing opening events)) opening events
     (run_finished opening.now.shape opening.now.places opening.now.keeper (keeper_events opening events) opened.keeper (to_keeper (λ s. s.step ≡ Finishes) opening events finishes))
+
+-- the log begins where it did at first
+pub keeper_begins : (opening : World) (events : List Event) → IsOpenedWorld opening → BeginsAt opening.now.keeper.last.begin (run opening events).now.keeper
+keeper_begins opening events opened =
+    of_keeper (λ s. BeginsAt opening.now.keeper.last.begin s) opening events
+    (run_begins opening.now.shape opening.now.places opening.now.keeper (keeper_events opening events) opened.keeper)

@@ -14,7 +14,7 @@ use Rattle.fkv_ops.specs.Requests.{is_read}
 use Rattle.fkv_session.specs.declared.answers.Told.{Told}
 use Rattle.fkv_session.specs.declared.sessions.Sitting.{Sitting}
 use Rattle.fkv_session.specs.declared.sessions.Sitting.TheVariants.{Idle, Attempts, CatchesUp, ClearsMail, Polls, StoresOwing, Turns, StoresCut, Leaves, LoadsDurable}
-use Rattle.fkv_session.specs.Sessions.{SessionState, Seat, is_finished, is_owed, answers_after_turn, accepts, shifts, attempted, attempt_ledto, attempt_left, clear_ledto, polls_request, polls_at, finishes_request, keeps_request, request_finished, poll_ledto, session_ask, session_next, sitting_ask, sitting_next}
+use Rattle.fkv_session.specs.Sessions.{SessionState, Seat, is_finished, is_owed, answers_after_turn, accepts, shifts, attempted, attempt_ledto, attempt_left, clear_ledto, polls_request, polls_at, finishes_request, keeps_request, request_finished, poll_left, poll_ledto, session_ask, session_next, sitting_ask, sitting_next}
 use Rattle.fkv_session.specs.Sessions.{is_no_room, lacks_room, serial_taken, with_request, attempt_moved, caught, own_turn_moved}
 use Rattle.fkv_session.specs.CatchingUp.{catching_ask}
 use Rattle.fkv_session.specs.OwnTurns.{own_turning_ask}
@@ -83,12 +83,12 @@ unfolding sitting_ask
 stores_off k s index e = rw e tt
 
 abbrev kept : SessionState → ℕ → TryAnswer → SessionState
-kept s index its = record (attempt_left s) { requests = slice_set s.requests index s.attempt.pending; wants_turn = s.wants_turn || lacks_room its }
+kept s index its = record (poll_left s) { requests = slice_set s.requests index s.attempt.pending; wants_turn = s.wants_turn || lacks_room its }
 
 pub poll_off : (k : Seat) (s : SessionState) (index : ℕ) (ask : Ask TryAnswer) → s.step ≡ Polls index → IsOff k (poll_ledto k s index ask)
 unfolding poll_ledto finishes_request keeps_request polls_at
 poll_off k s index (Done its) e = either_off k (is_finished its) _ _
-    (either_off k (is_owed (attempt_left s)) (request_finished (attempt_left s) index its) _ (stores_off k (request_finished (attempt_left s) index its) index refl) (polls_off k (request_finished (attempt_left s) index its) index (slice_get (request_finished (attempt_left s) index its).requests index)))
+    (either_off k (is_owed (poll_left s)) (request_finished (poll_left s) index its) _ (stores_off k (request_finished (poll_left s) index its) index refl) (polls_off k (request_finished (poll_left s) index its) index (slice_get (request_finished (poll_left s) index its).requests index)))
     (polls_off k (kept s index its) (index + 1) (slice_get (kept s index its).requests (index + 1)))
 poll_off k s index ask e = at_poll_off k s index e
 

@@ -44,9 +44,9 @@ slots_apart number last next = by_test (last.0 % 2 == 0) refl
         inl (ap (λ (b : Bool). if b then 512 else 1024) even, ap (λ (b : Bool). if b then 512 else 1024) e)
 
 -- the slot of a commit is that of an open one that names it
-pub slot_names : (shape : Shape) (c : Commit) (used : Checkpoint) (points : List Serial) (lost : List LostRange) → c.number.0 < 2 ^ 64 → IsSlotOf c.number.0 (slot_written shape.sessions c.number c.end used points lost)
+pub slot_names : (shape : Shape) (c : Commit) (used : Checkpoint) (points : List Serial) (lost : List LostRange) → c.number.0 < 2 ^ 64 → IsSlotOf c.number.0 (slot_written shape.sessions c.number c.begin c.end used points lost)
 slot_names shape c used points lost fits =
-    newest_spelled (slot_said shape.sessions c.number c.end used points lost) fits
+    newest_spelled (slot_said shape.sessions c.number c.begin c.end used points lost) fits
     (omega (arith, length-map-range_with_len (λ (session : ℕ). point_written points session) 0 shape.sessions, shape.limits.few_sessions))
     (omega (arith, length-take 8 lost))
 
@@ -91,7 +91,7 @@ module _ (shape : Shape) (opened : List ℕ) (last : Finality) (its : Standing) 
     };
   }
     where
-      slot : IsSlotOf c.number.0 (slot_written shape.sessions c.number c.end used s.seek.points (lost_left c.kind s.lost))
+      slot : IsSlotOf c.number.0 (slot_written shape.sessions c.number c.begin c.end used s.seek.points (lost_left c.kind s.lost))
       slot = slot_names shape c used s.seek.points (lost_left c.kind s.lost) next.fits
 
   module _ (c : Commit) (used : Checkpoint) (w : Writing) (calls : List Call) (is : IsUnderWay c used w calls) where
@@ -205,7 +205,7 @@ module _ (shape : Shape) (opened : List ℕ) (last : Finality) (its : Standing) 
 
       -- what stands of the new one
       abbrev pub new_last : List Serial → Finality
-      new_last points = record { number = c.number; points = points; checkpoint = used; gates = opened_last }
+      new_last points = record { number = c.number; begin = c.begin; points = points; checkpoint = used; gates = opened_last }
 
       abbrev pub new_standing : Standing
       new_standing = record { slot = w.first.gate.slot; triples = triples_used c.kind w.first.triples its.triples }

@@ -43,10 +43,11 @@ shift_events a (Done (shifted.Through tail)) = Begins a (ToTurnPage Whole tail.0
 shift_events a (Done (shifted.NoSlot tail)) = Begins a (ToTurnPage Whole tail.0) ∷ Moves a ∷ []
 shift_events a ask = Moves a ∷ []
 
-abbrev pub turn_events : ℕ → Ask MoveAnswer → List GuardEvent
-turn_events a (Done moved.Through) = Begins a ToServe ∷ Moves a ∷ []
-turn_events a (Done moved.NoSlot) = Begins a ToServe ∷ Moves a ∷ []
-turn_events a ask = Moves a ∷ []
+-- mailboxes are served of a log that begins at this address
+abbrev pub turn_events : ℕ → ℕ → Ask MoveAnswer → List GuardEvent
+turn_events a begin (Done moved.Through) = Begins a (ToServe begin) ∷ Moves a ∷ []
+turn_events a begin (Done moved.NoSlot) = Begins a (ToServe begin) ∷ Moves a ∷ []
+turn_events a begin ask = Moves a ∷ []
 
 -- a reply
 unfoldable pub maintain_events : ℕ → Shape → Places → MaintainState → Maintaining → ℕ → List GuardEvent
@@ -54,7 +55,7 @@ maintain_events a shape p s maintain.Scans reply = scan_events a (scan_ask (scan
 maintain_events a shape p s maintain.Claims reply = claim_events a (claim_ask (claim_next s.claiming reply))
 maintain_events a shape p s maintain.Flushes reply = flush_events a (Moves a) (flush_ask p (flush_next shape.page s.flushing reply))
 maintain_events a shape p s maintain.Shifts reply = shift_events a (shift_next_ask shape s.shift reply)
-maintain_events a shape p s maintain.Turns reply = turn_events a (turn_next_ask shape s.turn reply)
+maintain_events a shape p s maintain.Turns reply = turn_events a s.begin.0 (turn_next_ask shape s.turn reply)
 maintain_events a shape p s maintain.Serves reply = Moves a ∷ []
 maintain_events a shape p s step reply = []
 

@@ -31,7 +31,7 @@ abbrev pub maintaining_work : MaintainState → Maintaining → Option Work
 maintaining_work s maintain.Flushes = Some (Flushes s.flushing s.bytes)
 maintaining_work s maintain.Shifts = Some (Shifts s.shift)
 maintaining_work s maintain.Turns = Some (Turns s.turn)
-maintaining_work s maintain.Serves = Some (Serves s.serving)
+maintaining_work s maintain.Serves = Some (Serves s.begin.0 s.serving)
 maintaining_work s step = None
 
 abbrev pub maintain_machine : MaintainState → Option EpochMachine

@@ -1,10 +1,12 @@
-use Rattle.std.proofs.Common.{◌<◌, sym, subst, ◌∙◌, arith}
+use Rattle.std.proofs.Common.{◌≡◌, ◌<◌, sym, subst, ◌∙◌, arith}
 use Rattle.fkv_disk.proofs.Shown.{more_reads, quiet_on}
 use Rattle.fkv_words.specs.Fields.{Reads}
 use Rattle.fkv_disk.specs.Bytes.{bytes_at}
+use Rattle.fkv_record.specs.Begin.{from_or_none}
 use Rattle.fkv_record.specs.Layout.{record_bytes}
 use Rattle.fkv_record.specs.Places.{record_place}
 use Rattle.fkv_scan.specs.Log.{log_in}
+use Rattle.fkv_chains.specs.Along.{IsToFollow}
 use Rattle.fkv_chains.proofs.FollowedTo.{IsFollowedTo, read_stands, read_alone, follow_on, led_on, all_followed, invalid_fault, home_fault}
 use Rattle.fkv_chains.proofs.following.follow.Goals as goal
 use Rattle.fkv_chains.proofs.following.follow.Goals.{then-found-via-then-found, then-found-via-else-found+then-record_home-home}
@@ -28,10 +30,11 @@ loop-addr-preserved g c =
     let a = c.loop-addr.addr.0 in
     let x = c.in-Some.found in
     let quiet = c.loop-addr.invariant.quiet in
-    let lower : x.header.previous.0 < a = omega (arith, c.if-found-addr.false) in
+    let place : c.from_or_none-previous.result.0 ≡ from_or_none c.args.slot.now.begin.0 x.header.previous.0 = c.from_or_none-previous.ensures.place in
+    let lower : from_or_none c.args.slot.now.begin.0 x.header.previous.0 < a = omega (arith, place, c.if-previous-addr.false) in
     let low = c.loop-addr.invariant.low in
     record {
-      low = omega (arith, lower, low);
+      low = omega (arith, place, lower, low);
       quiet = quiet_on g.D.Device.honest g.D.Device.seen g.D.Device.may_leave g.D.Device.moment g.D.Device.left_since g.D.Device.failed c.args.d.now c.loop-addr.d c.record_at.new.d quiet c.in_ok-found.ensures.quiet;
       reads = more_reads g.D.Device.refuses g.D.Device.expects c.args.d.now c.loop-addr.d c.record_at.new.d c.loop-addr.invariant.reads c.in_ok-found.ensures.reads;
       above = λ triples claim.
@@ -39,15 +42,17 @@ loop-addr-preserved g c =
           let all : Reads record_bytes (bytes_at (g.D.Device.seen c.args.d.now) (record_place c.args.shape a) 24) c.in_ok-found.field-0 =
           subst (λ image. Reads record_bytes (bytes_at image (record_place c.args.shape a) 24) c.in_ok-found.field-0) (quiet.same_bytes claim) (c.in_ok-found.ensures.ok (quiet.premise.0 claim)) in
           let stands = read_stands log a c.in_ok-found.field-0 x all c.in-Some.is in
-          follow_on log c.args.home c.args.from.0 a c.loop-addr-test.true x stands (read_alone log a c.in_ok-found.field-0 x all c.in-Some.is)
+          subst (λ n. IsFollowedTo log c.args.home c.args.from.0 n) (sym place)
+          (follow_on log c.args.home c.args.from.0 a c.loop-addr-test.true x stands (read_alone log a c.in_ok-found.field-0 x all c.in-Some.is)
           (record { held = x; old = record { stands = stands; old_enough = c.if-found-slot.false; falls = lower }; valid = c.if-found.false; same = sym c.record_home.ensures ∙ c.if-record_home-home.false })
-          (c.loop-addr.invariant.above triples claim);
+          (c.loop-addr.invariant.above triples claim));
       led = λ triples claim led.
           let log = log_in (g.D.Device.seen c.args.d.now) c.args.shape c.args.slot.now triples in
           let all : Reads record_bytes (bytes_at (g.D.Device.seen c.args.d.now) (record_place c.args.shape a) 24) c.in_ok-found.field-0 =
           subst (λ image. Reads record_bytes (bytes_at image (record_place c.args.shape a) 24) c.in_ok-found.field-0) (quiet.same_bytes claim) (c.in_ok-found.ensures.ok (quiet.premise.0 claim)) in
-          led_on log c.args.home c.args.from.0 a c.loop-addr-test.true x (read_stands log a c.in_ok-found.field-0 x all c.in-Some.is) (read_alone log a c.in_ok-found.field-0 x all c.in-Some.is)
-          lower (sym c.record_home.ensures ∙ c.if-record_home-home.false) (c.loop-addr.invariant.led triples claim led);
+          subst (λ n. IsToFollow log c.args.home n) (sym place)
+          (led_on log c.args.home c.args.from.0 a c.loop-addr-test.true x (read_stands log a c.in_ok-found.field-0 x all c.in-Some.is) (read_alone log a c.in_ok-found.field-0 x all c.in-Some.is)
+          lower (sym c.record_home.ensures ∙ c.if-record_home-home.false) (c.loop-addr.invariant.led triples claim led));
     }
 
 pub returns-clause-ok : goal.returns-clause-ok

@@ -18,7 +18,7 @@ loop-number-preserved c =
     let store : ArePlacesOfStore o.shape next.seat.places = record { sessions = its.sessions; buckets = its.buckets; overflow = its.overflow; ring = its.ring } in
     let below : n < length c.deref-point-items.result.now = omega arith in
     let sits : IsOpeningSitter o n next =
-    sits_down o n c.seen_at_opening-seen.result c.deref-point-items.result.now _ next c.seen_at_opening-seen.ensures c.deref-point-items.ensures.value below its.shape its.number store its.seen its.serial its.opened in
+    sits_down o n c.seen_at_opening-seen.result c.deref-point-items.result.now _ next c.seen_at_opening-seen.ensures c.deref-point-items.ensures.value below its.shape its.number store its.seen its.serial its.floor its.opened in
     let all : c.push.new.self.items ≡ before ++ next ∷ [] = c.in_ok-push.ensures.items in
     let many : length before ≡ n = c.loop-number.invariant.0 in
     let more : length c.push.new.self.items ≡ n + 1 = omega (arith, ap length all, length-append before (next ∷ []), many) in

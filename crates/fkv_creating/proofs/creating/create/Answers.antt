@@ -4,6 +4,7 @@ use Rattle.fkv_disk.specs.Kinds.{Kind}
 use Rattle.fkv_newest.specs.Newest.{IsNewestOf}
 use Rattle.fkv_record.specs.Layout.{shape_bytes}
 use Rattle.fkv_record.specs.Manifest.{SlotSaid, newest_bytes, said_in}
+use Rattle.fkv_record.proofs.Shown.{third_spelled}
 use Rattle.fkv_creating.specs.Created.{laid, laid_kinds, SparesRest}
 use Rattle.fkv_creating.specs.Filled.{filled, filled_kinds, IsCleared, IsShutOrFilled}
 use Rattle.fkv_creating.specs.Moments.{IsNoneOrNew}
@@ -25,7 +26,7 @@ returns-clause-ok g c = λ claim.
     c.in_ok-fill.ensures.seen (c.in_ok-clear.ensures.honest.0 claim) ∙ ap (λ s. filled s c.write_shape.result c.write_newest_slot.result) (c.in_ok-clear.ensures.seen claim) ∙ laid_is_filled old c.write_shape.result c.write_newest_slot.result
     ∙ ap (λ b. laid old b c.write_newest_slot.result) c.write_shape.ensures ∙ ap (λ s. laid old (shape_bytes c.args.shape) s) c.write_newest_slot.ensures.said in
     subst (λ image. IsNewestOf image n) (sym image_is)
-    (newest_told old n c.args.shape c.new_store-newest.ensures (ap (λ (s : List ℕ). Some s) (sym c.write_newest_slot.ensures.said) ∙ c.write_newest_slot.ensures.spelled))
+    (newest_told old n c.args.shape c.new_store-newest.ensures (third_spelled n.slot c.new_store-newest.ensures.slot.begin))
 
 pub returns-clause-long : goal.returns-clause-long
 returns-clause-long g c = λ claim.
@@ -81,7 +82,7 @@ returns-clause-moments g c = λ claim.
     let is_laid : filled (d.seen c.clear.new.d) block slot ≡ laid old (shape_bytes c.args.shape) (newest_bytes (said_in n.slot)) =
     ap (λ s. filled s block slot) seen1 ∙ laid_is_filled old block slot ∙ ap (λ b. laid old b slot) c.write_shape.ensures ∙ ap (λ s. laid old (shape_bytes c.args.shape) s) c.write_newest_slot.ensures.said in
     let told : IsNewestOf (filled (d.seen c.clear.new.d) block slot) n = subst (λ image. IsNewestOf image n) (sym is_laid)
-    (newest_told old n c.args.shape c.new_store-newest.ensures (ap (λ (s : List ℕ). Some s) (sym c.write_newest_slot.ensures.said) ∙ c.write_newest_slot.ensures.spelled)) in
+    (newest_told old n c.args.shape c.new_store-newest.ensures (third_spelled n.slot c.new_store-newest.ensures.slot.begin)) in
     let long : IsLong (filled (d.seen c.clear.new.d) block slot) n.shape n.slot = subst (λ image. IsLong image n.shape n.slot) (sym is_laid) (is_long old n c.args.shape c.new_store-newest.ensures) in
     let clear : IsCleared (d.seen c.clear.new.d) = subst IsCleared (sym seen1) (cleared_by_zeros old) in
     inl (record {
@@ -105,7 +106,7 @@ returns-in_err-fill-clause-moments g c = λ claim.
     let is_laid : filled (d.seen c.clear.new.d) block slot ≡ laid old (shape_bytes c.args.shape) (newest_bytes (said_in n.slot)) =
     ap (λ s. filled s block slot) seen1 ∙ laid_is_filled old block slot ∙ ap (λ b. laid old b slot) c.write_shape.ensures ∙ ap (λ s. laid old (shape_bytes c.args.shape) s) c.write_newest_slot.ensures.said in
     let told : IsNewestOf (filled (d.seen c.clear.new.d) block slot) n = subst (λ image. IsNewestOf image n) (sym is_laid)
-    (newest_told old n c.args.shape c.new_store-newest.ensures (ap (λ (s : List ℕ). Some s) (sym c.write_newest_slot.ensures.said) ∙ c.write_newest_slot.ensures.spelled)) in
+    (newest_told old n c.args.shape c.new_store-newest.ensures (third_spelled n.slot c.new_store-newest.ensures.slot.begin)) in
     let long : IsLong (filled (d.seen c.clear.new.d) block slot) n.shape n.slot = subst (λ image. IsLong image n.shape n.slot) (sym is_laid) (is_long old n c.args.shape c.new_store-newest.ensures) in
     let clear : IsCleared (d.seen c.clear.new.d) = subst IsCleared (sym seen1) (cleared_by_zeros old) in
     inl (record {

@@ -25,6 +25,7 @@ returns-clause-ok c = λ image told.
       tells = record {
         shape = refl;
         number = refl;
+        begin = refl;
         tail = refl;
         points = c.in_ok-points.ensures.ok;
         gate_0 = c.gates-gates.ensures.gate_0;
@@ -46,6 +47,7 @@ returns-clause-new c =
     record {
       its_shape = refl;
       number = new.slot.number;
+      begin = new.slot.begin;
       tail = new.slot.end;
       points = ap serial_numbers c.in_ok-points.ensures.ok ∙ new.slot.points;
       gate_0 = c.gates-gates.ensures.gate_0 ∙ ap is_some new.open_0;

@@ -3,7 +3,7 @@ use Rattle.std.proofs.lemmas.Nat.{from_le_bytes-to_le_bytes_8}
 use Rattle.fkv_plane.specs.declared.places.Places.{Places}
 use Rattle.fkv_flush.specs.GuardWorld.{GuardWorld, guard_run}
 use Rattle.fkv_flush.specs.Serving.{mail_place}
-use Rattle.fkv_flush.specs.GuardMail.{mail_reads}
+use Rattle.fkv_flush.specs.GuardMail.{mails_given}
 use Rattle.fkv_flush.specs.Guarded.{opening}
 use Rattle.fkv_flush.proofs.Calm.{same_stores}
 use Rattle.fkv_flush.proofs.GuardLaw.{run_sound, opening_sound}
@@ -28,9 +28,9 @@ returns-clause-ready c = λ shape places actors words start keeper events sessio
     (subst (λ (p : Places). session < p.sessions) (sym (same_stores first events).1) few)
 
 pub returns-clause-asked : goal.returns-clause-asked
-returns-clause-asked c = λ shape places actors words start keeper events actor x step o empty kept got its.
+returns-clause-asked c = λ shape places actors words start keeper events actor x begin step o empty kept got its.
     let first : GuardWorld = opening shape places actors words start in
-    finds_asked keeper (mail_reads first events) (guard_run first events).now actor x step
+    finds_asked keeper (mails_given first events) (guard_run first events).now actor x begin step
     (run_mail keeper first events (opening_sound shape places actors words start o) (opening_mail keeper shape places actors words start empty) kept) got its
 
 pub returns-clause-left : goal.returns-clause-left
@@ -38,6 +38,6 @@ unfolding guard_run
 returns-clause-left c = λ shape places actors words start keeper events event session o empty kept few.
     let first : GuardWorld = opening shape places actors words start in
     let sound = opening_sound shape places actors words start o in
-    changes_mail keeper (mail_reads first events) (guard_run first events) (run_sound first events sound)
+    changes_mail keeper (mails_given first events) (guard_run first events) (run_sound first events sound)
     (run_mail keeper first events sound (opening_mail keeper shape places actors words start empty) kept.2) event session kept.1
     (subst (λ (p : Places). session < p.sessions) (sym (same_stores first events).1) few)

@@ -1,9 +1,13 @@
 -- The law, by what holds at every moment.
+use Rattle.fkv_keeper.proofs.BeginKept.{run_begins}
 use Rattle.fkv_keeper.proofs.FewLost.{run_room, run_whole}
 use Rattle.fkv_keeper.proofs.laws.law_of_slots.Goals as goal
 
 pub returns-clause-room : goal.returns-clause-room
 returns-clause-room c = λ shape p opening events opened. run_room shape p opening events opened
+
+pub returns-clause-begins : goal.returns-clause-begins
+returns-clause-begins c = λ shape p opening events opened. run_begins shape p opening events opened
 
 pub returns-clause-whole : goal.returns-clause-whole
 returns-clause-whole c = λ shape p opening events event opened waits writes. run_whole shape p opening events event opened waits writes

@@ -30,6 +30,7 @@ returns-clause-ok c = λ image triples has scanned sound.
       tells = record {
         shape = refl;
         number = refl;
+        begin = refl;
         tail = refl;
         points = c.in_ok-points.ensures.ok;
         gate_0 = c.gates-gates.ensures.gate_0;

@@ -27,7 +27,7 @@ loop-i-preserved g c =
           let low : c.loop-i.i < length opened.entries.items = omega (arith, within, many) in
           let so_far = c.loop-i.invariant.gathered claim store in
           let stands : slice_get opened.entries.items c.loop-i.i ≡ Some e = slice_get-get_or opened.entries.items c.loop-i.i e low ∙ ap Some (sym c.index.ensures) in
-          let reads = subst (λ i. IsReadFrom i opened.shape log) (sym (quiet.same_bytes claim)) (is_read_from image opened store) in
+          let reads = subst (λ i. IsReadFrom i opened.shape opened.begin.0 log) (sym (quiet.same_bytes claim)) (is_read_from image opened store) in
           let entry = entry_here log opened.entries.items store.entries c.loop-i.i e stands in
           gathered_more log (get nat_cmp c.loop-i.values) (get nat_cmp c.gather.new.values) opened.entries.items c.loop-i.i e stands so_far
           (c.in_ok-gather.ensures.ok log (entry_home e) (quiet.premise.0 claim) reads entry so_far.newest);

@@ -13,7 +13,7 @@ returns-clause-renewed g c = λ claim some.
     let apart : Apart = record { records = spelled.records; triples = spelled.triples; shapes = spelled.shapes; slots = c.law_formats_apart.ensures } in
     subst (λ (image : List ℕ). IsRenewal c.args.shape c.args.opened.now.points.items c.args.pairs.now image) (sym (c.in_ok-fill.ensures.seen (c.in_ok-clear.ensures.honest.0 claim)))
     (renewal apart c.args.shape c.args.opened.now.points.items c.deref.result.now c.args.pairs.now c.in_ok-prepared.prepared.newest (d.seen c.args.d.now) (d.seen c.clear.new.d) c.write_shape.result c.deref-2.result.now c.in_ok-prepared.prepared.log.items c.write_newest_slot.result c.record_place-place.result
-    c.deref.ensures.value c.in_ok-prepared.ensures.newest c.deref-2.ensures.value c.in_ok-prepared.ensures.log c.in_ok-prepared.ensures.room.slots (c.in_ok-clear.ensures.seen claim) c.write_shape.ensures c.record_place-place.ensures c.write_newest_slot.ensures.said c.write_newest_slot.ensures.spelled some)
+    c.deref.ensures.value c.in_ok-prepared.ensures.newest c.deref-2.ensures.value c.in_ok-prepared.ensures.log c.in_ok-prepared.ensures.room.slots (c.in_ok-clear.ensures.seen claim) c.write_shape.ensures c.record_place-place.ensures c.write_newest_slot.ensures.said some)
 
 pub returns-clause-counted : goal.returns-clause-counted
 returns-clause-counted g c =
@@ -26,7 +26,7 @@ returns-clause-moments g c = λ claim some.
     let spelled = c.law_spellings_apart.ensures in
     let apart : Apart = record { records = spelled.records; triples = spelled.triples; shapes = spelled.shapes; slots = c.law_formats_apart.ensures } in
     inl (clears_first apart c.args.shape c.args.opened.now.points.items c.deref.result.now c.args.pairs.now c.in_ok-prepared.prepared.newest (d.seen c.args.d.now) (d.seen c.clear.new.d) c.write_shape.result c.deref-2.result.now c.in_ok-prepared.prepared.log.items c.write_newest_slot.result c.record_place-place.result
-    c.deref.ensures.value c.in_ok-prepared.ensures.newest c.deref-2.ensures.value c.in_ok-prepared.ensures.log c.in_ok-prepared.ensures.room.slots (c.in_ok-clear.ensures.seen claim) c.write_shape.ensures c.record_place-place.ensures c.write_newest_slot.ensures.said c.write_newest_slot.ensures.spelled some
+    c.deref.ensures.value c.in_ok-prepared.ensures.newest c.deref-2.ensures.value c.in_ok-prepared.ensures.log c.in_ok-prepared.ensures.room.slots (c.in_ok-clear.ensures.seen claim) c.write_shape.ensures c.record_place-place.ensures c.write_newest_slot.ensures.said some
     d.seen d.may_leave d.moment d.left_since d.refuses c.args.d.now c.clear.new.d c.fill.new.d c.in_ok-clear.ensures.counted.counted
     (record { zeros = c.in_ok-clear.ensures.seen claim; synced = c.in_ok-clear.ensures.synced claim }) (c.in_ok-clear.ensures.moments claim)
     (λ behind clear. c.in_ok-fill.ensures.moments (c.in_ok-clear.ensures.honest.0 claim) behind (c.in_ok-clear.ensures.synced claim) clear))
@@ -37,7 +37,7 @@ returns-in_err-fill-clause-moments g c = λ claim some.
     let spelled = c.law_spellings_apart.ensures in
     let apart : Apart = record { records = spelled.records; triples = spelled.triples; shapes = spelled.shapes; slots = c.law_formats_apart.ensures } in
     inl (clears_first apart c.args.shape c.args.opened.now.points.items c.deref.result.now c.args.pairs.now c.in_ok-prepared.prepared.newest (d.seen c.args.d.now) (d.seen c.clear.new.d) c.write_shape.result c.deref-2.result.now c.in_ok-prepared.prepared.log.items c.write_newest_slot.result c.record_place-place.result
-    c.deref.ensures.value c.in_ok-prepared.ensures.newest c.deref-2.ensures.value c.in_ok-prepared.ensures.log c.in_ok-prepared.ensures.room.slots (c.in_ok-clear.ensures.seen claim) c.write_shape.ensures c.record_place-place.ensures c.write_newest_slot.ensures.said c.write_newest_slot.ensures.spelled some
+    c.deref.ensures.value c.in_ok-prepared.ensures.newest c.deref-2.ensures.value c.in_ok-prepared.ensures.log c.in_ok-prepared.ensures.room.slots (c.in_ok-clear.ensures.seen claim) c.write_shape.ensures c.record_place-place.ensures c.write_newest_slot.ensures.said some
     d.seen d.may_leave d.moment d.left_since d.refuses c.args.d.now c.clear.new.d c.fill.new.d c.in_ok-clear.ensures.counted.counted
     (record { zeros = c.in_ok-clear.ensures.seen claim; synced = c.in_ok-clear.ensures.synced claim }) (c.in_ok-clear.ensures.moments claim)
     (λ behind clear. c.in_err-fill.ensures.moments (c.in_ok-clear.ensures.honest.0 claim) behind (c.in_ok-clear.ensures.synced claim) clear))

@@ -4,4 +4,4 @@ use Rattle.fkv_scan.proofs.Leading.{AreLedHomes}
 use Rattle.fkv_scan.proofs.scans.led_homes.Given as goal
 
 abbrev pub invariant-loop-i : goal.invariant-loop-i
-invariant-loop-i l = AreLedHomes l.triples l.start.0 l.i (get nat_cmp l.homes)
+invariant-loop-i l = AreLedHomes l.triples l.slot.begin.0 l.slot.first.0 l.i (get nat_cmp l.homes)

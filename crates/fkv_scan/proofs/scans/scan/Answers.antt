@@ -14,7 +14,7 @@ returns-in-Err-clause-err g c =
     let log = log_in old c.args.shape c.args.slot.now c.args.triples.now in
     refused_after (g.D.Device.failed c.args.d.now) (g.D.Device.failed c.args.d.now) (g.D.Device.failed c.meet_all.new.d) (omega arith) (g.D.Device.honest c.args.d.now)
     (g.D.Device.honest c.args.d.now × KnowsAll log c.args.slot.now.first.0 (get nat_cmp c.in_ok-homes.homes)) log log c.in-Err.fault
-    (λ claim. ((claim, c.in_ok-homes.ensures.ok old c.args.shape c.args.slot.now refl), refl)) (c.in-Err.ensures.err c.args.triples.now)
+    (λ claim. ((claim, c.in_ok-homes.ensures.ok old c.args.shape), refl)) (c.in-Err.ensures.err c.args.triples.now)
 
 pub returns-in-Err-check_led-clause-err : goal.returns-in-Err-check_led-clause-err
 returns-in-Err-check_led-clause-err g c =
@@ -27,7 +27,7 @@ returns-in-Err-check_led-clause-err g c =
     (g.D.Device.honest c.meet_all.new.d × IsScannedTo log_mid c.args.slot.now.end.0) log log_mid c.in-Err-check_led.fault
     (λ claim.
     let same : log_mid ≡ log = ap (λ image. log_in image c.args.shape c.args.slot.now c.args.triples.now) (quiet.same_bytes claim) in
-    let met = c.in-Ok.ensures.ok c.args.triples.now claim (c.in_ok-homes.ensures.ok old c.args.shape c.args.slot.now refl) in
+    let met = c.in-Ok.ensures.ok c.args.triples.now claim (c.in_ok-homes.ensures.ok old c.args.shape) in
     ((quiet.premise.0 claim, subst (λ l. IsScannedTo l c.args.slot.now.end.0) (sym same) met.0), same)) c.in-Err-check_led.ensures.err
 
 pub returns-clause-ok : goal.returns-clause-ok
@@ -38,7 +38,7 @@ returns-clause-ok g c = λ claim.
     let log_mid = log_in mid c.args.shape c.args.slot.now c.args.triples.now in
     let quiet = c.in-Ok.ensures.quiet in
     let same : log_mid ≡ log = ap (λ image. log_in image c.args.shape c.args.slot.now c.args.triples.now) (quiet.same_bytes claim) in
-    let met = c.in-Ok.ensures.ok c.args.triples.now claim (c.in_ok-homes.ensures.ok old c.args.shape c.args.slot.now refl) in
+    let met = c.in-Ok.ensures.ok c.args.triples.now claim (c.in_ok-homes.ensures.ok old c.args.shape) in
     are_scanned log c.requires.in_log met.0 (subst (λ l. AreLed l (length c.args.triples.now)) same (c.in_default.ensures.ok (quiet.premise.0 claim)))
     (record { homes = c.meet_all.new.homes; newer = c.in-Ok.newer }) met.1 (c.in-Ok.ensures.newer c.args.triples.now claim)
 

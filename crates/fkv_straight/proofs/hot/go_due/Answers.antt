@@ -62,18 +62,18 @@ returns-in-Lost-clause-ended g c =
     let goes : Goes its k c.args.op c.args.going.now = goes_alike c.args.machine.now.seat k c.args.machine.now.state left.start c.args.op c.args.going.now c.requires.may c.requires.seat left.alike in
     waiting_ended k c.args.machine.now c.wait-in-Lost.new.machine left.start (g.L.Line.stands c.args.line.now) c.args.op c.args.going.now c.wait-in-Lost.result goes due.0 left.alike c.wait-in-Lost.ensures.waits c.wait-in-Lost.ensures.unbounded due.1
 
-pub ask_for-requires-clause-at : goal.ask_for-requires-clause-at
-ask_for-requires-clause-at g c =
+pub go_below-requires-clause-at : goal.go_below-requires-clause-at
+go_below-requires-clause-at g c =
     let left = c.requires.left in
     let its = course_of (g.L.Line.seat c.args.line.now) left.start c.args.op (call.Op c.args.op) in
     let due = subst (λ (d : Due). IsDue its d (g.L.Line.stands c.args.line.now)) c.in-OnDisk.is left.due in
     (left.start, left.alike, due.1)
 
-pub ask_for-requires-clause-room : goal.ask_for-requires-clause-room
-ask_for-requires-clause-room g c = subst (λ (d : Due). HasRoom d (g.L.Line.kept c.args.line.now)) c.in-OnDisk.is c.requires.left.room
+pub go_below-requires-clause-room : goal.go_below-requires-clause-room
+go_below-requires-clause-room g c = subst (λ (d : Due). HasRoom d (g.L.Line.kept c.args.line.now)) c.in-OnDisk.is c.requires.left.room
 
-pub ask_for-requires-clause-reads : goal.ask_for-requires-clause-reads
-ask_for-requires-clause-reads g c =
+pub go_below-requires-clause-reads : goal.go_below-requires-clause-reads
+go_below-requires-clause-reads g c =
     let left = c.requires.left in
     let its = course_of (g.L.Line.seat c.args.line.now) left.start c.args.op (call.Op c.args.op) in
     let due = subst (λ (d : Due). IsDue its d (g.L.Line.stands c.args.line.now)) c.in-OnDisk.is left.due in

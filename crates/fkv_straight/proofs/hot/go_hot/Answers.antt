@@ -13,7 +13,7 @@ use Rattle.fkv_straight.specs.declared.searching.Met.{Met}
 use Rattle.fkv_straight.specs.Course.{course_of, Goes}
 use Rattle.fkv_straight.specs.Hot.{HasLeft}
 use Rattle.fkv_straight.specs.declared.hot.Due.TheVariants.{Met as HasMetThis}
-use Rattle.fkv_straight.specs.Mailbox.{IsSought}
+use Rattle.fkv_straight.specs.Mailbox.{IsAway}
 use Rattle.fkv_straight.specs.Met.{HasMet}
 use Rattle.fkv_straight.specs.Standing.{IsEnded}
 use Rattle.fkv_straight.proofs.Endings.{read_asks, read_caught_up}
@@ -54,7 +54,7 @@ returns-in-Err-clause-left g c =
     let its = course_of k s c.args.op (call.Op c.args.op) in
     let u = g.L.Line.stands c.search-met.new.line in
     let v = g.L.Line.stands c.tell-told.new.line in
-    let sought : IsSought its c.in-Err.sought v = err_of (λ (x : DiskRecord). IsSought its x v) c.tell-told.result c.in-Err.sought c.in-Err.is
+    let sought : IsAway its c.in-Err.sought v = err_of (λ (x : DiskRecord). IsAway its x v) c.tell-told.result c.in-Err.sought c.in-Err.is
     (c.tell-told.ensures.left its (some_of (λ (m : Met). HasMet its m u) c.search-met.result c.in-Some.its c.in-Some.is c.search-met.ensures.met)) in
     let reads : is_read c.args.op ≡ true = search rules in
     (refl, record { start = s; alike = c.requires.alike; due = (reads, sought); room = err_of (λ (x : DiskRecord). g.L.Line.kept c.tell-told.new.line ≤ 48) c.tell-told.result c.in-Err.sought c.in-Err.is c.tell-told.ensures.kept })

@@ -6,7 +6,7 @@ use Rattle.fkv_plane.specs.Places.{session_place}
 use Rattle.fkv_session.specs.Sessions.{Sitter}
 use Rattle.fkv_straight.proofs.Endings.{read_asks}
 use Rattle.fkv_straight.proofs.Mailboxes.{address_on_asks, address_on_stored, asked_on_asks, asked_on_stored}
-use Rattle.fkv_straight.proofs.Readers.{on_by, on_caught_up}
+use Rattle.fkv_straight.proofs.Readers.{look_alike, on_by, on_caught_up}
 use Rattle.fkv_straight.proofs.Refreshes.{asks_here, leads_here}
 use Rattle.fkv_straight.proofs.mailbox.ask_on.Goals as goal
 
@@ -41,7 +41,7 @@ returns-clause-told g c =
     let v = g.L.Line.stands c.store.new.self in
     let w = g.L.Line.stands c.store-2.new.self in
     let stored = address_on_stored k s u v p c.args.before c.store.result c.requires.at.2 c.store.ensures.next in
-    read_asks k w _ _ (asked_on_stored k s v w p c.args.before c.store-2.result stored (leads_here k (g.L.Line.seat c.store.new.self) v w c.store-2.result c.store.ensures.seat c.store-2.ensures.next))
+    read_asks k w _ _ (asked_on_stored k s v w p c.args.before c.store-2.result (look_alike c.args.machine.now.state s c.args.its c.requires.at.1 c.requires.may).floor stored (leads_here k (g.L.Line.seat c.store.new.self) v w c.store-2.result c.store.ensures.seat c.store-2.ensures.next))
 
 pub returns-clause-caught_up : goal.returns-clause-caught_up
 returns-clause-caught_up g c =
@@ -53,4 +53,4 @@ returns-clause-caught_up g c =
     let w = g.L.Line.stands c.store-2.new.self in
     let stored = address_on_stored k s u v p c.args.before c.store.result c.requires.at.2 c.store.ensures.next in
     on_caught_up c.args.machine.now.state c.take_polled_on.new.self.state s w c.args.its c.args.before c.requires.at.1 c.requires.may (ap (λ (x : Sitter). x.state) c.take_polled_on.ensures)
-    (asked_on_stored k s v w p c.args.before c.store-2.result stored (leads_here k (g.L.Line.seat c.store.new.self) v w c.store-2.result c.store.ensures.seat c.store-2.ensures.next))
+    (asked_on_stored k s v w p c.args.before c.store-2.result (look_alike c.args.machine.now.state s c.args.its c.requires.at.1 c.requires.may).floor stored (leads_here k (g.L.Line.seat c.store.new.self) v w c.store-2.result c.store.ensures.seat c.store-2.ensures.next))

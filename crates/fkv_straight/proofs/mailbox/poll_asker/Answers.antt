@@ -34,7 +34,7 @@ returns-then-state-ne-READY-clause-ended g c =
     let m = c.args.machine.now in
     let n = c.take_unpolled.new.self in
     let may = look_alike m.state s its c.requires.alike c.requires.may in
-    let ended = found_none k s (begins k s call.Poll) u its.pending its.sought c.first-state.result (seeks_so m.state its c.requires.may) (looks_begun k s its.pending may.awake may.no_orphan may.waits may.has_asked) c.first-state.ensures.next c.if-state-ne-READY.true in
+    let ended = found_none k s (begins k s call.Poll) u its.pending its.sought c.first-state.result (seeks_so s its may) (looks_begun k s its.pending may.awake may.no_orphan may.waits may.has_asked) c.first-state.ensures.next c.if-state-ne-READY.true in
     (read_asks k u _ _ ended, none_caught_up m.state n.state s u its c.requires.alike c.requires.may (ap (λ (x : Sitter). x.state) c.take_unpolled.ensures) ended)
 
 pub take_record-taken-requires-clause-at : goal.take_record-taken-requires-clause-at

@@ -7,7 +7,7 @@ use Rattle.fkv_session.specs.declared.answers.Told.{Told}
 use Rattle.fkv_session.specs.Sessions.{Seat}
 use Rattle.fkv_straight.specs.declared.searching.Met.{Met}
 use Rattle.fkv_straight.specs.Course.{course_of, Goes}
-use Rattle.fkv_straight.specs.Mailbox.{IsSought}
+use Rattle.fkv_straight.specs.Mailbox.{IsAway}
 use Rattle.fkv_straight.specs.Met.{HasMet}
 use Rattle.fkv_straight.specs.Standing.{IsEnded}
 use Rattle.fkv_straight.proofs.Endings.{read_asks, read_caught_up}
@@ -51,13 +51,13 @@ returns-in-Ok-clause-ended g c =
     (some_of (λ (m : Met). HasMet its m u) c.search-met.result c.in-Some.its c.in-Some.is c.search-met.ensures.met)) in
     (read_asks k v l c.in-Ok.answer ended, read_caught_up c.args.machine.now.state v l c.in-Ok.answer c.requires.alike ended)
 
-pub ask_for-requires-clause-at : goal.ask_for-requires-clause-at
-ask_for-requires-clause-at g c =
+pub go_below-requires-clause-at : goal.go_below-requires-clause-at
+go_below-requires-clause-at g c =
     let k = g.L.Line.seat c.args.line.now in
     let s = g.L.Line.stands c.args.line.now in
     let its = course_of k s c.args.op (call.Op c.args.op) in
     let u = g.L.Line.stands c.search-met.new.line in
     let v = g.L.Line.stands c.tell-told.new.line in
-    let sought : IsSought its c.in-Err.sought v = err_of (λ (x : DiskRecord). IsSought its x v) c.tell-told.result c.in-Err.sought c.in-Err.is
+    let sought : IsAway its c.in-Err.sought v = err_of (λ (x : DiskRecord). IsAway its x v) c.tell-told.result c.in-Err.sought c.in-Err.is
     (c.tell-told.ensures.left its (some_of (λ (m : Met). HasMet its m u) c.search-met.result c.in-Some.its c.in-Some.is c.search-met.ensures.met)) in
-    (s, c.requires.alike, subst (λ (x : Seat). IsSought (course_of x s c.args.op (call.Op c.args.op)) c.in-Err.sought v) (sym (c.tell-told.ensures.seat ∙ c.search-met.ensures.seat)) sought)
+    (s, c.requires.alike, subst (λ (x : Seat). IsAway (course_of x s c.args.op (call.Op c.args.op)) c.in-Err.sought v) (sym (c.tell-told.ensures.seat ∙ c.search-met.ensures.seat)) sought)

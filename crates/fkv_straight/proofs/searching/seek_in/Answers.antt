@@ -20,8 +20,8 @@ returns-in-Here-clause-found g c = λ its is course goes has.
     let there = ends_here course k c.args.op c.args.going.now c.args.tag c.args.base (c.args.going.now.places.overflow - c.args.passed) c.slots.slot c.slots.word s goes c.requires.tag (owns course k c.args.op c.args.going.now c.args.passed c.slots.word goes (sym c.is_counted-counted.ensures ∙ c.if-counted.false)) (c.slots.invariant.stands course goes has) (c.judge-judged.ensures.here c.in-Here.is) in
     subst (λ (x : Slot). IsReached course x.place x.entry (entry_addr x.entry) s) (ap (λ (x : Sought). slot_in x its) is) there
 
-pub load-word-requires-clause-asked : goal.load-word-requires-clause-asked
-load-word-requires-clause-asked g c =
+pub load_past-word-requires-clause-asked : goal.load_past-word-requires-clause-asked
+load_past-word-requires-clause-asked g c =
     let k = g.L.Line.seat c.args.line.now in
     let its = c.requires.at.0 in
     let goes = c.requires.at.1 in
@@ -37,13 +37,13 @@ slots-preserved g c =
     let now = g.L.Line.stands c.slots.line in
     let links = c.args.going.now.places.overflow - c.args.passed in
     record {
-      seat = c.load-word.ensures.seat ∙ c.slots.invariant.seat;
-      led = λ start call led. c.load-word.ensures.led start call (c.slots.invariant.led start call led);
-      kept = (let e = c.load-word.ensures.kept in let i = c.slots.invariant.kept in omega (arith, e, i));
+      seat = c.load_past-word.ensures.seat ∙ c.slots.invariant.seat;
+      led = λ start call led. c.load_past-word.ensures.led start call (c.slots.invariant.led start call led);
+      kept = (let e = c.load_past-word.ensures.kept in let i = c.slots.invariant.kept in omega (arith, e, i));
       stands = λ its goes has.
           let at = other_passed its k c.args.op c.args.going.now c.args.tag c.args.base links c.slots.slot c.slots.word now goes c.requires.tag (c.slots.invariant.stands its goes has) (c.judge-judged.ensures.other c.in-Other.is) (let h = c.slots-test.true in omega (arith, h)) in
-          slot_comes its c.args.base links (c.slots.slot + 1) c.load-word.result now (g.L.Line.stands c.load-word.new.self) at
-          (leads_on its k c.args.op c.args.going.now (g.L.Line.seat c.slots.line) now (g.L.Line.stands c.load-word.new.self) c.load-word.result goes c.slots.invariant.seat c.load-word.ensures.next);
+          slot_comes its c.args.base links (c.slots.slot + 1) c.load_past-word.result now (g.L.Line.stands c.load_past-word.new.self) at
+          (leads_on its k c.args.op c.args.going.now (g.L.Line.seat c.slots.line) now (g.L.Line.stands c.load_past-word.new.self) c.load_past-word.result goes c.slots.invariant.seat c.load_past-word.ensures.next);
     }
 
 pub returns-else-counted-2-clause-found : goal.returns-else-counted-2-clause-found

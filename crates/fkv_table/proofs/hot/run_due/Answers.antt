@@ -14,7 +14,7 @@ use Rattle.fkv_table.proofs.hot.run_due.Goals as goal
 
 pub go_on-seat-requires : goal.go_on-seat-requires
 go_on-seat-requires g c =
-    let at = opening_of g.D.Device.seen in let m = c.args.machine.now in let key = c.args.words.now.key in let table = c.args.words.now.table_id in let its = call.Op c.args.over.now.op in
+    let at = opening_of g.D.Device.seen in let m = c.args.machine.now in let key = c.args.words.now.key in let table = c.args.words.now.table_id in let its = call.Op c.args.aside.now.over.op in
     let first = c.requires.left.0 in let b = c.requires.left.1 in
     let start = line_of key table first.me m c.args.desk [] in let now = c.run_due-ended.new.line in
     let went : HasLed at start its now = c.run_due-ended.ensures.led start its (subst (λ z. HasLed at start its z) (sym c.resume-line.ensures.value) b.led) in
@@ -31,45 +31,45 @@ go_on-seat-requires g c =
 
 pub returns-in-Some-clause-ready : goal.returns-in-Some-clause-ready
 returns-in-Some-clause-ready g c =
-    let at = opening_of g.D.Device.seen in let m = c.args.machine.now in let key = c.args.words.now.key in let table = c.args.words.now.table_id in let its = call.Op c.args.over.now.op in
+    let at = opening_of g.D.Device.seen in let m = c.args.machine.now in let key = c.args.words.now.key in let table = c.args.words.now.table_id in let its = call.Op c.args.aside.now.over.op in
     let first = c.requires.left.0 in let b = c.requires.left.1 in
     let start = line_of key table first.me m c.args.desk [] in let now = c.run_due-ended.new.line in
     let went : HasLed at start its now = c.run_due-ended.ensures.led start its (subst (λ z. HasLed at start its z) (sym c.resume-line.ensures.value) b.led) in
     let did = subst (λ o. IfSome o (λ told. (Done told ≡ session_ask c.resume-line.result.machine.seat (stands at now)) × IsCaughtUp c.run_due-ended.new.self.state (stands at now))) c.in-Some.is c.run_due-ended.ensures.ended in
     let is = did.0 ∙ ap (λ z. session_ask z.machine.seat (stands at now)) c.resume-line.ensures.value in
-    let end = c.into_seat.ensures in
+    let end = c.into_seat-seat.ensures in
     let gone = gone_over at key table first.seat first.me m c.args.desk b.ready its now went end.along c.run_due-ended.new.self c.run_due-ended.ensures.machine did.1 (Done c.in-Some.told) is
-    c.in-Some.told refl c.into_seat.result.table_id end.table c.into_seat.result.me end.me in
+    c.in-Some.told refl c.into_seat-seat.result.table_id end.table c.into_seat-seat.result.me end.me in
     gone.its_ready
 
 pub returns-in-Some-clause-called : goal.returns-in-Some-clause-called
 returns-in-Some-clause-called g c = λ first b.
-    let at = opening_of g.D.Device.seen in let m = c.args.machine.now in let key = c.args.words.now.key in let table = c.args.words.now.table_id in let its = call.Op c.args.over.now.op in
+    let at = opening_of g.D.Device.seen in let m = c.args.machine.now in let key = c.args.words.now.key in let table = c.args.words.now.table_id in let its = call.Op c.args.aside.now.over.op in
     let start = line_of key table first.me m c.args.desk [] in let now = c.run_due-ended.new.line in
     let went : HasLed at start its now = c.run_due-ended.ensures.led start its (subst (λ z. HasLed at start its z) (sym c.resume-line.ensures.value) b.led) in
     let did = subst (λ o. IfSome o (λ told. (Done told ≡ session_ask c.resume-line.result.machine.seat (stands at now)) × IsCaughtUp c.run_due-ended.new.self.state (stands at now))) c.in-Some.is c.run_due-ended.ensures.ended in
     let is = did.0 ∙ ap (λ z. session_ask z.machine.seat (stands at now)) c.resume-line.ensures.value in
-    let end = c.into_seat.ensures in
+    let end = c.into_seat-seat.ensures in
     let gone = gone_over at key table first.seat first.me m c.args.desk b.ready its now went end.along c.run_due-ended.new.self c.run_due-ended.ensures.machine did.1 (Done c.in-Some.told) is
-    c.in-Some.told refl c.into_seat.result.table_id end.table c.into_seat.result.me end.me in
+    c.in-Some.told refl c.into_seat-seat.result.table_id end.table c.into_seat-seat.result.me end.me in
     gone.its_called
 
 pub returns-in-Some-clause-told : goal.returns-in-Some-clause-told
 returns-in-Some-clause-told g c =
-    let at = opening_of g.D.Device.seen in let m = c.args.machine.now in let key = c.args.words.now.key in let table = c.args.words.now.table_id in let its = call.Op c.args.over.now.op in
+    let at = opening_of g.D.Device.seen in let m = c.args.machine.now in let key = c.args.words.now.key in let table = c.args.words.now.table_id in let its = call.Op c.args.aside.now.over.op in
     let first = c.requires.left.0 in let b = c.requires.left.1 in
     let start = line_of key table first.me m c.args.desk [] in let now = c.run_due-ended.new.line in
     let went : HasLed at start its now = c.run_due-ended.ensures.led start its (subst (λ z. HasLed at start its z) (sym c.resume-line.ensures.value) b.led) in
     let did = subst (λ o. IfSome o (λ told. (Done told ≡ session_ask c.resume-line.result.machine.seat (stands at now)) × IsCaughtUp c.run_due-ended.new.self.state (stands at now))) c.in-Some.is c.run_due-ended.ensures.ended in
     let is = did.0 ∙ ap (λ z. session_ask z.machine.seat (stands at now)) c.resume-line.ensures.value in
-    let end = c.into_seat.ensures in
+    let end = c.into_seat-seat.ensures in
     let gone = gone_over at key table first.seat first.me m c.args.desk b.ready its now went end.along c.run_due-ended.new.self c.run_due-ended.ensures.machine did.1 (Done c.in-Some.told) is
-    c.in-Some.told refl c.into_seat.result.table_id end.table c.into_seat.result.me end.me in
+    c.in-Some.told refl c.into_seat-seat.result.table_id end.table c.into_seat-seat.result.me end.me in
     gone.its_told
 
 pub returns-in-None-clause-called : goal.returns-in-None-clause-called
 returns-in-None-clause-called g c = λ first b.
-    let at = opening_of g.D.Device.seen in let m = c.args.machine.now in let key = c.args.words.now.key in let table = c.args.words.now.table_id in let its = call.Op c.args.over.now.op in
+    let at = opening_of g.D.Device.seen in let m = c.args.machine.now in let key = c.args.words.now.key in let table = c.args.words.now.table_id in let its = call.Op c.args.aside.now.over.op in
     let start = line_of key table first.me m c.args.desk [] in let now = c.run_due-ended.new.line in
     let went : HasLed at start its now = c.run_due-ended.ensures.led start its (subst (λ z. HasLed at start its z) (sym c.resume-line.ensures.value) b.led) in
     let same : c.run_due-ended.new.self ≡ m = subst (λ o. IfNone o (c.run_due-ended.new.self ≡ m)) c.in-None.is c.run_due-ended.ensures.stopped in

@@ -14,7 +14,7 @@ loop-addr-init g c = record {
   reads = no_read g.D.Device.refuses g.D.Device.expects c.args.d.now;
   up = omega arith;
   many = omega (arith, ap length c.new-words.ensures.items);
-  so_far = λ claim. c.new-words.ensures.items ∙ sym (records_none (g.D.Device.seen c.args.d.now) c.args.shape c.args.number.0 c.args.first.0);
+  so_far = λ claim. c.new-words.ensures.items ∙ sym (records_none (g.D.Device.seen c.args.d.now) c.args.shape c.args.begin.0 c.args.number.0 c.args.first.0);
 }
 
 pub loop-addr-preserved : goal.loop-addr-preserved
@@ -27,16 +27,16 @@ loop-addr-preserved g c =
       quiet = quiet_on g.D.Device.honest g.D.Device.seen g.D.Device.may_leave g.D.Device.moment g.D.Device.left_since g.D.Device.failed c.args.d.now c.loop-addr.d c.record_bytes.new.d quiet c.in_ok-bytes.ensures.quiet;
       reads = more_reads g.D.Device.refuses g.D.Device.expects c.args.d.now c.loop-addr.d c.record_bytes.new.d c.loop-addr.invariant.reads c.in_ok-bytes.ensures.reads;
       up = omega (arith, up);
-      many = (let more = ap length pushed ∙ length-append c.loop-addr.words.items (record_words c.in_ok-bytes.bytes c.args.number.0) in omega (arith, more, before, up));
+      many = (let more = ap length pushed ∙ length-append c.loop-addr.words.items (record_words c.in_ok-bytes.bytes c.args.begin.0 c.args.number.0) in omega (arith, more, before, up));
       so_far = λ claim.
           let image = g.D.Device.seen c.args.d.now in
           let at = c.loop-addr.addr in
           let bytes : c.in_ok-bytes.bytes ≡ bytes_at image (record_place c.args.shape at) 24 =
           c.in_ok-bytes.ensures.ok (quiet.premise.0 claim) ∙ ap (λ (read : List ℕ). bytes_at read (record_place c.args.shape at) 24) (quiet.same_bytes claim) in
           pushed
-          ∙ (ap (λ (words : List ℕ). words ++ record_words c.in_ok-bytes.bytes c.args.number.0) (c.loop-addr.invariant.so_far claim)
-          ∙ (ap (λ (read : List ℕ). records_from image c.args.shape c.args.number.0 c.args.first.0 (at - c.args.first.0) ++ record_words read c.args.number.0) bytes
-          ∙ records_more image c.args.shape c.args.number.0 c.args.first.0 at up));
+          ∙ (ap (λ (words : List ℕ). words ++ record_words c.in_ok-bytes.bytes c.args.begin.0 c.args.number.0) (c.loop-addr.invariant.so_far claim)
+          ∙ (ap (λ (read : List ℕ). records_from image c.args.shape c.args.begin.0 c.args.number.0 c.args.first.0 (at - c.args.first.0) ++ record_words read c.args.begin.0 c.args.number.0) bytes
+          ∙ records_more image c.args.shape c.args.begin.0 c.args.number.0 c.args.first.0 at up));
     }
 
 pub returns-in_err-bytes-clause-reads : goal.returns-in_err-bytes-clause-reads

@@ -10,5 +10,5 @@ invariant-loop-addr g l = record {
   reads : OnlyReads g.D.Device.refuses g.D.Device.expects l.fn.d l.d;
   up : l.fn.first.0 ≤ l.addr;
   many : length l.words.items ≡ 3 * (l.addr - l.fn.first.0);
-  so_far : g.D.Device.honest l.fn.d → l.words.items ≡ records_from (g.D.Device.seen l.fn.d) l.shape l.number.0 l.fn.first.0 (l.addr - l.fn.first.0);
+  so_far : g.D.Device.honest l.fn.d → l.words.items ≡ records_from (g.D.Device.seen l.fn.d) l.shape l.begin.0 l.number.0 l.fn.first.0 (l.addr - l.fn.first.0);
 }

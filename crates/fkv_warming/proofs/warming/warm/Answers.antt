@@ -2,7 +2,7 @@
 use Rattle.std.proofs.Common.{ℕ, ◌-◌, ◌∙◌, ap, arith}
 use Rattle.fkv_opening.proofs.Shown.{log_short}
 use Rattle.fkv_warming.specs.Records.{records_from}
-use Rattle.fkv_warming.proofs.From.{from_in_log, from_in_ring, from_some}
+use Rattle.fkv_warming.proofs.From.{from_begin, from_in_log, from_in_ring, from_some}
 use Rattle.fkv_warming.proofs.Words.{is_warm}
 use Rattle.fkv_warming.proofs.warming.warm.Goals as goal
 
@@ -14,6 +14,9 @@ records_from-requires-clause-end g c = log_short c.args.opened.shape c.args.open
 
 pub invariant_of-result-clause-some_warm : goal.invariant_of-result-clause-some_warm
 invariant_of-result-clause-some_warm g c = let first = c.first_warm-first.ensures in let some = from_some c.args.opened c.args.most in omega (arith, first, some)
+
+pub invariant_of-result-clause-warm_from_begin : goal.invariant_of-result-clause-warm_from_begin
+invariant_of-result-clause-warm_from_begin g c = let first = c.first_warm-first.ensures in let begin = from_begin c.args.opened c.args.most in omega (arith, first, begin)
 
 pub invariant_of-result-clause-warm_in_log : goal.invariant_of-result-clause-warm_in_log
 invariant_of-result-clause-warm_in_log g c = let first = c.first_warm-first.ensures in let low = from_in_log c.args.opened c.args.most in omega (arith, first, low)
@@ -30,6 +33,7 @@ returns-clause-ok g c = λ claim store. record {
   tells = record {
     shape = store.tells.shape;
     number = store.tells.number;
+    begin = store.tells.begin;
     tail = store.tells.tail;
     points = store.tells.points;
     gate_0 = store.tells.gate_0;
@@ -42,5 +46,5 @@ returns-clause-ok g c = λ claim store. record {
   entries = store.entries;
   lost = store.lost;
   warm = is_warm (g.D.Device.seen c.args.d.now) _
-      (c.in_ok-words.ensures.ok claim ∙ (let first = c.first_warm-first.result in ap (λ (v : ℕ). records_from (g.D.Device.seen c.args.d.now) c.args.opened.shape v first.0 (c.args.opened.tail.0 - first.0)) c.mark-version.ensures.mark));
+      (c.in_ok-words.ensures.ok claim ∙ (let first = c.first_warm-first.result in ap (λ (v : ℕ). records_from (g.D.Device.seen c.args.d.now) c.args.opened.shape c.args.opened.begin.0 v first.0 (c.args.opened.tail.0 - first.0)) c.mark-version.ensures.mark));
 }

@@ -1,7 +1,7 @@
 -- The law, by the rows of walks.
 use Rattle.law_log.proofs.Shown.{run_held, log_steps}
 use Rattle.law_log.specs.Ghosts.{ghost_run, log_after}
-use Rattle.law_local.proofs.OfTries.Tells.{walk_begins}
+use Rattle.law_local.proofs.OfTries.WalkBegins.{walk_begins}
 use Rattle.law_local.proofs.OfTries.WalkRows.{walk_grows, walk_leads, walk_tells}
 use Rattle.law_local.proofs.tries.law_walk_rows.Goals as goal
 

@@ -13,6 +13,8 @@ use Rattle.fkv_map.specs.Fits.{NumberFits}
 use Rattle.law_refine.specs.Below.fkv_ops.HeaderWords.{header_said}
 use Rattle.law_refine.specs.Below.fkv_pending.MailRecord.{MailRecord}
 use Rattle.fkv_plane.specs.declared.places.RecordWord.TheVariants as rec
+use Rattle.fkv_record.proofs.Shown.{from_below, from_lower, from_on}
+use Rattle.fkv_record.specs.Begin.{from_or_none}
 use Rattle.fkv_record.specs.Places as image
 use Rattle.law_refine.proofs.Below.fkv_world.Shown.{shape_stays}
 use Rattle.law_refine.specs.Below.fkv_world.Runs.{World, run}
@@ -21,12 +23,12 @@ use Rattle.law_opening.proofs.OfChanges.Life.{life_holds}
 use Rattle.law_opening.proofs.OfChanges.LifeEvents.{life_low}
 use Rattle.law_opening.proofs.OfChanges.LifeLogs.{life_linked}
 use Rattle.law_opening.proofs.OfChanges.OfDevice.Bytes.{further, range_same, reads_same, same_further}
-use Rattle.law_opening.proofs.OfChanges.OfDevice.Words.{WordsLaw, header_fits, read_back, value_fits}
+use Rattle.law_opening.proofs.OfChanges.OfDevice.Words.{WordsLaw, has_header, header_fits, read_back, value_fits}
 use Rattle.law_opening.proofs.OfChanges.OfFits.Logs.{LogOk, LoggedOk}
 use Rattle.law_opening.proofs.OfChanges.OfFits.Rows.{IsLedThere, IsThere, RecordOk, SaysThere}
 use Rattle.law_opening.specs.Changes.Fits.{CellFits}
 use Rattle.law_opening.specs.Changes.Images.{IsInImage}
-use Rattle.law_opening.specs.Changes.Laws.{BeginsFitting, BeginsLinked}
+use Rattle.law_opening.specs.Changes.Laws.{BeginsFitting, BeginsLinked, begin_at}
 use Rattle.law_opening.specs.Changes.Linked.{IsLed}
 use Rattle.law_refine.proofs.Below.law_world.OfGuarded.Flushed.{life_synced}
 use Rattle.law_refine.specs.Below.law_world.Guarded.GuardEvents as guarded
@@ -66,10 +68,10 @@ synced law opening start events bytes store permitted =
 
 -- ---- since the opening
 since_there : CallsLaw → (opening : World) (start : ℕ) (events : List Event) (a : ℕ) (cell : Cell) → IsOpenedStore opening start → ArePermitted opening events → start ≤ a → a < (levels_of (run opening events).now.words).flushed
-    → ShowsCell (stands_in opening start events a) cell → IsInImage opening.now.shape (read_then opening events) a cell
+    → ShowsCell (stands_in opening start events a) cell → IsInImage (begin_at opening.now) opening.now.shape (read_then opening events) a cell
 since_there law opening start events a cell store permitted from to shows = record {
   words = stands_in opening start events a;
-  leads = record { version = record { 0 = mark cell.version }; says = shows.header };
+  leads = record { said = record { 0 = cell.previous }; version = record { 0 = mark cell.version }; says = shows.header; same = refl };
   key = shows.key;
   value = shows.value;
   there = (synced law opening start events opening.past.opened store permitted).records (read_then opening events) (inl (itself opening.past.opened (run opening events).past.calls)) a from to;
@@ -101,7 +103,7 @@ range_there law opening start events a store permitted low =
     ∙ same_further bytes end i))
 
 before_there : CallsLaw → (opening : World) (start : ℕ) (events : List Event) (a : ℕ) (cell : Cell) → IsOpenedStore opening start → ArePermitted opening events → a < start
-    → IsInImage opening.now.shape opening.past.opened a cell → IsInImage opening.now.shape (read_then opening events) a cell
+    → IsInImage (begin_at opening.now) opening.now.shape opening.past.opened a cell → IsInImage (begin_at opening.now) opening.now.shape (read_then opening events) a cell
 before_there law opening start events a cell store permitted low was = record {
   words = was.words;
   leads = was.leads;
@@ -115,10 +117,13 @@ module _ (opening : World) (start : ℕ) (lists : ℕ → List ℕ) (ghosts : Gh
   abbrev L : Log
   L = (life_ghosts opening ghosts events).log
 
+  abbrev B : ℕ
+  B = begin_at opening.now
+
   abbrev flushed_then : ℕ
   flushed_then = (levels_of (run opening events).now.words).flushed
 
-  pub device_there : CallsLaw → (a : ℕ) (cell : Cell) → L.cells a ≡ Published cell → a < flushed_then → IsInImage opening.now.shape (read_then opening events) a cell
+  pub device_there : CallsLaw → (a : ℕ) (cell : Cell) → L.cells a ≡ Published cell → a < flushed_then → IsInImage (begin_at opening.now) opening.now.shape (read_then opening events) a cell
   device_there law a cell e to =
       let linked : BeginsLinked opening start lists ghosts = begins.linked in
       let published = (life_holds opening start lists ghosts events linked).published in
@@ -149,9 +154,12 @@ module _ (opening : World) (start : ℕ) (lists : ℕ → List ℕ) (ghosts : Gh
   old_below previous (inl none) = inl none
   old_below previous (inr there) = inr (let low = born_below previous there in let most = start_flushed in omega (arith, low, most))
 
-  led_below : (previous : ℕ) → IsLed L previous → (previous ≡ 0) ⊎ (previous < flushed_then) → IsLedThere L flushed_then previous
-  led_below previous (inl none) small = inl none
-  led_below previous (inr there) (inl none) = inl none
+  nowhere : (previous : ℕ) → previous ≡ 0 → from_or_none B previous ≡ 0
+  nowhere previous none = omega (arith, from_lower B previous, none)
+
+  led_below : (previous : ℕ) → IsLed L previous → (previous ≡ 0) ⊎ (previous < flushed_then) → IsLedThere B L flushed_then previous
+  led_below previous (inl none) small = inl (nowhere previous none)
+  led_below previous (inr there) (inl none) = inl (nowhere previous none)
   led_below previous (inr there) (inr low) = inr (there, low)
 
   leads_below : LogOk start L → (a : ℕ) (cell : Cell) → L.cells a ≡ Published cell → a < flushed_then → (cell.previous ≡ 0) ⊎ (cell.previous < flushed_then)
@@ -160,8 +168,19 @@ module _ (opening : World) (start : ℕ) (lists : ℕ → List ℕ) (ghosts : Gh
     | inr high ↦ let falls = (subst (LoggedOk start a) e (ok a)).1 high in inr (omega (arith, falls, to))
   ]
 
-  pub leads_there : LogOk start L → (a : ℕ) (cell : Cell) → L.cells a ≡ Published cell → a < flushed_then → IsLedThere L flushed_then cell.previous
+  pub leads_there : LogOk start L → (a : ℕ) (cell : Cell) → L.cells a ≡ Published cell → a < flushed_then → IsLedThere B L flushed_then cell.previous
   leads_there ok a cell e to = led_below cell.previous ((life_linked opening start lists ghosts events begins.linked).leads a cell e) (leads_below ok a cell e to)
+
+  -- its bytes may say another address, below the log's begin
+  said_there : (a b : ℕ) → from_or_none B a ≡ from_or_none B b → IsLedThere B L flushed_then b → IsLedThere B L flushed_then a
+  said_there a b same (inl none) = inl (same ∙ none)
+  said_there a b same (inr there) = elim (cases_lt a B) [
+    | inl low ↦ inl (from_below B a low)
+    | inr on ↦ elim (cases_lt b B) [
+      | inl low ↦ inl (same ∙ from_below B b low)
+      | inr other ↦ inr (subst (IsThere L flushed_then) (sym (sym (from_on B a on) ∙ same ∙ from_on B b other)) there)
+    ]
+  ]
 
   -- ---- a record that is read
   pub there_read : (a : ℕ) → record_there (run opening events) a ≡ record_read (bytes_at (read_then opening events) (image.record_place opening.now.shape a) 24)
@@ -171,18 +190,18 @@ module _ (opening : World) (start : ℕ) (lists : ℕ → List ℕ) (ghosts : Gh
       ∙ ap (λ (x : Shape). record_read (bytes_at (read_then opening events) (image.record_place x a) 24)) (shape_stays opening events)
 
   abbrev Reads : MailRecord → Type 0
-  Reads its = RecordOk L flushed_then its (header_said its.header)
+  Reads its = RecordOk B L flushed_then its (header_said its.header)
 
-  image_ok : WordsLaw → (bytes : List ℕ) (a : ℕ) (cell : Cell) → CellFits cell → IsLedThere L flushed_then cell.previous → IsInImage opening.now.shape bytes a cell → Reads (record_read (bytes_at bytes (image.record_place opening.now.shape a) 24))
+  image_ok : WordsLaw → (bytes : List ℕ) (a : ℕ) (cell : Cell) → CellFits cell → IsLedThere B L flushed_then cell.previous → IsInImage B opening.now.shape bytes a cell → Reads (record_read (bytes_at bytes (image.record_place opening.now.shape a) 24))
   image_ok law bytes a cell fits leads its =
       let header = its.words rec.Header in
       let key = its.words rec.Key in
       let value = its.words rec.Value in
       let version : Version = its.leads.version in
       let small : NumberFits value = value_fits value cell.value its.value fits.1 in
-      let read : record_read (bytes_at bytes (image.record_place opening.now.shape a) 24) ≡ record_of header key value = ap record_read its.there ∙ read_back law header key value (header_fits header (record { 0 = cell.previous }) version its.leads.says) (subst NumberFits (sym its.key) fits.0) small in
-      let says : SaysThere L flushed_then (header_said header) = subst (SaysThere L flushed_then) (sym its.leads.says) leads in
-      subst Reads (sym read) (small, says)
+      let read : record_read (bytes_at bytes (image.record_place opening.now.shape a) 24) ≡ record_of header key value = ap record_read its.there ∙ read_back law header key value (header_fits header its.leads.said version its.leads.says) (subst NumberFits (sym its.key) fits.0) small in
+      let says : SaysThere B L flushed_then (header_said header) = subst (SaysThere B L flushed_then) (sym its.leads.says) (said_there its.leads.said.0 cell.previous its.leads.same leads) in
+      subst Reads (sym read) (small, (says, λ gone. absurd (has_header header its.leads.said version its.leads.says gone)))
 
   published_there : (a : ℕ) (logged : Logged) → L.cells a ≡ logged → IsPublished logged → (cell : Cell) × (L.cells a ≡ Published cell)
   published_there a (Published cell) e there = (cell, e)

@@ -1,5 +1,5 @@
 -- What is read back of the three words of a record.
-use Rattle.std.proofs.Common.{◌≡◌, ℕ, ◌^◌, ◌%◌, ◌/◌, refl, sym, ap, subst, arith, Bool, true, false, [], ◌∷◌}
+use Rattle.std.proofs.Common.{◌≡◌, ◌≢◌, ◌∙◌, ℕ, ◌^◌, ◌%◌, ◌/◌, refl, sym, ap, subst, arith, Bool, true, false, [], ◌∷◌}
 use Rattle.std.specs.Prelude.{◌==◌, ◌&&◌, not, if◌then◌else◌, Option, Some, None}
 use Rattle.std.proofs.lemmas.Bool.Decides.{nat_tests}
 use Rattle.fkv_base.specs.declared.numbers.Addr.{Addr}
@@ -35,6 +35,19 @@ header_fits word previous version says = by_tests (not (version_in word == 0)) (
       where
         spoiled : Spoiled ≡ Says previous version → ⊥
         spoiled e = cc
+
+-- no record has header 0
+pub has_header : (word : ℕ) (previous : Addr) (version : Version) → header_said word ≡ Says previous version → word ≢ 0
+unfolding header_said
+has_header word previous version says = λ none. spoiled (sym (ap header_said none) ∙ says)
+  where
+    spoiled : header_said 0 ≡ Says previous version → ⊥
+    spoiled e = cc
+
+-- so where it is that the record is gone, nothing is said
+pub gone_says : (header : ℕ) → header ≡ 0 → header_said header ≡ Spoiled
+unfolding header_said
+gone_says header none = ap header_said none
 
 pub value_fits : (word : ℕ) (value : Option ℕ) → value_of word ≡ value → ValueFits value → NumberFits word
 value_fits word value e fits = by_test (word == absent_word) refl (subst ValueFits (sym e) fits)

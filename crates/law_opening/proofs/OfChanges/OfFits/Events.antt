@@ -63,7 +63,7 @@ append_make : (room : ℕ) (a : AppendState) (made : NewRecord) (step : Appendin
 append_make room a made step reply makes = append_all AllMakeFit tt (λ addr. (tt, tt)) (λ addr. (tt, tt)) room a made step reply (λ ask. reserved_make a made ask makes)
 
 -- ---- a try
-module _ (log : Log) (flushed : ℕ) where
+module _ (begin : ℕ) (log : Log) (flushed : ℕ) where
   try_make : (p : Places) (room session reader : ℕ) (pending : PendingRequest) (t : TryState) (step : Trying) (reply : ℕ) → t.request ≡ pending.request → TryRow log flushed t step → AllMakeFit (try_ghosts p room session reader pending t step reply)
   try_make p room session reader pending t Walks reply same ok = search_all AllMakeFit tt reader (tt, tt) p pending.request.op t.walk reply
   try_make p room session reader pending t (SwapsValue addr) reply same ok = (tt, tt)
@@ -82,22 +82,22 @@ module _ (log : Log) (flushed : ℕ) where
   value_make (Read key) reader (Done answer.Absent) = (tt, tt)
   value_make op reader ask = tt
 
-  tried_make : (k : Seat) (reader : ℕ) (a : AttemptState) (step : Attempting) (reply : ℕ) → TriesFor (bits_of k) a step → AttemptOk log flushed a → AllMakeFit (tried_ghosts k reader a step reply)
+  tried_make : (k : Seat) (reader : ℕ) (a : AttemptState) (step : Attempting) (reply : ℕ) → TriesFor (bits_of k) a step → AttemptOk begin log flushed a → AllMakeFit (tried_ghosts k reader a step reply)
   tried_make k reader a Tries reply tries ok = try_make k.places (room_of k) k.number reader a.pending a.trial a.trial.step reply tries.its_request ok.1.1.1
   tried_make k reader a step reply tries ok = tt
 
-  attempt_make : (k : Seat) (reader : ℕ) (a : AttemptState) (reply : ℕ) → TriesFor (bits_of k) a a.step → AttemptOk log flushed a → AllMakeFit (attempt_ghosts k reader a reply)
+  attempt_make : (k : Seat) (reader : ℕ) (a : AttemptState) (reply : ℕ) → TriesFor (bits_of k) a a.step → AttemptOk begin log flushed a → AllMakeFit (attempt_ghosts k reader a reply)
   attempt_make k reader a reply tries ok =
       both_make (value_ghosts a.pending.request.op reader (attempt_ask k.places k.number (attempt_next k.places (bits_of k) (room_of k) k.number a reply))) (tried_ghosts k reader a a.step reply)
       (value_make a.pending.request.op reader (attempt_ask k.places k.number (attempt_next k.places (bits_of k) (room_of k) k.number a reply)))
       (tried_make k reader a a.step reply tries ok)
 
-  sitting_make : (k : Seat) (trace : List Traced) (s : SessionState) (step : Sitting) (reply : ℕ) → AttemptsBy k s step → (is_attempting step ≡ true → AttemptOk log flushed s.attempt) → AllMakeFit (sitting_ghosts k trace s step reply)
+  sitting_make : (k : Seat) (trace : List Traced) (s : SessionState) (step : Sitting) (reply : ℕ) → AttemptsBy k s step → (is_attempting step ≡ true → AttemptOk begin log flushed s.attempt) → AllMakeFit (sitting_ghosts k trace s step reply)
   sitting_make k trace s (Attempts has_shifted) reply so ok = attempt_make k (read_in_hand k.number trace) s.attempt reply (goes_so k s (Attempts has_shifted) refl so).tries (ok refl)
   sitting_make k trace s (Polls index) reply so ok = attempt_make k (read_waiting k.number (ticket_of s.attempt.pending.name) trace) s.attempt reply (goes_so k s (Polls index) refl so).tries (ok refl)
   sitting_make k trace s step reply so ok = tt
 
-  pub step_make : (k : Seat) (trace : List Traced) (s : SessionState) (words : List ℕ) (ask : Ask Told) → AttemptsBy k s s.step → (is_attempting s.step ≡ true → AttemptOk log flushed s.attempt) → AllMakeFit (step_ghosts k trace s words ask)
+  pub step_make : (k : Seat) (trace : List Traced) (s : SessionState) (words : List ℕ) (ask : Ask Told) → AttemptsBy k s s.step → (is_attempting s.step ≡ true → AttemptOk begin log flushed s.attempt) → AllMakeFit (step_ghosts k trace s words ask)
   unfolding step_ghosts
   step_make k trace s words (Done its) so ok = tt
   step_make k trace s words (Put slot action) so ok = tt

@@ -10,10 +10,10 @@ use Rattle.law_refine.specs.Below.fkv_world.World.{Event}
 use Rattle.law_opening.proofs.OfChanges.LifeLogs.{life_stays}
 use Rattle.law_opening.proofs.OfChanges.OfFits.Logs.{LogOk, LoggedOk}
 use Rattle.law_opening.proofs.OfChanges.OfFits.Mails.{PastOk}
-use Rattle.law_opening.proofs.OfChanges.OfFits.Rows.{AttemptOk, PendingOk, RecordOk, said_there_grows}
+use Rattle.law_opening.proofs.OfChanges.OfFits.Rows.{AttemptOk, PendingOk, RecordOk, taken_grows}
 use Rattle.law_opening.proofs.OfChanges.Rows.{Stays}
 use Rattle.law_opening.specs.Changes.Fits.{CellsFit}
-use Rattle.law_opening.specs.Changes.Laws.{BeginsLinked}
+use Rattle.law_opening.specs.Changes.Laws.{BeginsLinked, begin_at}
 use Rattle.law_refine.specs.Below.law_local.Sessions.Known.{KnowsRequests}
 use Rattle.law_log.specs.Ghosts.{Ghosts, Log}
 use Rattle.law_refine.specs.Mail.Reads.{mail_past}
@@ -26,12 +26,14 @@ log_at opening ghosts events = (life_ghosts opening ghosts events).log
 abbrev pub flushed_at : World → List Event → ℕ
 flushed_at opening events = (levels_of (run opening events).now.words).flushed
 
-abbrev pub SessionOk : Log → ℕ → SessionState → Type 0
-SessionOk log flushed s = KnowsRequests (λ pending. PendingOk log flushed pending) (λ a. AttemptOk log flushed a) s
+abbrev pub SessionOk : ℕ → Log → ℕ → SessionState → Type 0
+SessionOk begin log flushed s = KnowsRequests (λ pending. PendingOk begin log flushed pending) (λ a. AttemptOk begin log flushed a) s
 
--- sessions know it of their requests, what they have asked for is there, and the log has it of its records
+-- Sessions know it of their requests, what they have asked for is there, and the log has it of its records.
+-- No session's floor lies below the begin that the log was opened with.
 pub record Held (opening : World) (start : ℕ) (ghosts : Ghosts) (events : List Event) : Type 0 where
-  pub sessions : (session : ℕ) (s : SessionState) → slice_get (run opening events).now.sessions session ≡ Some s → SessionOk (log_at opening ghosts events) (flushed_at opening events) s
+  pub sessions : (session : ℕ) (s : SessionState) → slice_get (run opening events).now.sessions session ≡ Some s → SessionOk (begin_at opening.now) (log_at opening ghosts events) (flushed_at opening events) s
+  pub floors : (session : ℕ) (s : SessionState) → slice_get (run opening events).now.sessions session ≡ Some s → begin_at opening.now ≤ s.floor.0
   pub asked : (session : ℕ) → session < opening.now.places.sessions → PastOk (log_at opening ghosts events) (flushed_at opening events) (mail_past opening session events)
   pub log : LogOk start (log_at opening ghosts events)
 
@@ -68,10 +70,8 @@ module _ (opening : World) (start : ℕ) (lists : ℕ → List ℕ) (ghosts : Gh
   later_rises [] earlier = omega arith
   later_rises (event ∷ later) earlier = let was = later_rises later earlier in let now = one_rises (later ++ earlier) event in omega (arith, was, now)
 
-  pub record_grows : (later : List Event) (event : Event) (earlier : List Event) (its : MailRecord) (said : HeaderSaid) → RecordOk (log_at opening ghosts earlier) (flushed_at opening earlier) its said
-      → RecordOk (log_at opening ghosts (later ++ (event ∷ earlier))) (flushed_at opening (later ++ (event ∷ earlier))) its said
-  record_grows later event earlier its said ok = (
-    ok.0,
-    said_there_grows (log_at opening ghosts earlier) (log_at opening ghosts (later ++ (event ∷ earlier))) (λ a there. later_stays later (event ∷ earlier) a (one_stays earlier event a there)) (flushed_at opening earlier) (flushed_at opening (later ++ (event ∷ earlier)))
-        (let was = one_rises earlier event in let now = later_rises later (event ∷ earlier) in omega (arith, was, now)) said ok.1,
-  )
+  pub record_grows : (later : List Event) (event : Event) (earlier : List Event) (its : MailRecord) (said : HeaderSaid) → RecordOk (begin_at opening.now) (log_at opening ghosts earlier) (flushed_at opening earlier) its said
+      → RecordOk (begin_at opening.now) (log_at opening ghosts (later ++ (event ∷ earlier))) (flushed_at opening (later ++ (event ∷ earlier))) its said
+  record_grows later event earlier its said ok =
+      taken_grows (log_at opening ghosts earlier) (log_at opening ghosts (later ++ (event ∷ earlier))) (λ a there. later_stays later (event ∷ earlier) a (one_stays earlier event a there)) (flushed_at opening earlier) (flushed_at opening (later ++ (event ∷ earlier)))
+      (let was = one_rises earlier event in let now = later_rises later (event ∷ earlier) in omega (arith, was, now)) (begin_at opening.now) its said ok

@@ -2,6 +2,7 @@
 use Rattle.std.proofs.Common.{◌≡◌, ℕ, ◌^◌, ◌<◌, ◌≤◌, ◌∙◌, refl, sym, ap, subst, arith, Bool, true, false, List, [], ◌∷◌, ◌++◌}
 use Rattle.std.proofs.lemmas.Bool.Decides.{nat_tests}
 use Rattle.std.specs.Prelude.{◌==◌, map, nat_lt, if◌then◌else◌, Option, Some, None, slice_get}
+use Rattle.fkv_base.specs.declared.numbers.Addr.{Addr}
 use Rattle.fkv_epoch.proofs.Shown.{some_same}
 use Rattle.law_refine.specs.Below.fkv_flush.TheServing.{Serving}
 use Rattle.law_refine.specs.Below.fkv_flush.TheServing.TheVariants as serve
@@ -47,9 +48,10 @@ use Rattle.law_opening.proofs.OfChanges.OfMails.SessionMails.{MailsAt}
 use Rattle.law_opening.proofs.OfChanges.OfSessions.Attempting.{attempting_is, life_attempts}
 use Rattle.law_opening.proofs.OfChanges.OfSessions.Calm.{calm_known, is_calm, not_calm}
 use Rattle.law_opening.proofs.OfChanges.OfSessions.Comes.{SessionComes, Begins, Stays as Remains, Steps, session_comes}
+use Rattle.law_opening.proofs.OfChanges.OfSessions.Floors.{comes_from}
 use Rattle.law_opening.proofs.OfChanges.OfSessions.Heads.{head_flushed}
 use Rattle.law_opening.specs.Changes.Fits.{CallsFit, CellFits}
-use Rattle.law_opening.specs.Changes.Laws.{BeginsFitting}
+use Rattle.law_opening.specs.Changes.Laws.{BeginsFitting, begin_at}
 use Rattle.law_refine.proofs.Below.law_local.OfSessions.Known.{begun_known, next_known, opened_known, stays_known}
 use Rattle.law_refine.specs.Below.law_local.Sessions.Inputs.{AttemptsSo}
 use Rattle.law_refine.specs.Below.law_local.Sessions.Known.{attempt_after, catch_after, caught_up_at, is_attempting, with_op}
@@ -60,7 +62,7 @@ use Rattle.law_refine.specs.Mail.MailEvents.{asked_by, begins, begun_events, cal
 use Rattle.law_refine.specs.Mail.MailEvents as mails
 use Rattle.law_refine.specs.Mail.Mailers.{attempt_mailing, session_mailing, sitting_mailing}
 use Rattle.law_refine.specs.Mail.Reads.{mail_past}
-use Rattle.law_refine.specs.Mail.Servers.{is_serving, serving_of}
+use Rattle.law_refine.specs.Mail.Servers.{begin_of, is_serving, serving_of}
 use Rattle.law_refine.specs.Mail.Shows.{mail_opening}
 use Rattle.law_refine.proofs.OfCalls.LifeHistory.{life_entries}
 use Rattle.law_refine.proofs.OfRecords.LogHeaders.{fall_first}
@@ -92,16 +94,16 @@ not_putting_ok log flushed (mailing.LoadsState (Put addr)) none = cc
 not_putting_ok log flushed (mailing.StoresAddress addr) none = cc
 not_putting_ok log flushed step none = tt
 
-attempt_begins_ok : (log : Log) (flushed : ℕ) (a : AttemptState) (step : Attempting) → AttemptOk log flushed a → AreOk log flushed (begins (attempt_mailing a step))
-attempt_begins_ok log flushed a attempting.Looks ok = begins_ok log flushed a.mailing ok.1.0
-attempt_begins_ok log flushed a attempting.Puts ok = begins_ok log flushed a.mailing ok.1.0
-attempt_begins_ok log flushed a step ok = tt
+attempt_begins_ok : (begin : ℕ) (log : Log) (flushed : ℕ) (a : AttemptState) (step : Attempting) → AttemptOk begin log flushed a → AreOk log flushed (begins (attempt_mailing a step))
+attempt_begins_ok begin log flushed a attempting.Looks ok = begins_ok log flushed a.mailing ok.1.0
+attempt_begins_ok begin log flushed a attempting.Puts ok = begins_ok log flushed a.mailing ok.1.0
+attempt_begins_ok begin log flushed a step ok = tt
 
-sitting_begins_ok : (log : Log) (flushed : ℕ) (s : SessionState) (step : Sitting) → MailsAt s step → (is_attempting step ≡ true → AttemptOk log flushed s.attempt) → AreOk log flushed (begins (sitting_mailing s step))
-sitting_begins_ok log flushed s (Attempts has_shifted) mails ok = attempt_begins_ok log flushed s.attempt s.attempt.step (ok refl)
-sitting_begins_ok log flushed s (Polls index) mails ok = attempt_begins_ok log flushed s.attempt s.attempt.step (ok refl)
-sitting_begins_ok log flushed s ClearsMail mails ok = begins_ok log flushed s.mailing (not_putting_ok log flushed s.mailing mails)
-sitting_begins_ok log flushed s step mails ok = tt
+sitting_begins_ok : (begin : ℕ) (log : Log) (flushed : ℕ) (s : SessionState) (step : Sitting) → MailsAt s step → (is_attempting step ≡ true → AttemptOk begin log flushed s.attempt) → AreOk log flushed (begins (sitting_mailing s step))
+sitting_begins_ok begin log flushed s (Attempts has_shifted) mails ok = attempt_begins_ok begin log flushed s.attempt s.attempt.step (ok refl)
+sitting_begins_ok begin log flushed s (Polls index) mails ok = attempt_begins_ok begin log flushed s.attempt s.attempt.step (ok refl)
+sitting_begins_ok begin log flushed s ClearsMail mails ok = begins_ok log flushed s.mailing (not_putting_ok log flushed s.mailing mails)
+sitting_begins_ok begin log flushed s step mails ok = tt
 
 asked_ok : {A : Type 0} (log : Log) (flushed : ℕ) (words : List ℕ) (found : Option Mailing) (ask : Ask A) → AreOk log flushed (asked_by words found ask)
 asked_ok log flushed words None ask = changed_ok log flushed words ask
@@ -111,16 +113,17 @@ either_ok : (log : Log) (flushed : ℕ) (c : Bool) (a b : List MailEvent) → Ar
 either_ok log flushed true a b one other = one
 either_ok log flushed false a b one other = other
 
-served_ok : (log : Log) (flushed : ℕ) (given : MailRecord) (done : Bool) (addr : ℕ) (step : Serving) → AreOk log flushed (served_events given done addr step)
-served_ok log flushed given done addr serve.AtRest = tt
-served_ok log flushed given done addr (serve.LoadsState session) = tt
-served_ok log flushed given done addr (serve.LoadsAddress session) = either_ok log flushed (nat_lt addr (2 ^ 48)) _ [] (tt, (tt, tt)) tt
-served_ok log flushed given done addr (serve.Reads session at) = either_ok log flushed done _ [] (tt, tt) tt
-served_ok log flushed given done addr step = (tt, tt)
+served_ok : (log : Log) (flushed begin : ℕ) (given : MailRecord) (done : Bool) (addr : ℕ) (step : Serving) → AreOk log flushed (served_events begin given done addr step)
+served_ok log flushed begin given done addr serve.AtRest = tt
+served_ok log flushed begin given done addr (serve.LoadsState session) = tt
+served_ok log flushed begin given done addr (serve.LoadsAddress session) =
+    either_ok log flushed (nat_lt addr begin) _ _ (tt, (tt, (tt, tt))) (either_ok log flushed (nat_lt addr (2 ^ 48)) _ [] (tt, (tt, tt)) tt)
+served_ok log flushed begin given done addr (serve.Reads session at) = either_ok log flushed done _ [] (tt, tt) tt
+served_ok log flushed begin given done addr step = (tt, tt)
 
 keeper_ok : (log : Log) (flushed : ℕ) (n : Now) (read : List ℕ) (session : ℕ) (done : Bool) → AreOk log flushed (keeper_events n read session done)
 keeper_ok log flushed n read session done =
-    either_ok log flushed (is_serving session (serving_of n.keeper)) _ _ (served_ok log flushed (record_read read) done (mailbox_of n.words session).addr (serving_of n.keeper)) (changed_ok log flushed n.words (keeper_ask n.shape n.places n.keeper))
+    either_ok log flushed (is_serving session (serving_of n.keeper)) _ _ (served_ok log flushed (begin_of n.keeper) (record_read read) done (mailbox_of n.words session).addr (serving_of n.keeper)) (changed_ok log flushed n.words (keeper_ask n.shape n.places n.keeper))
 
 -- ---- by each event of a life
 module _ (opening : World) (start : ℕ) (lists : ℕ → List ℕ) (ghosts : Ghosts) (begun : BeginsFitting opening start lists ghosts) (calls : CallsLaw) (words : WordsLaw) where
@@ -143,6 +146,9 @@ module _ (opening : World) (start : ℕ) (lists : ℕ → List ℕ) (ghosts : Gh
     abbrev L' : Log
     L' = log_at opening ghosts (event ∷ before)
 
+    abbrev B : ℕ
+    B = begin_at opening.now
+
     abbrev F : ℕ
     F = flushed_at opening before
 
@@ -155,77 +161,86 @@ module _ (opening : World) (start : ℕ) (lists : ℕ → List ℕ) (ghosts : Gh
     published : AreChangesPublished opening ghosts before
     published = (life_holds opening start lists ghosts before begun.linked).published
 
-    pending_on : (pending : PendingRequest) → PendingOk L F pending → PendingOk L' F' pending
-    pending_on pending ok = pending_grows L L' (one_stays opening start lists ghosts begun.linked before event) F F' (one_rises opening start lists ghosts begun.linked before event) pending ok
+    pending_on : (pending : PendingRequest) → PendingOk B L F pending → PendingOk B L' F' pending
+    pending_on pending ok = pending_grows L L' (one_stays opening start lists ghosts begun.linked before event) F F' (one_rises opening start lists ghosts begun.linked before event) B pending ok
 
-    attempt_on : (a : AttemptState) → AttemptOk L F a → AttemptOk L' F' a
-    attempt_on a ok = attempt_grows L L' (one_stays opening start lists ghosts begun.linked before event) F F' (one_rises opening start lists ghosts begun.linked before event) a ok
+    attempt_on : (a : AttemptState) → AttemptOk B L F a → AttemptOk B L' F' a
+    attempt_on a ok = attempt_grows L L' (one_stays opening start lists ghosts begun.linked before event) F F' (one_rises opening start lists ghosts begun.linked before event) B a ok
 
     -- ---- its sessions
     module _ (session : ℕ) (s : SessionState) (was : slice_get N.sessions session ≡ Some s) where
       abbrev K : Seat
       K = seat_at N session
 
-      knows : SessionOk L F s
+      knows : SessionOk B L F s
       knows = held.sessions session s was
 
-      stays : SessionOk L' F' s
-      stays = stays_known (λ pending. PendingOk L F pending) (λ pending. PendingOk L' F' pending) (λ a. AttemptOk L F a) (λ a. AttemptOk L' F' a) s pending_on (λ attempting its. attempt_on s.attempt its) knows
+      from : B ≤ s.floor.0
+      from = held.floors session s was
+
+      stays : SessionOk B L' F' s
+      stays = stays_known (λ pending. PendingOk B L F pending) (λ pending. PendingOk B L' F' pending) (λ a. AttemptOk B L F a) (λ a. AttemptOk B L' F' a) s pending_on (λ attempting its. attempt_on s.attempt its) knows
 
       attempts_so : AttemptsSo K s
       attempts_so = subst (λ (k : Seat). AttemptsSo k s) (sym (same_seat opening before session)) (life_attempts opening before session s begun.linked.world was)
 
       module _ (alive : N.crashed ≡ false) where
-        value_told : is_attempting s.step ≡ true → AttemptValueTold L F session s.attempt s.attempt.step (reply_to N.words (session_ask K s))
+        value_told : is_attempting s.step ≡ true → AttemptValueTold B L F session s.attempt s.attempt.step (reply_to N.words (session_ask K s))
         value_told attempts =
-            session_told L F K N.words s attempts attempts_so (values_fit opening start lists ghosts before session s begun.linked published (cells_fit start L held.log) was attempts)
+            session_told B L F K N.words s attempts attempts_so (values_fit opening start lists ghosts before session s begun.linked published (cells_fit start L held.log) was attempts)
             (head_flushed opening start before session s begun.linked.now was (attempting_is s.step attempts))
             (takes_fit opening start lists ghosts begun calls words before session s so_far alive was attempts)
 
-        replied : SessionOk L' F' (session_next K s (reply_to N.words (session_ask K s)))
+        replied : SessionOk B L' F' (session_next K s (reply_to N.words (session_ask K s)))
         replied =
-            next_known (λ pending. PendingOk L F pending) (λ pending. PendingOk L' F' pending) (λ a. AttemptOk L F a) (λ a. AttemptOk L' F' a) K s (reply_to N.words (session_ask K s)) knows
+            next_known (λ pending. PendingOk B L F pending) (λ pending. PendingOk B L' F' pending) (λ a. AttemptOk B L F a) (λ a. AttemptOk B L' F' a) K s (reply_to N.words (session_ask K s)) knows
             (record {
               waits = pending_on;
               attempts = λ attempting its. attempt_on (attempt_after K s (reply_to N.words (session_ask K s)))
-                  (attempt_ok L F K.places (bits_of K) (room_of K) K.number s.attempt (reply_to N.words (session_ask K s)) (((life_holds opening start lists ghosts before begun.linked).known session s was).attempted attempting)
+                  (attempt_ok B L F K.places (bits_of K) (room_of K) K.number s.attempt (reply_to N.words (session_ask K s)) (((life_holds opening start lists ghosts before begun.linked).known session s was).attempted attempting)
                   (life_told opening start lists ghosts before session s begun.linked published was attempting) its (value_told attempting));
               accepts = λ has_shifted its at comes accepted its_known. its_known.0;
               keeps = λ index its at comes waits its_known. its_known.0;
-              hands_over = λ polling pending spare is_orphaned its. attempt_begins L' F' K.places (bits_of K) pending s.seen AtPoll spare is_orphaned its;
-              begins_anew = λ its at done spare is_orphaned. attempt_begins L' F' K.places (bits_of K) (request_in_hand (caught_up_at K s (reply_to N.words (session_ask K s)))) (catch_after K s (reply_to N.words (session_ask K s))).seen (AtCall (bounds_of K.shape)) spare is_orphaned (tt, tt);
-              latches = λ cause pending at its. latch_ok L' F' K.places (bits_of K) pending true its;
+              hands_over = λ polling pending spare is_orphaned its. attempt_begins B L' F' K.places (bits_of K) pending s.seen AtPoll spare is_orphaned its;
+              begins_anew = λ its at done spare is_orphaned. attempt_begins B L' F' K.places (bits_of K) (request_in_hand (caught_up_at K s (reply_to N.words (session_ask K s)))) (catch_after K s (reply_to N.words (session_ask K s))).seen (AtCall (bounds_of K.shape)) spare is_orphaned (tt, (tt, from));
+              latches = λ cause pending at its. latch_ok B L' F' K.places (bits_of K) pending true its;
             })
 
-        moved : (after : SessionState) → after ≡ (session_moved K (near N s)).machine → (calm : Bool) → is_calm s.step ≡ calm → SessionOk L' F' after
-        moved after is true e = subst (SessionOk L' F') (sym is) (calm_known (λ pending. PendingOk L' F' pending) (λ a. AttemptOk L' F' a) K (near N s) e stays)
+        moved : (after : SessionState) → after ≡ (session_moved K (near N s)).machine → (calm : Bool) → is_calm s.step ≡ calm → SessionOk B L' F' after
+        moved after is true e = subst (SessionOk B L' F') (sym is) (calm_known (λ pending. PendingOk B L' F' pending) (λ a. AttemptOk B L' F' a) K (near N s) e stays)
         moved after is false e =
             let busy = not_calm s.step e in
-            subst (SessionOk L' F') (sym (is ∙ ap (λ (x : Near SessionState). x.machine) (moves_alone opening start before session s begun.linked.now was busy.0 busy.1))) replied
+            subst (SessionOk B L' F') (sym (is ∙ ap (λ (x : Near SessionState). x.machine) (moves_alone opening start before session s begun.linked.now was busy.0 busy.1))) replied
 
-        comes : (after : SessionState) → SessionComes W session s after → SessionOk L' F' after
-        comes after (Remains is) = subst (SessionOk L' F') (sym is) stays
-        comes after (Begins its idle is) = subst (SessionOk L' F') (sym is)
-            (begun_known (λ pending. PendingOk L' F' pending) (λ a. AttemptOk L' F' a) K s its idle stays
+        comes : (after : SessionState) → SessionComes W session s after → SessionOk B L' F' after
+        comes after (Remains is) = subst (SessionOk B L' F') (sym is) stays
+        comes after (Begins its idle is) = subst (SessionOk B L' F') (sym is)
+            (begun_known (λ pending. PendingOk B L' F' pending) (λ a. AttemptOk B L' F' a) K s its idle stays
             (record {
-              calls = λ op made none spare is_orphaned. attempt_begins L' F' K.places (bits_of K) (request_in_hand (with_op s op)) s.seen (AtCall (bounds_of K.shape)) spare is_orphaned (tt, tt);
-              polls = λ made awake pending spare is_orphaned known_then. attempt_begins L' F' K.places (bits_of K) pending s.seen AtPoll spare is_orphaned known_then;
+              calls = λ op made none spare is_orphaned. attempt_begins B L' F' K.places (bits_of K) (request_in_hand (with_op s op)) s.seen (AtCall (bounds_of K.shape)) spare is_orphaned (tt, (tt, from));
+              polls = λ made awake pending spare is_orphaned known_then. attempt_begins B L' F' K.places (bits_of K) pending s.seen AtPoll spare is_orphaned known_then;
             }))
         comes after (Steps is) = moved after is (is_calm s.step) refl
 
-      by_life : (after : SessionState) → slice_get (happens W event).now.sessions session ≡ Some after → (crashed : Bool) → N.crashed ≡ crashed → SessionOk L' F' after
-      by_life after is_now true e = subst (SessionOk L' F') (sym (some_same after s (sym is_now ∙ (ap (λ (x : World). slice_get x.now.sessions session) (is_over W event e) ∙ was)))) stays
+      by_life : (after : SessionState) → slice_get (happens W event).now.sessions session ≡ Some after → (crashed : Bool) → N.crashed ≡ crashed → SessionOk B L' F' after
+      by_life after is_now true e = subst (SessionOk B L' F') (sym (some_same after s (sym is_now ∙ (ap (λ (x : World). slice_get x.now.sessions session) (is_over W event e) ∙ was)))) stays
       by_life after is_now false e = comes e after (session_comes W event session s after was is_now)
 
-    sessions_on : (session : ℕ) (after : SessionState) → slice_get (run opening (event ∷ before)).now.sessions session ≡ Some after → SessionOk L' F' after
+    sessions_on : (session : ℕ) (after : SessionState) → slice_get (run opening (event ∷ before)).now.sessions session ≡ Some after → SessionOk B L' F' after
     unfolding run
     sessions_on session after is_now =
         let s = there_before W event session after is_now in
         by_life session s.0 s.1 after is_now N.crashed refl
 
+    floors_on : (session : ℕ) (after : SessionState) → slice_get (run opening (event ∷ before)).now.sessions session ≡ Some after → B ≤ after.floor.0
+    unfolding run
+    floors_on session after is_now =
+        let s = there_before W event session after is_now in
+        comes_from B W session s.0 after (session_comes W event session s.0 after s.1 is_now) (held.floors session s.0 s.1)
+
     -- ---- its mailboxes
     after_ok : (session : ℕ) (after : SessionState) → slice_get (run opening (event ∷ before)).now.sessions session ≡ Some after → AreOk L' F' (begins (session_mailing after))
-    after_ok session after is_now = sitting_begins_ok L' F' after after.step (life_mails opening start (event ∷ before) session after begun.linked.world begun.linked.now is_now) (sessions_on session after is_now).attempted
+    after_ok session after is_now = sitting_begins_ok B L' F' after after.step (life_mails opening start (event ∷ before) session after begun.linked.world begun.linked.now is_now) (sessions_on session after is_now).attempted
 
     goes_ok : (session : ℕ) (s : SessionState) → N.crashed ≡ false → slice_get N.sessions session ≡ Some s → is_of_session session event ≡ true → AreOk L' F' (begins (session_mailing (session_goes (seat_at N session) (near N s) event).machine))
     unfolding run
@@ -308,7 +323,7 @@ module _ (opening : World) (start : ℕ) (lists : ℕ → List ℕ) (ghosts : Gh
   moved_make before number (Some s) so_far e =
       let w : World = run opening before in
       let so : AttemptsSo (seat_at w.now number) s = subst (λ (k : Seat). AttemptsSo k s) (sym (same_seat opening before number)) (life_attempts opening before number s begun.linked.world e) in
-      step_make (log_at opening ghosts before) (flushed_at opening before) (seat_at w.now number) w.past.trace s w.now.words (session_ask (seat_at w.now number) s) so ((held_now opening start ghosts before so_far).sessions number s e).attempted
+      step_make (begin_at opening.now) (log_at opening ghosts before) (flushed_at opening before) (seat_at w.now number) w.past.trace s w.now.words (session_ask (seat_at w.now number) s) so ((held_now opening start ghosts before so_far).sessions number s e).attempted
 
   own_make : (before : List Event) (event : Event) → HeldSoFar opening start ghosts before → AllMakeFit (own_ghosts (run opening before) event)
   own_make before (Moves number) so_far = moved_make before number (slice_get (run opening before).now.sessions number) so_far refl
@@ -354,10 +369,14 @@ module _ (opening : World) (start : ℕ) (lists : ℕ → List ℕ) (ghosts : Gh
       by_cell Unborn e = tt
       by_cell (Dropped cell) e = tt
 
+  no_lower : (floor begin : Addr) → floor ≡ begin → begin.0 ≤ floor.0
+  no_lower floor begin same = subst (λ (a : Addr). begin.0 ≤ a.0) (sym same) (let itself : begin.0 ≤ begin.0 = omega arith in itself)
+
   first_held : Held opening start ghosts []
   unfolding run mapped ghost_run mails.mapped past_of
   first_held = record {
-    sessions = λ session s found. opened_known (λ pending. PendingOk (log_at opening ghosts []) (flushed_at opening []) pending) (λ a. AttemptOk (log_at opening ghosts []) (flushed_at opening []) a) s (begun.linked.world.sessions session s found);
+    sessions = λ session s found. opened_known (λ pending. PendingOk (begin_at opening.now) (log_at opening ghosts []) (flushed_at opening []) pending) (λ a. AttemptOk (begin_at opening.now) (log_at opening ghosts []) (flushed_at opening []) a) s (begun.linked.world.sessions session s found);
+    floors = λ session s found. no_lower s.floor opening.now.keeper.last.begin (begun.floors session s found);
     asked = λ session there. (tt, tt);
     log = first_log;
   }
@@ -367,7 +386,7 @@ module _ (opening : World) (start : ℕ) (lists : ℕ → List ℕ) (ghosts : Gh
   life_held [] fits = first_held
   life_held (event ∷ before) fits =
       let so_far : HeldSoFar opening start ghosts before = life_held before fits.1 in
-      (record { sessions = sessions_on before event fits so_far; asked = asked_on before event fits so_far; log = log_on before event fits so_far }, so_far)
+      (record { sessions = sessions_on before event fits so_far; floors = floors_on before event fits so_far; asked = asked_on before event fits so_far; log = log_on before event fits so_far }, so_far)
 
   pub life_fits : (events : List Event) → CallsFit events → (a : ℕ) (cell : Cell) → (log_at opening ghosts events).cells a ≡ Published cell → CellFits cell
   life_fits events fits = cells_fit start (log_at opening ghosts events) (held_now opening start ghosts events (life_held events fits)).log

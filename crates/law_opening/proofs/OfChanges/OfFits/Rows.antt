@@ -1,10 +1,16 @@
 -- What a session that attempts something knows by its control state of numbers: what it has loaded fits in a word, and what it seeks on the device is there.
-use Rattle.std.proofs.Common.{◌≡◌, ◌⊎◌, inl, inr, ℕ, ◌<◌, ◌≤◌, arith, false, subst, Option, Some, None}
+use Rattle.std.proofs.Common.{◌≡◌, ◌⊎◌, ◌∙◌, inl, inr, ℕ, ◌<◌, ◌≤◌, arith, false, subst, sym, Option, Some, None}
+use Rattle.std.proofs.lemmas.Bool.{cases_lt}
 use Rattle.std.specs.Prelude.{⊤, ◌==◌}
+use Rattle.fkv_base.specs.declared.numbers.Addr.{Addr}
+use Rattle.fkv_record.proofs.Shown.{from_below, from_on}
+use Rattle.fkv_record.specs.Begin.{from_or_none}
 use Rattle.law_refine.specs.Below.fkv_log.TheLoading.{Loading}
 use Rattle.law_refine.specs.Below.fkv_log.TheLoading.TheVariants as load
 use Rattle.law_refine.specs.Below.fkv_log.RecordWords.{RecordWords}
 use Rattle.fkv_map.specs.Fits.{NumberFits, OpFits}
+use Rattle.law_refine.specs.Below.fkv_ops.Requests.{is_chain_end}
+use Rattle.law_refine.specs.Below.fkv_ops.Request.{Request}
 use Rattle.law_refine.specs.Below.fkv_ops.Trying.{TryState}
 use Rattle.law_refine.specs.Below.fkv_ops.Walking.{WalkState}
 use Rattle.law_refine.specs.Below.fkv_ops.DiskRecord.{DiskRecord}
@@ -38,32 +44,41 @@ use Rattle.law_refine.specs.Below.fkv_ops.Waiting.{told_of}
 abbrev pub IsThere : Log → ℕ → ℕ → Type 0
 IsThere log flushed a = IsPublished (log.cells a) × (a < flushed)
 
--- and so whatever is led to from there, unless that is none
-abbrev pub IsLedThere : Log → ℕ → ℕ → Type 0
-IsLedThere log flushed a = (a ≡ 0) ⊎ IsThere log flushed a
+-- and so whatever is led to from there, unless that is none, or below the log's begin
+abbrev pub IsLedThere : ℕ → Log → ℕ → ℕ → Type 0
+IsLedThere begin log flushed a = (from_or_none begin a ≡ 0) ⊎ IsThere log flushed a
 
-pub led_on : (log : Log) (flushed a : ℕ) → (a == 0) ≡ false → IsLedThere log flushed a → IsThere log flushed a
-led_on log flushed a other (inl none) = absurd (not_zero a none other)
+-- where a request with such a floor goes on, a record is there
+pub led_on : (begin : ℕ) (log : Log) (flushed : ℕ) (floor addr : Addr) → begin ≤ floor.0 → is_chain_end floor addr ≡ false → IsLedThere begin log flushed addr.0 → IsThere log flushed addr.0
+led_on begin log flushed floor addr above on (inl none) = absurd (goes (cases_lt addr.0 floor.0))
   where
     not_zero : (n : ℕ) → n ≡ 0 → (n == 0) ≡ false → ⊥
     not_zero n none other = let zero : (0 == 0) ≡ false = subst (λ (x : ℕ). (x == 0) ≡ false) none other in cc
-led_on log flushed a other (inr there) = there
 
-abbrev pub SaysThere : Log → ℕ → HeaderSaid → Type 0
-SaysThere log flushed (Says previous version) = IsLedThere log flushed previous.0
-SaysThere log flushed Spoiled = ⊤
+    goes : (addr.0 < floor.0) ⊎ (floor.0 ≤ addr.0) → ⊥
+    goes (inl below) = not_zero (from_or_none floor.0 addr.0) (from_below floor.0 addr.0 below) on
+    goes (inr past) = not_zero (from_or_none floor.0 addr.0) (from_on floor.0 addr.0 past ∙ sym (from_on begin addr.0 (let low = above in let high = past in omega (arith, low, high))) ∙ none) on
+led_on begin log flushed floor addr above on (inr there) = there
+
+abbrev pub SaysThere : ℕ → Log → ℕ → HeaderSaid → Type 0
+SaysThere begin log flushed (Says previous version) = IsLedThere begin log flushed previous.0
+SaysThere begin log flushed Spoiled = ⊤
 
 -- ---- a request
-abbrev pub HeldOk : Log → ℕ → Option HeldRecord → Type 0
-HeldOk log flushed None = ⊤
-HeldOk log flushed (Some it) = NumberFits it.value × IsLedThere log flushed it.previous.0
+-- what it holds fits, and its floor is no lower than the log's begin
+abbrev pub HeldOk : ℕ → Log → ℕ → Addr → Option HeldRecord → Type 0
+HeldOk begin log flushed floor None = ⊤
+HeldOk begin log flushed floor (Some it) = NumberFits it.value × (IsLedThere begin log flushed it.previous.0 × (begin ≤ floor.0))
 
 abbrev pub SoughtOk : Log → ℕ → Option DiskRecord → Type 0
 SoughtOk log flushed None = ⊤
 SoughtOk log flushed (Some it) = IsThere log flushed it.addr.0
 
-abbrev pub PendingOk : Log → ℕ → PendingRequest → Type 0
-PendingOk log flushed pending = HeldOk log flushed pending.request.held × SoughtOk log flushed pending.sought
+abbrev pub RequestOk : ℕ → Log → ℕ → Request → Type 0
+RequestOk begin log flushed request = HeldOk begin log flushed request.floor request.held
+
+abbrev pub PendingOk : ℕ → Log → ℕ → PendingRequest → Type 0
+PendingOk begin log flushed pending = RequestOk begin log flushed pending.request × (SoughtOk log flushed pending.sought × (begin ≤ pending.request.floor.0))
 
 -- ---- a walk
 -- what it loads is of a published record, at or above the head
@@ -111,11 +126,11 @@ TryRow log flushed t (Appends its) = OpFits t.request.op → WordsOk t.append.it
 TryRow log flushed t step = ⊤
 
 -- the request and the walk of a try
-abbrev pub BaseOk : Log → ℕ → TryState → Type 0
-BaseOk log flushed t = HeldOk log flushed t.request.held × WalkOk log flushed t.walk
+abbrev pub BaseOk : ℕ → Log → ℕ → TryState → Type 0
+BaseOk begin log flushed t = RequestOk begin log flushed t.request × WalkOk log flushed t.walk
 
-abbrev pub TryOk : Log → ℕ → TryState → Type 0
-TryOk log flushed t = BaseOk log flushed t × TryRow log flushed t t.step
+abbrev pub TryOk : ℕ → Log → ℕ → TryState → Type 0
+TryOk begin log flushed t = BaseOk begin log flushed t × TryRow log flushed t t.step
 
 -- ---- an attempt
 abbrev pub TaskOk : Log → ℕ → MailTask → Type 0
@@ -128,12 +143,12 @@ MailingOk log flushed (mailing.LoadsState task) = TaskOk log flushed task
 MailingOk log flushed (mailing.StoresAddress addr) = IsThere log flushed addr.0
 MailingOk log flushed step = ⊤
 
-abbrev pub AttemptOk : Log → ℕ → AttemptState → Type 0
-AttemptOk log flushed a = PendingOk log flushed a.pending × (MailingOk log flushed a.mailing × TryOk log flushed a.trial)
+abbrev pub AttemptOk : ℕ → Log → ℕ → AttemptState → Type 0
+AttemptOk begin log flushed a = PendingOk begin log flushed a.pending × (MailingOk log flushed a.mailing × TryOk begin log flushed a.trial)
 
--- a record that comes by the mailbox
-abbrev pub RecordOk : Log → ℕ → MailRecord → HeaderSaid → Type 0
-RecordOk log flushed its said = NumberFits its.value × SaysThere log flushed said
+-- A record that comes by the mailbox. One that is gone tells a begin of the log no lower than this.
+abbrev pub RecordOk : ℕ → Log → ℕ → MailRecord → HeaderSaid → Type 0
+RecordOk begin log flushed its said = NumberFits its.value × (SaysThere begin log flushed said × (its.header ≡ 0 → begin ≤ its.key.0))
 
 -- ---- as the log grows and is flushed
 module _ (log log' : Log) (stays : Stays log log') (flushed flushed' : ℕ) (rises : flushed ≤ flushed') where
@@ -143,24 +158,9 @@ module _ (log log' : Log) (stays : Stays log log') (flushed flushed' : ℕ) (ris
   pub there_grows : (a : ℕ) → IsThere log flushed a → IsThere log' flushed' a
   there_grows a its = (stays a its.0, below a its.1)
 
-  pub led_there_grows : (a : ℕ) → IsLedThere log flushed a → IsLedThere log' flushed' a
-  led_there_grows a (inl none) = inl none
-  led_there_grows a (inr its) = inr (there_grows a its)
-
-  pub said_there_grows : (said : HeaderSaid) → SaysThere log flushed said → SaysThere log' flushed' said
-  said_there_grows (Says previous version) ok = led_there_grows previous.0 ok
-  said_there_grows Spoiled ok = tt
-
-  held_grows : (held : Option HeldRecord) → HeldOk log flushed held → HeldOk log' flushed' held
-  held_grows None ok = tt
-  held_grows (Some it) ok = (ok.0, led_there_grows it.previous.0 ok.1)
-
   sought_grows : (sought : Option DiskRecord) → SoughtOk log flushed sought → SoughtOk log' flushed' sought
   sought_grows None ok = tt
   sought_grows (Some it) ok = there_grows it.addr.0 ok
-
-  pub pending_grows : (pending : PendingRequest) → PendingOk log flushed pending → PendingOk log' flushed' pending
-  pending_grows pending ok = (held_grows pending.request.held ok.0, sought_grows pending.sought ok.1)
 
   at_grows : (head a : ℕ) → IsAt log head a → IsAt log' head a
   at_grows head a at = (stays a at.0, at.1)
@@ -198,9 +198,6 @@ module _ (log log' : Log) (stays : Stays log log') (flushed flushed' : ℕ) (ris
   try_row_grows t (Appends its) ok = ok
   try_row_grows t step ok = tt
 
-  try_grows : (t : TryState) → TryOk log flushed t → TryOk log' flushed' t
-  try_grows t ok = ((held_grows t.request.held ok.0.0, walk_grows t.walk.head.0 t.walk.loading t.walk.step ok.0.1), try_row_grows t t.step ok.1)
-
   pub task_grows : (task : MailTask) → TaskOk log flushed task → TaskOk log' flushed' task
   task_grows (Put addr) ok = there_grows addr.0 ok
   task_grows Clear ok = tt
@@ -211,5 +208,27 @@ module _ (log log' : Log) (stays : Stays log log') (flushed flushed' : ℕ) (ris
   mailing_grows (mailing.StoresAddress addr) ok = there_grows addr.0 ok
   mailing_grows step ok = tt
 
-  pub attempt_grows : (a : AttemptState) → AttemptOk log flushed a → AttemptOk log' flushed' a
-  attempt_grows a ok = (pending_grows a.pending ok.0, (mailing_grows a.mailing ok.1.0, try_grows a.trial ok.1.1))
+  module _ (begin : ℕ) where
+    led_there_grows : (a : ℕ) → IsLedThere begin log flushed a → IsLedThere begin log' flushed' a
+    led_there_grows a (inl none) = inl none
+    led_there_grows a (inr its) = inr (there_grows a its)
+
+    said_there_grows : (said : HeaderSaid) → SaysThere begin log flushed said → SaysThere begin log' flushed' said
+    said_there_grows (Says previous version) ok = led_there_grows previous.0 ok
+    said_there_grows Spoiled ok = tt
+
+    pub taken_grows : (its : MailRecord) (said : HeaderSaid) → RecordOk begin log flushed its said → RecordOk begin log' flushed' its said
+    taken_grows its said ok = (ok.0, (said_there_grows said ok.1.0, ok.1.1))
+
+    held_grows : (floor : Addr) (held : Option HeldRecord) → HeldOk begin log flushed floor held → HeldOk begin log' flushed' floor held
+    held_grows floor None ok = tt
+    held_grows floor (Some it) ok = (ok.0, (led_there_grows it.previous.0 ok.1.0, ok.1.1))
+
+    pub pending_grows : (pending : PendingRequest) → PendingOk begin log flushed pending → PendingOk begin log' flushed' pending
+    pending_grows pending ok = (held_grows pending.request.floor pending.request.held ok.0, (sought_grows pending.sought ok.1.0, ok.1.1))
+
+    try_grows : (t : TryState) → TryOk begin log flushed t → TryOk begin log' flushed' t
+    try_grows t ok = ((held_grows t.request.floor t.request.held ok.0.0, walk_grows t.walk.head.0 t.walk.loading t.walk.step ok.0.1), try_row_grows t t.step ok.1)
+
+    pub attempt_grows : (a : AttemptState) → AttemptOk begin log flushed a → AttemptOk begin log' flushed' a
+    attempt_grows a ok = (pending_grows a.pending ok.0, (mailing_grows a.mailing ok.1.0, try_grows a.trial ok.1.1))

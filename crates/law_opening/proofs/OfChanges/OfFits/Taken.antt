@@ -1,10 +1,14 @@
 -- What an attempt takes from its session's mailbox fits in words, since it was read where a record was there.
-use Rattle.std.proofs.Common.{◌≡◌, ℕ, ◌<◌, ◌∙◌, refl, sym, ap, subst, true, false, List, ◌∷◌, ◌++◌}
+use Rattle.std.proofs.Common.{◌≡◌, ℕ, ◌^◌, ◌<◌, ◌∙◌, arith, inl, inr, refl, sym, ap, subst, true, false, List, ◌∷◌, ◌++◌}
 use Rattle.std.specs.Prelude.{Some, slice_get}
+use Rattle.fkv_base.specs.declared.numbers.Addr.{Addr}
+use Rattle.law_refine.proofs.Below.fkv_keeper.Shown.{run_begins}
+use Rattle.law_refine.proofs.Below.law_world.OfKeeper.OwnRun.{of_keeper}
+use Rattle.law_refine.specs.Below.fkv_keeper.SlotLaws.{BeginsAt}
 use Rattle.law_refine.specs.Below.fkv_ops.HeaderWords.{header_said}
 use Rattle.law_refine.specs.Below.fkv_ops.TryAnswer.TheVariants as answer
 use Rattle.law_refine.specs.Below.fkv_pending.Attempting.{attempting_ask}
-use Rattle.law_refine.specs.Below.fkv_pending.Mailbox.{HasAskedFor}
+use Rattle.law_refine.specs.Below.fkv_pending.Mailbox.{HasAskedFor, MailNote}
 use Rattle.law_refine.specs.Below.fkv_pending.Mailing.{mail_ask, mail_next}
 use Rattle.law_refine.specs.Below.fkv_pending.TheAttempting.{Attempting}
 use Rattle.law_refine.specs.Below.fkv_pending.TheAttempting.TheVariants.{Looks}
@@ -16,22 +20,25 @@ use Rattle.fkv_plane.specs.declared.asks.Ask.TheVariants.{Done}
 use Rattle.law_refine.specs.Below.fkv_session.Sessions.{SessionState, session_ask}
 use Rattle.law_refine.specs.Below.fkv_session.Sitting.{Sitting}
 use Rattle.law_refine.specs.Below.fkv_session.Sitting.TheVariants.{Attempts, Polls}
+use Rattle.law_refine.specs.Below.fkv_world.OwnEvents.{keeper_events}
 use Rattle.law_refine.specs.Below.fkv_world.Runs.{World, run}
 use Rattle.law_refine.specs.Below.fkv_world.World.{Event, Now, seat_at}
 use Rattle.law_opening.proofs.OfChanges.OfDevice.There.{CallsLaw, read_ok}
-use Rattle.law_opening.proofs.OfChanges.OfDevice.Words.{WordsLaw}
+use Rattle.law_opening.proofs.OfChanges.OfDevice.Words.{WordsLaw, gone_says}
 use Rattle.law_opening.proofs.OfChanges.OfFits.Held.{Held, HeldSoFar, flushed_at, held_now, held_then, log_at, record_grows}
 use Rattle.law_opening.proofs.OfChanges.OfFits.Mails.{NotesOk}
-use Rattle.law_opening.proofs.OfChanges.OfFits.Rows.{RecordOk}
+use Rattle.law_opening.proofs.OfChanges.OfFits.Rows.{RecordOk, SaysThere}
 use Rattle.law_opening.proofs.OfChanges.OfFits.Told.{TakesFit}
 use Rattle.law_opening.proofs.OfChanges.OfMails.Life.{its_seat}
 use Rattle.law_opening.proofs.OfChanges.OfSessions.Attempting.{attempt_reply}
-use Rattle.law_opening.specs.Changes.Laws.{BeginsFitting}
+use Rattle.law_opening.specs.Changes.Laws.{BeginsFitting, begin_at}
 use Rattle.law_refine.specs.Below.law_local.Sessions.Known.{is_attempting}
-use Rattle.law_log.specs.Ghosts.{Ghosts}
+use Rattle.law_log.specs.Ghosts.{Ghosts, Log}
 use Rattle.law_refine.proofs.OfMail.Takes.{takes_read}
+use Rattle.law_refine.specs.Mail.MailEvents.{record_gone}
 use Rattle.law_refine.specs.Mail.Mailers.{attempt_mailing, sitting_mailing}
-use Rattle.law_refine.specs.Mail.Reads.{HasTakenRead, IsTaking}
+use Rattle.law_refine.specs.Mail.Reads.{GivenSince, GoneSince, HasTakenRead, IsTaking, ReadSince}
+use Rattle.law_refine.specs.Mail.Servers.{begin_of}
 
 -- an attempt that looks into the mailbox works on it
 looks_by : (s : SessionState) (step : Sitting) → is_attempting step ≡ true → s.attempt.step ≡ Looks → sitting_mailing s step ≡ Some s.attempt.mailing
@@ -40,18 +47,45 @@ looks_by s (Polls index) attempts at = ap (attempt_mailing s.attempt) at
 looks_by s step attempts at = cc
 
 module _ (opening : World) (start : ℕ) (lists : ℕ → List ℕ) (ghosts : Ghosts) (begins : BeginsFitting opening start lists ghosts) (calls : CallsLaw) (words : WordsLaw) where
+  -- the keeper goes by the begin that the log was opened with
+  its_begin : (events : List Event) → begin_of (run opening events).now.keeper ≡ begin_at opening.now
+  its_begin events =
+      let begin : BeginsAt opening.now.keeper.last.begin (run opening events).now.keeper =
+      of_keeper (λ s. BeginsAt opening.now.keeper.last.begin s) opening events (run_begins opening.now.shape opening.now.places opening.now.keeper (keeper_events opening events) begins.linked.world.keeper) in
+      ap (λ (a : Addr). a.0) begin.serves
+
+  -- so whoever is told that a record is gone is told that
+  gone_ok : (session : ℕ) (events : List Event) (addr : Addr) (its : MailRecord) (asked : List MailNote) → GoneSince opening session events addr its asked
+      → RecordOk (begin_at opening.now) (log_at opening ghosts events) (flushed_at opening events) its (header_said its.header)
+  gone_ok session events addr its asked gone =
+      let told : MailRecord = record_gone (begin_of (run opening gone.earlier).now.keeper) in
+      let log : Log = log_at opening ghosts events in
+      let flushed : ℕ = flushed_at opening events in
+      let same = its_begin gone.earlier in
+      subst (λ (x : MailRecord). RecordOk (begin_at opening.now) log flushed x (header_said x.header)) (sym gone.gives)
+      (small, (subst (SaysThere (begin_at opening.now) log flushed) (sym (gone_says told.header refl)) tt, λ none. omega (arith, same)))
+    where
+      small : 0 < 2 ^ 64
+      small = omega arith
+
   -- what was read since it was asked for
-  since_ok : (session : ℕ) (events : List Event) (its : MailRecord) (taken : HasTakenRead opening session events its) → session < opening.now.places.sessions → HeldSoFar opening start ghosts events → RecordOk (log_at opening ghosts events) (flushed_at opening events) its (header_said its.header)
-  since_ok session events its taken there held =
-      let read = taken.read in
+  read_since : (session : ℕ) (events : List Event) (addr : Addr) (its : MailRecord) (before : List MailNote) (read : ReadSince opening session events addr its (HasAskedFor addr ∷ before)) → session < opening.now.places.sessions → HeldSoFar opening start ghosts events
+      → RecordOk (begin_at opening.now) (log_at opening ghosts events) (flushed_at opening events) its (header_said its.header)
+  read_since session events addr its before read there held =
       let so_far : HeldSoFar opening start ghosts (read.later ++ (read.event ∷ read.earlier)) = subst (λ (es : List Event). HeldSoFar opening start ghosts es) read.cut held in
       let behind : HeldSoFar opening start ghosts (read.event ∷ read.earlier) = held_then opening start ghosts read.later (read.event ∷ read.earlier) so_far in
       let earlier_held : Held opening start ghosts read.earlier = held_now opening start ghosts read.earlier behind.1 in
-      let notes : NotesOk (log_at opening ghosts read.earlier) (flushed_at opening read.earlier) (HasAskedFor taken.addr ∷ taken.before) = subst (NotesOk (log_at opening ghosts read.earlier) (flushed_at opening read.earlier)) read.since (earlier_held.asked session there).1 in
-      let was : RecordOk (log_at opening ghosts read.earlier) (flushed_at opening read.earlier) its (header_said its.header) = subst (λ (x : MailRecord). RecordOk (log_at opening ghosts read.earlier) (flushed_at opening read.earlier) x (header_said x.header)) (sym read.gives)
-      (read_ok opening start lists ghosts begins read.earlier calls words earlier_held.log taken.addr.0 notes.0) in
-      subst (λ (es : List Event). RecordOk (log_at opening ghosts es) (flushed_at opening es) its (header_said its.header)) (sym read.cut)
+      let notes : NotesOk (log_at opening ghosts read.earlier) (flushed_at opening read.earlier) (HasAskedFor addr ∷ before) = subst (NotesOk (log_at opening ghosts read.earlier) (flushed_at opening read.earlier)) read.since (earlier_held.asked session there).1 in
+      let was : RecordOk (begin_at opening.now) (log_at opening ghosts read.earlier) (flushed_at opening read.earlier) its (header_said its.header) =
+      subst (λ (x : MailRecord). RecordOk (begin_at opening.now) (log_at opening ghosts read.earlier) (flushed_at opening read.earlier) x (header_said x.header)) (sym read.gives)
+      (read_ok opening start lists ghosts begins read.earlier calls words earlier_held.log addr.0 notes.0) in
+      subst (λ (es : List Event). RecordOk (begin_at opening.now) (log_at opening ghosts es) (flushed_at opening es) its (header_said its.header)) (sym read.cut)
       (record_grows opening start lists ghosts begins.linked read.later read.event read.earlier its (header_said its.header) was)
+
+  since_ok : (session : ℕ) (events : List Event) (addr : Addr) (its : MailRecord) (before : List MailNote) → GivenSince opening session events addr its (HasAskedFor addr ∷ before) → session < opening.now.places.sessions → HeldSoFar opening start ghosts events
+      → RecordOk (begin_at opening.now) (log_at opening ghosts events) (flushed_at opening events) its (header_said its.header)
+  since_ok session events addr its before (inl read) there held = read_since session events addr its before read there held
+  since_ok session events addr its before (inr gone) there held = gone_ok session events addr its (HasAskedFor addr ∷ before) gone
 
   module _ (events : List Event) (session : ℕ) (s : SessionState) (held : HeldSoFar opening start ghosts events) (alive : (run opening events).now.crashed ≡ false) (found : slice_get (run opening events).now.sessions session ≡ Some s) (attempts : is_attempting s.step ≡ true) where
     abbrev N : Now
@@ -67,7 +101,7 @@ module _ (opening : World) (start : ℕ) (lists : ℕ → List ℕ) (ghosts : Gh
         attempt_reply (seat_at N session) N.words s s.step attempts
         ∙ (ap (λ (step : Attempting). reply_to N.words (attempting_ask N.places session s.attempt step)) at ∙ passed_reply N.words (mail_ask session s.attempt.mailing) answer.Shift)
 
-    look_ok : s.attempt.step ≡ Looks → (its : MailRecord) → mail_ask session (mail_next s.attempt.mailing reply) ≡ Done (mail.Taken its) → RecordOk (log_at opening ghosts events) (flushed_at opening events) its (header_said its.header)
+    look_ok : s.attempt.step ≡ Looks → (its : MailRecord) → mail_ask session (mail_next s.attempt.mailing reply) ≡ Done (mail.Taken its) → RecordOk (begin_at opening.now) (log_at opening ghosts events) (flushed_at opening events) its (header_said its.header)
     look_ok at its e =
         let there : session < opening.now.places.sessions = its_seat opening start events session s begins.linked.now found in
         let taking : IsTaking N session its = record {
@@ -77,11 +111,12 @@ module _ (opening : World) (start : ℕ) (lists : ℕ → List ℕ) (ghosts : Gh
           under_way = looks_by s s.step attempts at;
           takes = subst (λ (x : ℕ). mail_ask session (mail_next s.attempt.mailing x) ≡ Done (mail.Taken its)) (its_reply at) e;
         } in
-        since_ok session events its (takes_read opening session events its (begins.mailboxes session there) alive taking) there held
+        let taken : HasTakenRead opening session events its = takes_read opening session events its (begins.mailboxes session there) alive taking in
+        since_ok session events taken.addr its taken.before taken.given there held
 
-    by_step : (step : Attempting) → s.attempt.step ≡ step → TakesFit (log_at opening ghosts events) (flushed_at opening events) session s.attempt step reply
+    by_step : (step : Attempting) → s.attempt.step ≡ step → TakesFit (begin_at opening.now) (log_at opening ghosts events) (flushed_at opening events) session s.attempt step reply
     by_step Looks at = λ its e. look_ok at its e
     by_step step at = tt
 
-    pub takes_fit : TakesFit (log_at opening ghosts events) (flushed_at opening events) session s.attempt s.attempt.step reply
+    pub takes_fit : TakesFit (begin_at opening.now) (log_at opening ghosts events) (flushed_at opening events) session s.attempt s.attempt.step reply
     takes_fit = by_step s.attempt.step refl

@@ -55,15 +55,15 @@ abbrev pub ValuesFit : Log → Places → Seen → List ℕ → Type 0
 ValuesFit log p seen words = (a : ℕ) → IsAt log seen.offsets.head.0 a → NumberFits (word_at words (record_place p a rec.Value))
 
 -- a record that is taken from the mailbox
-abbrev pub TakesFit : Log → ℕ → ℕ → AttemptState → Attempting → ℕ → Type 0
-TakesFit log flushed session a Looks reply = (its : MailRecord) → mail_ask session (mail_next a.mailing reply) ≡ Done (mail.Taken its) → RecordOk log flushed its (header_said its.header)
-TakesFit log flushed session a step reply = ⊤
+abbrev pub TakesFit : ℕ → Log → ℕ → ℕ → AttemptState → Attempting → ℕ → Type 0
+TakesFit begin log flushed session a Looks reply = (its : MailRecord) → mail_ask session (mail_next a.mailing reply) ≡ Done (mail.Taken its) → RecordOk begin log flushed its (header_said its.header)
+TakesFit begin log flushed session a step reply = ⊤
 
-taken_told : (log : Log) (flushed : ℕ) (ask : Ask MailAnswer) → ((its : MailRecord) → ask ≡ Done (mail.Taken its) → RecordOk log flushed its (header_said its.header)) → TakenTold log flushed ask
-taken_told log flushed (Done (mail.Taken its)) takes = takes its refl
-taken_told log flushed ask takes = tt
+taken_told : (begin : ℕ) (log : Log) (flushed : ℕ) (ask : Ask MailAnswer) → ((its : MailRecord) → ask ≡ Done (mail.Taken its) → RecordOk begin log flushed its (header_said its.header)) → TakenTold begin log flushed ask
+taken_told begin log flushed (Done (mail.Taken its)) takes = takes its refl
+taken_told begin log flushed ask takes = tt
 
-module _ (log : Log) (flushed : ℕ) (p : Places) (seen : Seen) (words : List ℕ) (values : ValuesFit log p seen words) (below : seen.offsets.head.0 ≤ flushed) (reply : ℕ) where
+module _ (begin : ℕ) (log : Log) (flushed : ℕ) (p : Places) (seen : Seen) (words : List ℕ) (values : ValuesFit log p seen words) (below : seen.offsets.head.0 ≤ flushed) (reply : ℕ) where
   value_told : (loading : Loading) → reply ≡ reply_to words (load_ask p loading) → ValueTold log seen.offsets.head.0 loading reply
   unfolding load_ask
   value_told (load.LoadsValue its header key) e = λ at. subst NumberFits (sym e) (values its.0 at)
@@ -90,17 +90,17 @@ module _ (log : Log) (flushed : ℕ) (p : Places) (seen : Seen) (words : List �
   try_told request its_seen t LoadsOld same walks e = past_told t (same_head its_seen t same walks.its_head) (e ∙ passed_reply words (walk_ask p t.walk) answer.Shift)
   try_told request its_seen t step same walks e = tt
 
-  attempt_told : (bits session : ℕ) (a : AttemptState) (step : Attempting) → a.seen ≡ seen → TriesFor bits a step → reply ≡ reply_to words (attempting_ask p session a step) → TakesFit log flushed session a step reply → AttemptValueTold log flushed session a step reply
+  attempt_told : (bits session : ℕ) (a : AttemptState) (step : Attempting) → a.seen ≡ seen → TriesFor bits a step → reply ≡ reply_to words (attempting_ask p session a step) → TakesFit begin log flushed session a step reply → AttemptValueTold begin log flushed session a step reply
   unfolding attempting_ask
   attempt_told bits session a Tries same its e takes = try_told a.pending.request a.seen a.trial a.trial.step same its.its_walk (e ∙ passed_reply words (try_ask p a.trial) answer.Shift)
-  attempt_told bits session a Looks same its e takes = taken_told log flushed (mail_ask session (mail_next a.mailing reply)) takes
+  attempt_told bits session a Looks same its e takes = taken_told begin log flushed (mail_ask session (mail_next a.mailing reply)) takes
   attempt_told bits session a step same its e takes = tt
 
-pub session_told : (log : Log) (flushed : ℕ) (k : Seat) (words : List ℕ) (s : SessionState) → is_attempting s.step ≡ true → AttemptsBy k s s.step → ValuesFit log k.places s.seen words → s.seen.offsets.head.0 ≤ flushed
-    → TakesFit log flushed k.number s.attempt s.attempt.step (reply_to words (sitting_ask k s s.step)) → AttemptValueTold log flushed k.number s.attempt s.attempt.step (reply_to words (sitting_ask k s s.step))
-session_told log flushed k words s attempts so values below takes =
+pub session_told : (begin : ℕ) (log : Log) (flushed : ℕ) (k : Seat) (words : List ℕ) (s : SessionState) → is_attempting s.step ≡ true → AttemptsBy k s s.step → ValuesFit log k.places s.seen words → s.seen.offsets.head.0 ≤ flushed
+    → TakesFit begin log flushed k.number s.attempt s.attempt.step (reply_to words (sitting_ask k s s.step)) → AttemptValueTold begin log flushed k.number s.attempt s.attempt.step (reply_to words (sitting_ask k s s.step))
+session_told begin log flushed k words s attempts so values below takes =
     let its = goes_so k s s.step attempts so in
-    attempt_told log flushed k.places s.seen words values below (reply_to words (sitting_ask k s s.step)) (bits_of k) k.number s.attempt s.attempt.step its.seen its.tries (attempt_reply k words s s.step attempts) takes
+    attempt_told begin log flushed k.places s.seen words values below (reply_to words (sitting_ask k s s.step)) (bits_of k) k.number s.attempt s.attempt.step its.seen its.tries (attempt_reply k words s s.step attempts) takes
 
 -- ---- at a moment of a life
 pub values_fit : (opening : World) (start : ℕ) (lists : ℕ → List ℕ) (ghosts : Ghosts) (events : List Event) (session : ℕ) (s : SessionState) → BeginsLinked opening start lists ghosts → AreChangesPublished opening ghosts events

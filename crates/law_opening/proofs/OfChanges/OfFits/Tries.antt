@@ -1,6 +1,6 @@
 -- Each reply leads a try on to a state in which what it has loaded and what it makes fit, and what it awaits on the device is there.
 use Rattle.std.proofs.Common.{◌≡◌, ℕ, ◌≤◌, refl, sym, subst, Bool, true, false, Option, Some, None}
-use Rattle.std.specs.Prelude.{⊤, ◌==◌, ◌&&◌, not, nat_le, if◌then◌else◌}
+use Rattle.std.specs.Prelude.{⊤, ◌==◌, ◌&&◌, ◌||◌, not, nat_le, if◌then◌else◌}
 use Rattle.fkv_base.specs.declared.numbers.Addr.{Addr}
 use Rattle.fkv_base.specs.declared.numbers.Version.{Version}
 use Rattle.fkv_latch.specs.Latching.{latch_ask, latch_next, latch_next_ask}
@@ -14,7 +14,7 @@ use Rattle.fkv_map.specs.Keys.{key_of, reply_from, value_applied}
 use Rattle.fkv_map.specs.Map.{absent_word}
 use Rattle.fkv_map.specs.declared.operations.Reply.{Reply}
 use Rattle.law_refine.specs.Below.fkv_ops.Appending.{append_ask, append_next}
-use Rattle.law_refine.specs.Below.fkv_ops.Requests.{is_blind, is_read}
+use Rattle.law_refine.specs.Below.fkv_ops.Requests.{is_blind, is_chain_end, is_read}
 use Rattle.law_refine.specs.Below.fkv_ops.Trying.{TryState, answer_ledto, append_ledto, awaits, changes, copies, copies_from, current_ledto, ended_without, ends_so, ends_by, is_bounded, tail_loaded, taken_loaded, must_count, count_loaded, ends, appends, exclusive_dropped, exclusive_ledto, full_at, has_walked, held_used, is_own_version, is_wait, met_disk, met_nowhere, met_record, must_shift, new_try, old_ledto, region_met, safe_loaded, shared_dropped, shared_ledto, takes_effect, told_value, try_ask, try_begun, try_next, trying_ask, trying_next, value_changed, walk_ledto, walked, walks, wants_exclusive, wants_shared, with_latch, is_next_marked, latch_shared, is_still_in, phase_loaded, is_surely_own}
 use Rattle.law_refine.specs.Below.fkv_ops.Values.{value_of}
 use Rattle.law_refine.specs.Below.fkv_ops.Walking.{walk_ask, walk_next, walk_on, walk_rested}
@@ -40,7 +40,7 @@ use Rattle.fkv_plane.specs.declared.asks.Ask.{Ask}
 use Rattle.fkv_plane.specs.declared.asks.Ask.TheVariants.{Done}
 use Rattle.fkv_plane.specs.declared.places.Places.{Places}
 use Rattle.law_opening.proofs.OfChanges.OfFits.Numbers.{absent_fits, applied_fits, key_fits, said_fits, word_fits}
-use Rattle.law_opening.proofs.OfChanges.OfFits.Rows.{AnswerOk, BaseOk, HeldOk, IsThere, OldOk, TryOk, TryRow, WalkAnswerOk, WordsOk, led_on}
+use Rattle.law_opening.proofs.OfChanges.OfFits.Rows.{AnswerOk, BaseOk, HeldOk, IsThere, OldOk, RequestOk, TryOk, TryRow, WalkAnswerOk, WordsOk, led_on}
 use Rattle.law_opening.proofs.OfChanges.OfFits.Walks.{WalkValueTold, on_ok, past_ok, walk_answers, walk_ok}
 use Rattle.law_opening.proofs.OfChanges.Rows.{TryKnown}
 use Rattle.law_opening.proofs.OfChanges.TryRows.{TryTold, append_same}
@@ -59,12 +59,12 @@ TryValueTold log flushed t LoadsAnswer reply = WalkValueTold log t.walk t.walk.s
 TryValueTold log flushed t LoadsOld reply = WalkValueTold log t.walk t.walk.step reply
 TryValueTold log flushed t step reply = ⊤
 
-module _ (log : Log) (flushed : ℕ) (p : Places) where
+module _ (begin : ℕ) (log : Log) (flushed : ℕ) (p : Places) where
   abbrev Base : TryState → Type 0
-  Base t = BaseOk log flushed t
+  Base t = BaseOk begin log flushed t
 
   abbrev Ok : TryState → Type 0
-  Ok t = TryOk log flushed t
+  Ok t = TryOk begin log flushed t
 
   still : (t : TryState) (step : Trying) → t.step ≡ step → Base t → TryRow log flushed t step → Ok t
   still t step at base ok = (base, subst (TryRow log flushed t) (sym at) ok)
@@ -153,34 +153,32 @@ module _ (log : Log) (flushed : ℕ) (p : Places) where
   awaits_ok : (t : TryState) (addr : Addr) → Base t → IsThere log flushed addr.0 → Ok (awaits p t addr)
   awaits_ok t addr base there = ends_ok t (answer.AwaitsDisk (record { entry = t.walk.entry; addr = addr })) base there
 
-  held_ok : (t : TryState) (addr : Addr) (its : Option HeldRecord) → Base t → IsThere log flushed addr.0 → HeldOk log flushed its → Ok (held_used p t addr its)
+  held_ok : (t : TryState) (addr : Addr) (its : Option HeldRecord) → Base t → IsThere log flushed addr.0 → HeldOk begin log flushed t.request.floor its → Ok (held_used p t addr its)
   unfolding held_used
   held_ok t addr None base there ok = awaits_ok t addr base there
   held_ok t addr (Some it) base there ok = by_entry (it.entry == t.walk.entry)
     where
-      by_end : (b : Bool) → (it.previous.0 == 0) ≡ b → Ok (if b then copies p t (Known absent_word) false else awaits p t it.previous)
+      by_end : (b : Bool) → is_chain_end t.request.floor it.previous ≡ b → Ok (if b then copies p t (Known absent_word) false else awaits p t it.previous)
       by_end true e = copies_ok t (Known absent_word) false base absent_fits
-      by_end false e = awaits_ok t it.previous base (led_on log flushed it.previous.0 e ok.1)
+      by_end false e = awaits_ok t it.previous base (led_on begin log flushed t.request.floor it.previous ok.1.1 e ok.1.0)
 
-      by_key : (b : Bool) → Ok (if b then copies p t (Known it.value) false else if it.previous.0 == 0 then copies p t (Known absent_word) false else awaits p t it.previous)
+      by_key : (b : Bool) → Ok (if b then copies p t (Known it.value) false else if is_chain_end t.request.floor it.previous then copies p t (Known absent_word) false else awaits p t it.previous)
       by_key true = copies_ok t (Known it.value) false base ok.0
-      by_key false = by_end (it.previous.0 == 0) refl
+      by_key false = by_end (is_chain_end t.request.floor it.previous) refl
 
       by_entry : (b : Bool)
-          → Ok (if b then (if it.key.0 == (key_of t.request.op).0 then copies p t (Known it.value) false else if it.previous.0 == 0 then copies p t (Known absent_word) false else awaits p t it.previous) else awaits p t addr)
+          → Ok (if b then (if it.key.0 == (key_of t.request.op).0 then copies p t (Known it.value) false else if is_chain_end t.request.floor it.previous then copies p t (Known absent_word) false else awaits p t it.previous) else awaits p t addr)
       by_entry true = by_key (it.key.0 == (key_of t.request.op).0)
       by_entry false = awaits_ok t addr base there
 
   disk_ok : (t : TryState) (addr : Addr) → Base t → IsThere log flushed addr.0 → Ok (met_disk p t addr)
-  disk_ok t addr base there = by_read (is_read t.request.op)
+  disk_ok t addr base there = by_tests (is_read t.request.op) (is_blind t.request.op || is_chain_end t.request.floor addr) (is_chain_end t.request.floor addr)
     where
-      by_blind : (b : Bool) → Ok (if b then copies p t (Known absent_word) false else held_used p t addr t.request.held)
-      by_blind true = copies_ok t (Known absent_word) false base absent_fits
-      by_blind false = held_ok t addr t.request.held base there base.0
-
-      by_read : (b : Bool) → Ok (if b then awaits p t addr else if is_blind t.request.op then copies p t (Known absent_word) false else held_used p t addr t.request.held)
-      by_read true = awaits_ok t addr base there
-      by_read false = by_blind (is_blind t.request.op)
+      by_tests : (a b c : Bool) → Ok (if a then (if c then ends p t answer.Absent else awaits p t addr) else if b then copies p t (Known absent_word) false else held_used p t addr t.request.held)
+      by_tests true b true = ends_ok t answer.Absent base tt
+      by_tests true b false = awaits_ok t addr base there
+      by_tests false true c = copies_ok t (Known absent_word) false base absent_fits
+      by_tests false false c = held_ok t addr t.request.held base there base.0
 
   nowhere_ok : (t : TryState) → Base t → Ok (met_nowhere p t)
   nowhere_ok t base = by_tests (is_read t.request.op) (must_count p t)
@@ -386,9 +384,9 @@ module _ (log : Log) (flushed : ℕ) (p : Places) where
       by_test true = (base, tt)
       by_test false = ((base.0, tt), tt)
 
-  pub new_ok : (bits : ℕ) (request : Request) (seen : Seen) (occasion : Occasion) (spare : ℕ) → HeldOk log flushed request.held → Ok (new_try bits request seen occasion spare)
+  pub new_ok : (bits : ℕ) (request : Request) (seen : Seen) (occasion : Occasion) (spare : ℕ) → RequestOk begin log flushed request → Ok (new_try bits request seen occasion spare)
   unfolding walk_rested
   new_ok bits request seen occasion spare held = ((held, tt), tt)
 
-  pub try_begins : (bits : ℕ) (request : Request) (seen : Seen) (occasion : Occasion) (spare : ℕ) → HeldOk log flushed request.held → Ok (try_begun p bits request seen occasion spare)
+  pub try_begins : (bits : ℕ) (request : Request) (seen : Seen) (occasion : Occasion) (spare : ℕ) → RequestOk begin log flushed request → Ok (try_begun p bits request seen occasion spare)
   try_begins bits request seen occasion spare held = begun_ok (new_try bits request seen occasion spare) (new_ok bits request seen occasion spare held).0

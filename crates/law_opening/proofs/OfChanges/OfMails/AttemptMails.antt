@@ -1,6 +1,7 @@
 -- An attempt that looks into the mailbox never comes to say there that it asks: the machine with which it looks takes a record.
 use Rattle.std.proofs.Common.{◌≡◌, ℕ, refl, sym, subst, Bool, true, false}
 use Rattle.std.specs.Prelude.{⊤, if◌then◌else◌, ◌==◌, Option, Some, None}
+use Rattle.fkv_base.specs.declared.numbers.Addr.{Addr}
 use Rattle.fkv_map.specs.Keys.{key_of}
 use Rattle.fkv_plane.specs.declared.asks.Ask.{Ask}
 use Rattle.fkv_plane.specs.declared.asks.Ask.TheVariants.{Done}
@@ -13,6 +14,7 @@ use Rattle.law_refine.specs.Below.fkv_ops.HeaderSaid.TheVariants.{Says, Spoiled}
 use Rattle.law_refine.specs.Below.fkv_ops.Occasion.{Occasion}
 use Rattle.law_refine.specs.Below.fkv_ops.Seen.{Seen}
 use Rattle.law_refine.specs.Below.fkv_ops.HeaderWords.{header_said}
+use Rattle.law_refine.specs.Below.fkv_ops.Requests.{is_chain_end}
 use Rattle.law_refine.specs.Below.fkv_ops.Trying.{told_value, try_ask, try_next}
 use Rattle.law_refine.specs.Below.fkv_ops.Values.{value_of}
 use Rattle.law_refine.specs.Below.fkv_pending.TheAttempting.{Attempting}
@@ -24,9 +26,9 @@ use Rattle.law_refine.specs.Below.fkv_pending.MailTask.TheVariants.{Clear, Put, 
 use Rattle.law_refine.specs.Below.fkv_pending.TheMailing.{Mailing}
 use Rattle.law_refine.specs.Below.fkv_pending.TheMailing.TheVariants.{Ended, LoadsState, LoadsHeader, LoadsKey, LoadsValue, StoresEmpty, StoresAddress, StoresAsked}
 use Rattle.law_refine.specs.Below.fkv_pending.PendingRequest.{PendingRequest}
-use Rattle.law_refine.specs.Below.fkv_pending.Attempting.{AttemptState, attempt_begun, attempt_ended, attempt_next, attempting_next, goes_on, held_kept, held_of, is_seeking_read, look_ledto, mail_moved, moved_on, not_ready, put_ledto, puts, puts_addr, read_on, record_taken, tried, tries, try_ledto, try_moved, waits_for_disk, new_attempt}
-use Rattle.law_refine.specs.Below.fkv_pending.Mailing.{mail_ask, mail_next, mail_ready}
-use Rattle.law_refine.specs.Below.fkv_pending.Pending.{with_asked, with_held, with_latch, with_sought}
+use Rattle.law_refine.specs.Below.fkv_pending.Attempting.{AttemptState, attempt_begun, attempt_ended, attempt_next, attempting_next, goes_anew, goes_on, held_kept, held_of, is_seeking_read, look_ledto, mail_moved, mail_taken, moved_on, not_ready, put_ledto, puts, puts_addr, read_on, record_taken, tried, tries, try_ledto, try_moved, waits_for_disk, new_attempt}
+use Rattle.law_refine.specs.Below.fkv_pending.Mailing.{begin_told, is_gone, mail_ask, mail_next, mail_ready}
+use Rattle.law_refine.specs.Below.fkv_pending.Pending.{with_asked, with_held, with_latch, with_sought, without_gone}
 
 -- a machine that comes to say that it asks: it puts an address
 abbrev pub is_putting : Mailing → Bool
@@ -86,17 +88,27 @@ read_looks a its Spoiled = puts_look a a.pending.sought
 read_looks a its (Says previous version) =
     let moved : AttemptState = record a { pending = with_sought a.pending (moved_on a.pending.sought previous) } in
     either_looks (its.key.0 == (key_of a.pending.request.op).0) (attempt_ended a (told_value (value_of its.value))) _ tt
-    (either_looks (previous.0 == 0) (attempt_ended a answer.Absent) (puts moved) tt (puts_look moved moved.pending.sought))
+    (either_looks (is_chain_end a.pending.request.floor previous) (attempt_ended a answer.Absent) (puts moved) tt (puts_look moved moved.pending.sought))
 
 record_looks : (p : Places) (bits : ℕ) (a : AttemptState) (its : MailRecord) (said : HeaderSaid) → AttemptLooks (record_taken p bits a its said)
 record_looks p bits a its said = either_looks (is_seeking_read a) (read_on a its said) (tries p bits (record a { pending = with_held a.pending (held_of a.pending.sought its said) })) (read_looks a its said) tt
+
+-- a record that is gone
+anew_looks : (p : Places) (bits : ℕ) (a : AttemptState) (begin : Addr) → AttemptLooks (goes_anew p bits a begin)
+anew_looks p bits a begin =
+    let its : AttemptState = record a { pending = without_gone a.pending begin } in
+    either_looks (is_seeking_read a) (waits_for_disk its) (tries p bits its) tt tt
+
+taken_looks : (p : Places) (bits : ℕ) (a : AttemptState) (its : MailRecord) → AttemptLooks (mail_taken p bits a its)
+taken_looks p bits a its =
+    either_looks (is_gone its) (goes_anew p bits a (begin_told its)) (record_taken p bits a its (header_said its.header)) (anew_looks p bits a (begin_told its)) (record_looks p bits a its (header_said its.header))
 
 none_looks : (p : Places) (bits : ℕ) (a : AttemptState) → AttemptLooks (not_ready p bits a)
 none_looks p bits a = either_looks (is_seeking_read a) (waits_for_disk a) (tries p bits a) tt tt
 
 look_looks : (p : Places) (bits : ℕ) (a : AttemptState) (ask : Ask MailAnswer) → a.step ≡ attempting.Looks → is_putting a.mailing ≡ false → AttemptLooks (look_ledto p bits a ask)
 unfolding look_ledto
-look_looks p bits a (Done (mail.Taken its)) at none = record_looks p bits (record a { is_emptied = true; pending = with_asked a.pending false }) its (header_said its.header)
+look_looks p bits a (Done (mail.Taken its)) at none = taken_looks p bits (record a { is_emptied = true; pending = with_asked a.pending false }) its
 look_looks p bits a (Done other) at none = none_looks p bits a
 look_looks p bits a ask at none = still_looks a attempting.Looks at none
 

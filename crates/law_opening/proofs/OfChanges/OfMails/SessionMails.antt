@@ -36,7 +36,7 @@ use Rattle.law_refine.specs.Below.fkv_session.Sitting.TheVariants.{Idle, Attempt
 use Rattle.law_refine.specs.Below.fkv_session.CatchingUp.{refresh_begun, wake_begun}
 use Rattle.law_refine.specs.Below.fkv_session.OwnTurns.{own_turn_ask, own_turn_begun, own_turn_given}
 use Rattle.law_refine.specs.Below.fkv_session.SessionRun.{SessionEvent, Begins, Replies, Gets, begins, session_happens, session_run}
-use Rattle.law_refine.specs.Below.fkv_session.Sessions.{SessionState, Seat, bits_of, room_of, is_busy, answers, answers_after_turn, request_in_hand, attempts, polls_request, polls_at, refuses, refusal_of, op_begun, refresh_call, poll_begun, poll_call, sleep_call, wake_call, call_begun, session_begun, session_next, session_given, attempt_left, serial_taken, update_done, ticket_after, is_no_room, with_request, accepts, shifts, attempted, attempt_ledto, caught_up, catch_ledto, clear_ledto, is_finished, is_owed, request_finished, finishes_request, lacks_room, keeps_request, poll_ledto, turn_ledto, leave_ledto, attempt_moved, caught, own_turn_moved, sitting_next, sitting_given, asks_after, is_word_ask, session_ask, IsOpened}
+use Rattle.law_refine.specs.Below.fkv_session.Sessions.{SessionState, Seat, bits_of, room_of, is_busy, answers, answers_after_turn, request_in_hand, attempts, polls_request, polls_at, refuses, refusal_of, op_begun, refresh_call, poll_begun, poll_call, sleep_call, wake_call, call_begun, session_begun, session_next, session_given, attempt_left, poll_left, serial_taken, update_done, ticket_after, is_no_room, with_request, accepts, shifts, attempted, attempt_ledto, caught_up, catch_ledto, clear_ledto, is_finished, is_owed, request_finished, finishes_request, lacks_room, keeps_request, poll_ledto, turn_ledto, leave_ledto, attempt_moved, caught, own_turn_moved, sitting_next, sitting_given, asks_after, is_word_ask, session_ask, IsOpened}
 use Rattle.law_refine.specs.Below.law_local.Sessions.Known.{attempt_comes_to, is_attempting}
 use Rattle.law_refine.specs.Mail.Mailers.{attempt_mailing, session_mailing, sitting_mailing}
 use Rattle.law_opening.proofs.OfChanges.OfMails.AttemptMails.{AttemptLooks, LooksAlone, begun_looks, is_putting, next_looks, next_puts}
@@ -131,7 +131,7 @@ keeps_by k s i its = polls_by k (record s { requests = slice_set s.requests i s.
 
 poll_by : (k : Seat) (s : SessionState) (i : ℕ) (ask : Ask TryAnswer) → s.step ≡ Polls i → AttemptLooks s.attempt → MailsSo (poll_ledto k s i ask)
 unfolding poll_ledto
-poll_by k s i (Done its) at so = either_by (is_finished its) (finishes_request k (attempt_left s) i its) (keeps_request k (attempt_left s) i its) (finishes_by k (attempt_left s) i its) (keeps_by k (attempt_left s) i its)
+poll_by k s i (Done its) at so = either_by (is_finished its) (finishes_request k (poll_left s) i its) (keeps_request k (poll_left s) i its) (finishes_by k (poll_left s) i its) (keeps_by k (poll_left s) i its)
 poll_by k s i ask at so = still_by s (Polls i) at so
 
 turned_by : (s : SessionState) (its : Told) (ask : Ask (Unit {0})) → s.step ≡ Turns its → MailsSo (turn_ledto s its ask)

@@ -1,11 +1,12 @@
 -- The laws, by what an opened store begins with.
-use Rattle.std.proofs.Common.{refl}
+use Rattle.std.proofs.Common.{◌∙◌, ap, refl, sym}
 use Rattle.fkv_core.specs.Openings.{beginning}
 use Rattle.fkv_filling.specs.OpeningIndex.{opening_lists}
 use Rattle.law_opening.proofs.OfChanges.OfDevice.Image.{in_image}
 use Rattle.law_opening.proofs.OfChanges.OfDevice.Mailboxes.{mailboxes_empty}
 use Rattle.law_opening.proofs.OfChanges.OfDevice.Openings.{cells_fit_opened}
 use Rattle.law_opening.specs.Log.OpeningLog.{opening_ghosts}
+use Rattle.law_refine.specs.Below.fkv_keeper.Keeping.{Finality}
 use Rattle.law_refine.proofs.OfMail.Openings.{opened_mailbox}
 use Rattle.law_opening.proofs.fitting.law_lives_fit.Goals as goal
 
@@ -17,7 +18,8 @@ returns-clause-begins c = λ o n bytes store world.
       linked = c.law_lives_change_published.ensures.begins o n bytes store world;
       store = guarded;
       mailboxes = λ session there. opened_mailbox n o.tail.0 session guarded.now (mailboxes_empty o n world (c.law_words_open.ensures.words o n world)) there;
-      device = in_image bytes o n store world.its_shape counted;
+      floors = λ session s found. (world.its_sessions session s found).floor ∙ sym (ap (λ (last : Finality). last.begin) world.its_keeper.newest);
+      device = in_image bytes o n store world counted;
       fits = cells_fit_opened bytes o store counted;
       no_history = refl;
     }

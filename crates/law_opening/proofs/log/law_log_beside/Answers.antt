@@ -6,7 +6,7 @@ use Rattle.law_log.specs.Enabled.{IsOpened}
 use Rattle.law_refine.specs.Events.GhostEvents.{home_in}
 use Rattle.law_opening.specs.Log.Maps.{opening_map}
 use Rattle.law_opening.specs.Log.OpeningLog.{opening_ghosts}
-use Rattle.law_opening.proofs.OfLog.WorldOpens.{world_opens}
+use Rattle.law_opening.proofs.OfLives.WorldOpens.{world_opens}
 use Rattle.law_opening.proofs.log.law_log_beside.Goals as goal
 
 pub returns-clause-beside : goal.returns-clause-beside

@@ -1,5 +1,6 @@
 -- What the log and the slot of an image are to `law_paper`.
-use Rattle.std.proofs.Common.{ℕ, ◌<◌, ◌≤◌, arith, ap, List}
+use Rattle.std.proofs.Common.{◌≡◌, ◌∙◌, ℕ, ◌<◌, ◌≤◌, arith, ap, List}
+use Rattle.fkv_base.specs.declared.numbers.Addr.{Addr}
 use Rattle.law_opening.specs.Below.fkv_opening.TheOpened.{Opened}
 use Rattle.fkv_record.specs.Manifest.{SlotSaid}
 use Rattle.fkv_record.specs.declared.triples.Triple.{Triple}
@@ -27,7 +28,7 @@ shows_cell_from least from image a cell up its = record {
 pub shows_from : (home : ℕ → ℕ) (least from : ℕ) (image : scan.Log) (g : Log) → least ≤ from → ShowsLog home least image g → ShowsLog home from image g
 shows_from home least from image g up its = record {
   homes = its.homes;
-  published = λ a cell at below. shows_cell_from least from image a cell up (its.published a cell at below);
+  published = λ a cell at begun below. shows_cell_from least from image a cell up (its.published a cell at begun below);
   decided = λ a high below. its.decided a (omega (arith, up, high)) below;
   dropped = λ a cell at high below. its.dropped a cell at (omega (arith, up, high)) below;
   none_lost = λ a x high stands. its.none_lost a x (omega (arith, up, high)) stands;
@@ -46,3 +47,10 @@ starts_some o n bytes events image names triples =
     let some = fits.some in
     let first = ap (λ (s : SlotSaid). s.first.0) says.said in
     omega (arith, some, first)
+
+-- its log begins where that of the opened store does
+pub begins_as_opened : (o : Opened) (n : Now) (bytes : List ℕ) (events : List Event) (image : List ℕ) (names : NamesNew o n bytes events image) (triples : List Triple) → (let log = log_named names triples in log.begin ≡ o.begin.0)
+begins_as_opened o n bytes events image names triples =
+    let says = names.says in
+    let fits = says.fits in
+    ap (λ (s : SlotSaid). s.begin.0) says.said ∙ ap (λ (a : Addr). a.0) fits.begins

@@ -29,7 +29,9 @@ pub shares_log : (bytes image : List ℕ) (o : Opened) (store : IsStoreOf bytes 
 shares_log bytes image o store kept records =
     let shape = store.tells.shape in
     let tail = ap (λ (t : Addr). t.0) store.tells.tail in
+    let its = store.checkpoint in
+    let first = its.newest.manifest.suits.begin.some in
     record {
       triples = triples_same bytes image store.newest store.triples store.checkpoint.stored kept.stored;
-      records = λ a some low. subst (λ (s : Shape). bytes_at bytes (record_place s a) 24 ≡ bytes_at image (record_place s a) 24) shape (records a some (omega (arith, low, tail)));
+      records = λ a some low. subst (λ (s : Shape). bytes_at bytes (record_place s a) 24 ≡ bytes_at image (record_place s a) 24) shape (records a (omega (arith, first, some)) (omega (arith, low, tail)));
     }

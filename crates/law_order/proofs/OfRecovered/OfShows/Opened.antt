@@ -28,8 +28,8 @@ none_there logged cell none is = cc
 pub tells_counted : (was : scan.Log) (first log : Log) (tail : ℕ) → HasWhatCounts was first → ((a : ℕ) → a < tail → log.cells a ≡ first.cells a) → ((a : ℕ) → tail ≤ a → first.cells a ≡ Unborn) → (h a : ℕ) (x : Record) → Counts was h a x → TellsCell (log.cells a) x
 tells_counted was first log tail has stays unborn h a x counts =
     let home : CountsAtHome was a x = subst (λ (k : ℕ). Counts was k a x) (sym counts.valid.same) counts in
-    let there : first.cells a ≡ Published (cell_of was.version x) = has.counted a x home in
+    let there : first.cells a ≡ Published (cell_of was x) = has.counted a x home in
     elim (cases_lt a tail) [
-      | inl low ↦ record { cell = cell_of was.version x; its = stays a low ∙ there; its_key = refl; its_value = refl }
-      | inr high ↦ absurd (none_there (first.cells a) (cell_of was.version x) (unborn a high) there)
+      | inl low ↦ record { cell = cell_of was x; its = stays a low ∙ there; its_key = refl; its_value = refl }
+      | inr high ↦ absurd (none_there (first.cells a) (cell_of was x) (unborn a high) there)
     ]

@@ -25,7 +25,7 @@ use Rattle.law_commit.specs.Below.law_refine.Events.GhostEvents.{home_in}
 pub shows_later : (home : ℕ → ℕ) (from later : ℕ) (image : scan.Log) (g : Log) → from ≤ later → ShowsLog home from image g → ShowsLog home later image g
 shows_later home from later image g up shows = record {
   homes = shows.homes;
-  published = λ a cell is low. (let its = shows.published a cell is low in record {
+  published = λ a cell is begun low. (let its = shows.published a cell is begun low in record {
     held = its.held;
     stands = its.stands;
     valid = its.valid;
@@ -60,7 +60,7 @@ shows_log o n bytes events image c shape names lost fits shows decides young non
     let flushed = fits.is_flushed in
     record {
       homes = of_homes image n.shape (sym shape);
-      published = λ a cell is low. shows.published a cell is (omega (arith, low, end, flushed));
+      published = λ a cell is begun low. shows.published a cell is begun (omega (arith, low, end, flushed));
       decided = decides;
       dropped = λ a cell is on low.
           let most = young a cell.version (omega (arith, low, end)) (ap made_in is) in

@@ -41,6 +41,7 @@ was_sound bytes o store =
       apart = its.apart;
       below = λ i x e. (let one = stored.each i x e in one.in_log);
       some_start = (let some = suits.log.some in omega (arith, some));
+      begins = suits.begin.before_scan;
       upwards = suits.log.upwards;
     }
 
@@ -74,6 +75,13 @@ module _ (o : Opened) (n : Now) (bytes : List ℕ) (events : List Event) (image 
       let says = names.says in
       ap (λ (x : SlotSaid). x.first.0) says.said
       ∙ (ap (λ (x : Checkpoint). x.first.0) used ∙ (ap (λ (f : Finality). f.checkpoint.first.0) leaves.begins.its_keeper.newest ∙ ap (λ (a : Addr). a.0) store.tells.first))
+
+  -- a commit of this life has the begin of the opening
+  begin : slot.begin.0 ≡ old.begin.0
+  begin =
+      let says = names.says in
+      let fits = says.fits in
+      ap (λ (x : SlotSaid). x.begin.0) says.said ∙ ap (λ (a : Addr). a.0) (fits.begins ∙ store.tells.begin)
 
   checkpoint : slot.checkpoint ≡ old.checkpoint
   checkpoint =
@@ -114,14 +122,17 @@ module _ (o : Opened) (n : Now) (bytes : List ℕ) (events : List Event) (image 
       let then = store.tells.number in
       let later = fits.later in
       let newer = fits.newer in
+      let its = store.checkpoint in
+      let first = its.newest.manifest.suits.begin.some in
       record {
+        begin = begin;
         start = start;
         oldest = oldest;
         bits = ap (λ (s : Shape). s.bucket_bits) (sym (shape_was ∙ shape_is));
         triples = refl;
         longer = omega (arith, tail, end, later);
         newer = omega (arith, number, then, newer);
-        bytes = λ a x some low. (let same = same_record keeps a some low in (λ stands. stands ∙ same, λ stands. stands ∙ sym same));
+        bytes = λ a x some low. (let same = same_record keeps a (omega (arith, first, some)) low in (λ stands. stands ∙ same, λ stands. stands ∙ sym same));
       }
 
   pub uses_old : KeepsOld o bytes image → HasCheckpoint image newest store.triples → HasWhatCounted (log_of_store bytes o store) (log_beside o n bytes events)

@@ -1,13 +1,15 @@
 -- The law, by those of its parts.
-use Rattle.std.proofs.Common.{sym, subst}
+use Rattle.std.proofs.Common.{◌≡◌, ℕ, ◌∙◌, ap, sym, subst, arith}
 use Rattle.fkv_base.specs.declared.shapes.Shape.{Shape}
 use Rattle.law_opening.proofs.OfChanges.OfDevice.Image.{in_image}
 use Rattle.law_opening.proofs.OfChanges.OfDevice.Mailboxes.{mailboxes_empty}
+use Rattle.law_commit.specs.Below.fkv_keeper.Keeping.{Finality}
+use Rattle.law_log.specs.Begins.{IsAbove}
 use Rattle.law_log.specs.Enabled.{IsOpened}
 use Rattle.law_commit.proofs.Below.law_refine.OfMail.Openings.{opened_mailbox}
 use Rattle.law_commit.specs.Below.law_refine.Events.GhostEvents.{home_in}
 use Rattle.law_opening.specs.Log.Maps.{opening_map}
-use Rattle.law_opening.specs.Log.OpeningLog.{opening_ghosts}
+use Rattle.law_opening.specs.Log.OpeningLog.{opening_ghosts, opening_log}
 use Rattle.law_opening.proofs.OfLives.Warm.{warm_shows}
 use Rattle.law_order.proofs.OfRules.Beginning.{world_opens}
 use Rattle.law_order.proofs.OfRules.Words.{opens_seen}
@@ -17,6 +19,7 @@ pub returns : goal.returns
 returns c = λ bytes o n store world.
     let guarded = c.law_guard_opens.ensures o n bytes world in
     let begins = c.law_log_begins.ensures bytes o n store world in
+    let begin : n.keeper.last.begin.0 ≡ o.begin.0 = ap (λ (last : Finality). last.begin.0) world.its_keeper.newest in
     let opened : IsOpened (home_in n.shape.bucket_bits) (opening_map bytes o) o.number.0 (opening_ghosts bytes o) =
     subst (λ (s : Shape). IsOpened (home_in s.bucket_bits) (opening_map bytes o) o.number.0 (opening_ghosts bytes o)) (sym world.its_shape) (c.law_log_opened.ensures.opened bytes o store) in
     record {
@@ -31,5 +34,8 @@ returns c = λ bytes o n store world.
       reserves = begins.reserves_nothing;
       heads = c.law_log_heads.ensures bytes o n store world;
       warm = warm_shows bytes o n world store guarded.now begins (c.law_log_counted.ensures bytes o store);
-      device = in_image bytes o n store world.its_shape (c.law_log_counted.ensures bytes o store);
+      device = in_image bytes o n store world (c.law_log_counted.ensures bytes o store);
+      above = subst (λ (b : ℕ). IsAbove b (opening_log bytes o)) (sym begin) (c.law_log_above.ensures bytes o store);
+      before_end = (let before = o.begin_before_scan in let up = o.upwards in omega (arith, begin, before, up));
+      floors = λ session s found. (world.its_sessions session s found).floor ∙ sym (ap (λ (last : Finality). last.begin) world.its_keeper.newest);
     }

@@ -15,8 +15,8 @@ returns c =
       chains = λ home image g paper. has_chains home image g spells paper;
       room = λ home image g paper slots. has_room home image g (counts_as_log home image g spells paper) slots;
       counts = λ home image g h a paper. (
-        λ has. (let its = of_counts home image g spells paper h a has.0 has.1 in (its.0, its.1)),
-        λ its. counts_of home image g spells paper h a its.0 its.1,
+        λ has. (let its = of_counts home image g spells paper h a has.0 has.1 in (its.0, its.1, its.2)),
+        λ its. counts_of home image g spells paper h a its.0 its.1 its.2,
       );
       shows = λ home image g paper. paper_shows home image g spells paper;
       named = λ home bytes n triples g its paper slots.

@@ -165,7 +165,7 @@ next_now shape p s Claims reply at = claimed shape p (record s { claiming = clai
 next_now shape p s Flushes reply at = flushed shape p (record s { bytes = bytes_next s.flushing s.bytes reply; flushing = flush_next shape.page s.flushing reply }) _ at
 next_now shape p s Shifts reply at = shift_done shape p (record s { shift = shift_next shape s.shift reply }) _ at (λ took. shift_next_at shape took s.shift reply)
 next_now shape p s Turns reply at = turn_done shape p (record s { turn = turn_next shape s.turn reply }) _ at (λ took. turn_next_at shape took s.turn reply)
-next_now shape p s Serves reply at = served shape p (record s { serving = serve_next shape.sessions s.serving reply }) _ at
+next_now shape p s Serves reply at = served shape p (record s { serving = serve_next shape.sessions s.begin.0 s.serving reply }) _ at
 next_now shape p s Through reply at = there shape p s Through at tt
 next_now shape p s Spent reply at = there shape p s Spent at tt
 next_now shape p s Broken reply at = there shape p s Broken at tt

@@ -16,7 +16,7 @@ use Rattle.law_world.proofs.OfSessions.OwnRun.{of_newest, of_run, opened_so}
 use Rattle.law_world.proofs.sessions.law_world_told.Goals as goal
 
 pub returns-clause-operations : goal.returns-clause-operations
-returns-clause-operations c = λ opening events session first its event before buckets told op became newest ends called. of_newest (λ s. IsTrueOf (trial_of (seat_at opening.now session) buckets s.seen op) (told_in (asked_in_call (seat_at opening.now session) first (event ∷ before))) told) opening events session first its event before became newest (run_true (seat_at opening.now session) buckets first event before told op (opened_so opening events session first its became) ends called)
+returns-clause-operations c = λ opening events session first its event before buckets told op became newest ends called. of_newest (λ s. IsTrueOf (trial_of (seat_at opening.now session) buckets s.seen s.floor op) (told_in (asked_in_call (seat_at opening.now session) first (event ∷ before))) told) opening events session first its event before became newest (run_true (seat_at opening.now session) buckets first event before told op (opened_so opening events session first its became) ends called)
 
 pub returns-clause-kinds : goal.returns-clause-kinds
 returns-clause-kinds c = λ opening events session first its event before told became newest buckets ends. run_kind (seat_at opening.now session) buckets first event before told (opened_so opening events session first its became) ends

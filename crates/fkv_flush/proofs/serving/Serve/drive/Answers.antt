@@ -13,5 +13,6 @@ pub returns-clause-fewer : goal.returns-clause-fewer
 unfolding serve_next
 returns-clause-fewer c calls =
     let sessions = c.args.self.now.shape.sessions in
-    let its : serve_next sessions c.args.self.now.step c.args.reply ≡ c.match-self.self = search rules in
-    subst (λ (s : Serving). serve_asks_left sessions s ≤ serve_asks_left sessions c.args.self.now.step - 1) its (serve_fewer sessions c.args.self.now.step c.args.reply calls)
+    let begin = c.args.self.now.begin.0 in
+    let its : serve_next sessions begin c.args.self.now.step c.args.reply ≡ c.match-self.self = search rules in
+    subst (λ (s : Serving). serve_asks_left sessions s ≤ serve_asks_left sessions c.args.self.now.step - 1) its (serve_fewer sessions begin c.args.self.now.step c.args.reply calls)

@@ -15,6 +15,7 @@ returns-clause-next c =
       flushing = m.flush.step;
       shift = m.shift.state;
       turn = m.turn.state;
+      begin = m.serve.begin;
       serving = m.serve.step;
       is_drain_full = false;
       step = m.step;

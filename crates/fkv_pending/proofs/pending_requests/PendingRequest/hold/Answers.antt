@@ -9,4 +9,4 @@ returns c =
     let its = c.args.self.now in
     let r = its.request in
     ap (λ request. record { name = its.name; request = request; sought = its.sought; has_asked = its.has_asked })
-    (request_same r.op r.has_latch c.args.held r.version (c.held-1.given.0.0, c.held-1.given.0.1.0) (r.some_version, r.version_fits))
+    (request_same r.op r.has_latch c.args.held r.floor r.version (c.held-1.given.0.0, c.held-1.given.0.1.0) (r.some_version, r.version_fits))

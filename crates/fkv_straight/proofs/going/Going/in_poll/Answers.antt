@@ -8,6 +8,7 @@ returns-clause-goes c = λ its k op goes. record {
   its_places = goes.its_places;
   its_bits = goes.its_bits;
   its_head = goes.its_head;
+  its_floor = goes.its_floor;
   its_read_only = goes.its_read_only;
   its_version = goes.its_version;
   its_mark = goes.its_mark;

@@ -19,7 +19,7 @@ use Rattle.fkv_table.proofs.lines.SeatLine.start.Goals as goal
 pub perform_first-reply-requires : goal.perform_first-reply-requires
 perform_first-reply-requires g c =
     let at = opening_of g.D.Device.seen in let s = c.self.inside in let call = c.args.call in let k = s.machine.value.seat in
-    let l = line_of s.words.now.key s.words.now.table_id s.seat.me s.machine.value s.desk (take s.kept s.replies.now) in
+    let l = line_of s.words.now.key s.words.now.table_id s.seat.me s.machine.value s.desk (take s.kept s.aside.now.replies) in
     let along = c.self.invariant.4 in
     let idle : is_busy (stands at l).step ≡ false = subst (λ z. is_busy (stands at z).step ≡ false) (sym c.self.view_is) c.requires.idle in
     let fits = c.law_start_stands.ensures k.number in
@@ -31,12 +31,13 @@ perform_first-reply-requires g c =
       word = within at l.key l.table l.me (Calls k.number call ∷ []) (record l.machine { state = begins k (stands at l) call }) c.args.ask.now along.opened sits its c.requires.word;
       allows = λ place is. subst (λ (n : ℕ). Allows (Ruled (plane at) l.key) l.table.slots s.seat.id l.me (position place) (asked_word c.args.ask.now) (turned at (λ _. Calls n call ∷ []) (step_of l.table.slots c.args.ask.now) l.me)) (sym c.self.invariant.1)
           (allowed at l.key l.table.slots _ l.me (λ _. Calls k.number call ∷ []) (record l.machine { state = begins k (stands at l) call }) c.args.ask.now along.opened.opening sits its place is);
+      past = c.requires.past;
     }
 
 pub invariant_of-self : goal.invariant_of-self
 invariant_of-self g c =
     let at = opening_of g.D.Device.seen in let s = c.self.inside in let call = c.args.call in let k = s.machine.value.seat in
-    let l = line_of s.words.now.key s.words.now.table_id s.seat.me s.machine.value s.desk (take s.kept s.replies.now) in
+    let l = line_of s.words.now.key s.words.now.table_id s.seat.me s.machine.value s.desk (take s.kept s.aside.now.replies) in
     let along = c.self.invariant.4 in
     let idle : is_busy (stands at l).step ≡ false = subst (λ z. is_busy (stands at z).step ≡ false) (sym c.self.view_is) c.requires.idle in
     let fits = c.law_start_stands.ensures k.number in
@@ -53,7 +54,7 @@ invariant_of-self g c =
 pub returns : goal.returns
 returns g c =
     let at = opening_of g.D.Device.seen in let s = c.self.inside in let call = c.args.call in let k = s.machine.value.seat in
-    let l = line_of s.words.now.key s.words.now.table_id s.seat.me s.machine.value s.desk (take s.kept s.replies.now) in
+    let l = line_of s.words.now.key s.words.now.table_id s.seat.me s.machine.value s.desk (take s.kept s.aside.now.replies) in
     let along = c.self.invariant.4 in
     let idle : is_busy (stands at l).step ≡ false = subst (λ z. is_busy (stands at z).step ≡ false) (sym c.self.view_is) c.requires.idle in
     let fits = c.law_start_stands.ensures k.number in

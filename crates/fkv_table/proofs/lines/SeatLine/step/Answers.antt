@@ -12,7 +12,7 @@ use Rattle.fkv_table.proofs.lines.SeatLine.step.Goals as goal
 pub perform-reply-requires : goal.perform-reply-requires
 perform-reply-requires g c =
     let at = opening_of g.D.Device.seen in let s = c.self.inside in
-    let l = line_of s.words.now.key s.words.now.table_id s.seat.me s.machine.value s.desk (take s.kept s.replies.now) in
+    let l = line_of s.words.now.key s.words.now.table_id s.seat.me s.machine.value s.desk (take s.kept s.aside.now.replies) in
     let along = c.self.invariant.4 in
     let asks : asked l.machine.seat (stands at l) ≡ c.args.ask.now = subst (λ z. asked z.machine.seat (stands at z) ≡ c.args.ask.now) (sym c.self.view_is) c.requires.asked in
     let its = asked_is l.machine.seat (stands at l) c.args.ask.now asks in
@@ -21,14 +21,15 @@ perform-reply-requires g c =
       table = c.self.invariant.0;
       word = within at l.key l.table l.me [] (sitter at l) c.args.ask.now along.opened sits its c.requires.word;
       allows = allowed at l.key l.table.slots _ l.me (λ _. []) (sitter at l) c.args.ask.now along.opened.opening sits its;
+      past = c.requires.past;
     }
 
 pub invariant_of-self : goal.invariant_of-self
 invariant_of-self g c =
     let at = opening_of g.D.Device.seen in let s = c.self.inside in
-    let l = line_of s.words.now.key s.words.now.table_id s.seat.me s.machine.value s.desk (take s.kept s.replies.now) in
+    let l = line_of s.words.now.key s.words.now.table_id s.seat.me s.machine.value s.desk (take s.kept s.aside.now.replies) in
     let along = c.self.invariant.4 in
-    let held : length (take s.kept s.replies.now) ≡ s.kept = length-take-le s.kept s.replies.now (omega (arith, c.self.invariant.2, c.self.invariant.3)) in
+    let held : length (take s.kept s.aside.now.replies) ≡ s.kept = length-take-le s.kept s.aside.now.replies (omega (arith, c.self.invariant.2, c.self.invariant.3)) in
     let fits : s.kept < 64 = subst (λ n. n < 64) (ap (λ z. length z.replies) (sym c.self.view_is) ∙ held) c.requires.room in
     let asks : asked l.machine.seat (stands at l) ≡ c.args.ask.now = subst (λ z. asked z.machine.seat (stands at z) ≡ c.args.ask.now) (sym c.self.view_is) c.requires.asked in (
       c.perform-reply.ensures.seat.0 ∙ c.self.invariant.0,
@@ -41,7 +42,7 @@ invariant_of-self g c =
 pub returns : goal.returns
 returns g c =
     let at = opening_of g.D.Device.seen in let s = c.self.inside in
-    let l = line_of s.words.now.key s.words.now.table_id s.seat.me s.machine.value s.desk (take s.kept s.replies.now) in
+    let l = line_of s.words.now.key s.words.now.table_id s.seat.me s.machine.value s.desk (take s.kept s.aside.now.replies) in
     let along = c.self.invariant.4 in
     let asks : asked l.machine.seat (stands at l) ≡ c.args.ask.now = subst (λ z. asked z.machine.seat (stands at z) ≡ c.args.ask.now) (sym c.self.view_is) c.requires.asked in
     let on = line_of l.key l.table c.perform-reply.new.seat.me l.machine l.desk (take (s.kept + 1) c.keep.new.replies) in

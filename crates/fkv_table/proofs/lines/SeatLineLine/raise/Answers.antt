@@ -17,10 +17,10 @@ use Rattle.fkv_table.proofs.Raises.{HasRaised, raise_allowed, raised_line}
 use Rattle.fkv_table.proofs.Steps.{same_some, within}
 use Rattle.fkv_table.proofs.lines.SeatLineLine.raise.Goals as goal
 
-pub position-requires : goal.position-requires
-position-requires g c =
+pub position-requires-clause-fits : goal.position-requires-clause-fits
+position-requires-clause-fits g c =
     let at = opening_of g.D.Device.seen in let s = c.self.inside in let expected = c.args.expected in let place = c.args.place in
-    let l = line_of s.words.now.key s.words.now.table_id s.seat.me s.machine.value s.desk (take s.kept s.replies.now) in
+    let l = line_of s.words.now.key s.words.now.table_id s.seat.me s.machine.value s.desk (take s.kept s.aside.now.replies) in
     let along = c.self.invariant.4 in
     let loads : asked l.machine.seat (stands at l) ≡ Load c.args.place = subst (λ z. asked z.machine.seat (stands at z) ≡ Load c.args.place) (sym c.self.view_is) c.requires.asked in
     let w = within at l.key l.table l.me [] (sitter at l) (Load place) along.opened (here at l along (Load place) loads (place, refl)) (asked_is l.machine.seat (stands at l) (Load place) loads) (place, refl) in
@@ -29,7 +29,7 @@ position-requires g c =
 pub compare_exchange-found-requires : goal.compare_exchange-found-requires
 compare_exchange-found-requires g c =
     let at = opening_of g.D.Device.seen in let s = c.self.inside in let expected = c.args.expected in let place = c.args.place in
-    let l = line_of s.words.now.key s.words.now.table_id s.seat.me s.machine.value s.desk (take s.kept s.replies.now) in
+    let l = line_of s.words.now.key s.words.now.table_id s.seat.me s.machine.value s.desk (take s.kept s.aside.now.replies) in
     let along = c.self.invariant.4 in
     let loads : asked l.machine.seat (stands at l) ≡ Load c.args.place = subst (λ z. asked z.machine.seat (stands at z) ≡ Load c.args.place) (sym c.self.view_is) c.requires.asked in
     let then : asked l.machine.seat (leads l.machine.seat (stands at l) c.args.expected) ≡ Cas c.args.place c.args.expected (c.args.expected + 1) =
@@ -44,7 +44,7 @@ compare_exchange-found-requires g c =
 pub invariant_of-self : goal.invariant_of-self
 invariant_of-self g c =
     let at = opening_of g.D.Device.seen in let s = c.self.inside in let expected = c.args.expected in let place = c.args.place in
-    let l = line_of s.words.now.key s.words.now.table_id s.seat.me s.machine.value s.desk (take s.kept s.replies.now) in
+    let l = line_of s.words.now.key s.words.now.table_id s.seat.me s.machine.value s.desk (take s.kept s.aside.now.replies) in
     let along = c.self.invariant.4 in
     let loads : asked l.machine.seat (stands at l) ≡ Load c.args.place = subst (λ z. asked z.machine.seat (stands at z) ≡ Load c.args.place) (sym c.self.view_is) c.requires.asked in
     let then : asked l.machine.seat (leads l.machine.seat (stands at l) c.args.expected) ≡ Cas c.args.place c.args.expected (c.args.expected + 1) =
@@ -53,7 +53,7 @@ invariant_of-self g c =
     let told : raising at (step l.table.slots (position place) expected (expected + 1) none) l.me expected me =
     subst (λ (x : ℕ × ℕ). raising at (step l.table.slots x.0 expected (expected + 1) none) l.me x.1 me) (λ i. (c.position.ensures i, c.if-found-expected.true i)) c.compare_exchange-found.ensures.2 in
     let both = raised_line at l along place expected (expected + 1) loads then l.table.slots me told (take (s.kept + 2) c.keep_twice.new.replies) c.keep_twice.ensures.items in
-    let held : length (take s.kept s.replies.now) ≡ s.kept = length-take-le s.kept s.replies.now (omega (arith, c.self.invariant.2, c.self.invariant.3)) in
+    let held : length (take s.kept s.aside.now.replies) ≡ s.kept = length-take-le s.kept s.aside.now.replies (omega (arith, c.self.invariant.2, c.self.invariant.3)) in
     let fits : s.kept < 63 = subst (λ n. n < 63) (ap (λ z. length z.replies) (sym c.self.view_is) ∙ held) c.requires.room in (
       c.compare_exchange-found.ensures.0 ∙ c.self.invariant.0,
       c.self.invariant.1,
@@ -65,7 +65,7 @@ invariant_of-self g c =
 pub returns-then-found-expected-clause-next : goal.returns-then-found-expected-clause-next
 returns-then-found-expected-clause-next g c = λ _.
     let at = opening_of g.D.Device.seen in let s = c.self.inside in let expected = c.args.expected in let place = c.args.place in
-    let l = line_of s.words.now.key s.words.now.table_id s.seat.me s.machine.value s.desk (take s.kept s.replies.now) in
+    let l = line_of s.words.now.key s.words.now.table_id s.seat.me s.machine.value s.desk (take s.kept s.aside.now.replies) in
     let along = c.self.invariant.4 in
     let loads : asked l.machine.seat (stands at l) ≡ Load c.args.place = subst (λ z. asked z.machine.seat (stands at z) ≡ Load c.args.place) (sym c.self.view_is) c.requires.asked in
     let then : asked l.machine.seat (leads l.machine.seat (stands at l) c.args.expected) ≡ Cas c.args.place c.args.expected (c.args.expected + 1) =
@@ -80,7 +80,7 @@ returns-then-found-expected-clause-next g c = λ _.
 pub returns-then-found-expected-clause-led : goal.returns-then-found-expected-clause-led
 returns-then-found-expected-clause-led g c =
     let at = opening_of g.D.Device.seen in let s = c.self.inside in let expected = c.args.expected in let place = c.args.place in
-    let l = line_of s.words.now.key s.words.now.table_id s.seat.me s.machine.value s.desk (take s.kept s.replies.now) in
+    let l = line_of s.words.now.key s.words.now.table_id s.seat.me s.machine.value s.desk (take s.kept s.aside.now.replies) in
     let along = c.self.invariant.4 in
     let loads : asked l.machine.seat (stands at l) ≡ Load c.args.place = subst (λ z. asked z.machine.seat (stands at z) ≡ Load c.args.place) (sym c.self.view_is) c.requires.asked in
     let then : asked l.machine.seat (leads l.machine.seat (stands at l) c.args.expected) ≡ Cas c.args.place c.args.expected (c.args.expected + 1) =

@@ -39,7 +39,7 @@ returns-clause-each c = λ o n bytes events store begins long.
     let from : IsOpenedFrom bytes o n = record { store = store; world = begins; long = c.law_long_opens.ensures.behind bytes o long store } in
     let told = c.law_told_opens.ensures bytes o n from in
     let life : IsLifeTold opening events = record { opened = world; told = told; in_turn = c.law_begun.ensures.numbers opening o.tail.0 events world opened.now (opens_at_rest o n begins) } in
-    let fits = life_fits o n bytes events begins life c.law_of_slots.ensures.room (λ before event. c.law_world_is_guarded.ensures.rises opening o.tail.0 before (event ∷ []) opened.now) in
+    let fits = life_fits o n bytes events begins life c.law_of_slots.ensures.room c.law_of_slots.ensures.begins (λ before event. c.law_world_is_guarded.ensures.rises opening o.tail.0 before (event ∷ []) opened.now) in
     λ d is. elim (life_known opening (FitsLife o n (flushed_so_far n bytes events)) events life fits d is) [
       | inl good ↦ inl (of_plain o n (flushed_so_far n bytes events) d good)
       | inr first ↦ inr first
@@ -56,7 +56,7 @@ returns-clause-named c = λ o n bytes events image store begins long left.
     let told = c.law_told_opens.ensures bytes o n from in
     let rests = opens_at_rest o n begins in
     let life : IsLifeTold opening events = record { opened = world; told = told; in_turn = c.law_begun.ensures.numbers opening o.tail.0 events world opened.now rests } in
-    let fits = life_fits o n bytes events begins life c.law_of_slots.ensures.room (λ before event. c.law_world_is_guarded.ensures.rises opening o.tail.0 before (event ∷ []) opened.now) in
+    let fits = life_fits o n bytes events begins life c.law_of_slots.ensures.room c.law_of_slots.ensures.begins (λ before event. c.law_world_is_guarded.ensures.rises opening o.tail.0 before (event ∷ []) opened.now) in
     let seals = sealed_stands (begun_so_far n bytes events) (run opening events).now.keeper (life_writing opening events).first image (c.law_begun.ensures.begun opening events world) (c.law_world_one_commit_stands.ensures.written opening events image life left) in
     let named = life_named c.law_gates.ensures.begun opening (FitsLife o n flushed) events image life fits (λ it good. good.room) (c.law_world_one_commit_stands.ensures.calls opening events world) seals left
     (c.law_world_one_commit_stands.ensures.stands opening events image life left) (c.law_world_one_commit_stands.ensures.triples opening events image life left) in

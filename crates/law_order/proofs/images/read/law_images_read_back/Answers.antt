@@ -11,8 +11,8 @@ use Rattle.law_commit.specs.Below.fkv_manifest.Newest.{slot_in}
 use Rattle.law_opening.specs.Below.fkv_newest.Manifest.{Suits}
 use Rattle.law_opening.specs.Below.fkv_newest.Newest.{HasShape}
 use Rattle.law_opening.specs.Below.fkv_newest.TheNewest.{Newest}
+use Rattle.fkv_record.specs.Manifest.{newest_format}
 use Rattle.fkv_record.specs.Places.{area_place, record_place}
-use Rattle.fkv_record.specs.declared.formats.Format.TheVariants.{Third}
 use Rattle.fkv_record.specs.declared.manifest_slots.ManifestSlot.{ManifestSlot}
 use Rattle.law_commit.specs.Below.fkv_world.Runs.{World}
 use Rattle.law_commit.specs.BegunCommits.{BegunCommit}
@@ -49,8 +49,8 @@ returns-clause-slot c = λ o n bytes events image store begins long left.
           let number = ap (λ (last : Finality). last.checkpoint.number) begins.its_keeper.newest in
           let first = ap (λ (last : Finality). last.checkpoint.first) begins.its_keeper.newest in
           let slot : ManifestSlot = slot_read o n flushed it fits begins.its_shape begins.its_keeper.in_hand number first named.fit on_disk in
-          let here : Suits n.shape (it.number.0 % 2) Third slot = suits_so o n flushed it fits begins.its_shape begins.its_keeper.in_hand number first named.fit on_disk (opened_lost bytes o store) in
-          let suits : Suits o.shape (it.number.0 % 2) Third slot = subst (λ (s : Shape). Suits s (it.number.0 % 2) Third slot) begins.its_shape here in
+          let here : Suits n.shape (it.number.0 % 2) (newest_format slot) slot = suits_so o n flushed it fits begins.its_shape begins.its_keeper.in_hand number first named.fit on_disk (opened_lost bytes o store) in
+          let suits : Suits o.shape (it.number.0 % 2) (newest_format slot) slot = subst (λ (s : Shape). Suits s (it.number.0 % 2) (newest_format slot) slot) begins.its_shape here in
           let place = place_by_parity it.number in
           let has : HasSlot image (it.number.0 % 2) slot = record {
             in_force = named.in_force ∙ ap (λ (at : ℕ). Some at) place;

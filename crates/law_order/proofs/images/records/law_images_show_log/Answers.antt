@@ -1,6 +1,7 @@
 -- The law: what was flushed since the opening shows by its words, and what stood before as it was.
 use Rattle.std.proofs.Common.{◌≡◌, ℕ, zero, suc, ◌+◌, ◌<◌, ◌≤◌, ◌∙◌, inl, inr, refl, sym, ap, subst, arith, length}
 use Rattle.std.proofs.lemmas.Bool.{cases_lt}
+use Rattle.fkv_base.specs.declared.numbers.Addr.{Addr}
 use Rattle.fkv_base.specs.declared.shapes.Shape.{Shape}
 use Rattle.law_opening.specs.Below.fkv_core.Openings.{beginning}
 use Rattle.fkv_disk.specs.Bytes.{bytes_at}
@@ -35,7 +36,7 @@ some_addr (suc a) other = omega arith
 
 -- address 0 has no record, so those below the opened tail lie above it
 pub returns : goal.returns
-returns c = λ o n bytes events image store begins long fits left shape.
+returns c = λ o n bytes events image store begins long fits left shape later.
     let opening : World = beginning n bytes in
     let opened : IsOpenedStore opening o.tail.0 = c.law_guard_opens.ensures o n bytes begins in
     let first = c.law_log_begins.ensures bytes o n store begins in
@@ -49,19 +50,20 @@ returns c = λ o n bytes events image store begins long fits left shape.
     ap (λ (s : Shape). bytes_at image.image (record_place s a) 24) same_shape ∙ synced.records image.image (inr left) a from to in
     let was : scan.Log = log_of_store bytes o store in
     let was_shape : was.shape ≡ o.shape = sym store.tells.shape in
+    let was_begin : o.begin.0 ≡ was.begin = ap (λ (b : Addr). b.0) store.tells.begin in
     let counted = c.law_log_counted.ensures bytes o store in
     let log : IsOpened (home_in o.shape.bucket_bits) (opening_map bytes o) o.number.0 ghosts = c.law_log_opened.ensures.opened bytes o store in
     let same : (a : ℕ) → a < o.tail.0 → (ghosts_beside o n bytes events).log.cells a ≡ ghosts.log.cells a = λ a low. c.law_lives_change_published.ensures.old o n bytes events a store begins low in
     let given_up : (a : ℕ) (cell : Cell) → (ghosts_beside o n bytes events).log.cells a ≡ Dropped cell → o.tail.0 ≤ a → a < flushed_so_far n bytes events → ShowsGivenUp image a cell = λ a cell e from to.
     shows_given_up image a (words a) cell (there a from to) (headers.dropped a cell from e) in
     record {
-      published = λ a cell e to. elim (cases_lt a o.tail.0) [
+      published = λ a cell e on to. elim (cases_lt a o.tail.0) [
         | inl low ↦
             let was_there : ghosts.log.cells a ≡ Published cell = sym (same a low) ∙ e in
             let some : 0 < a = some_addr a (λ zero_is. none_there (ghosts.log.cells a) cell (ap ghosts.log.cells zero_is ∙ log.none) was_there) in
             let within : record_place n.shape a + 24 ≤ length bytes = subst (λ (s : Shape). record_place s a + 24 ≤ length bytes) (sym begins.its_shape) (holds_below c.law_spellings_apart.ensures.shapes bytes o store long a some low) in
             let same = old_bytes n.shape bytes image.image (run opening events).past.calls words o.tail.0 (flushed_so_far n bytes events) a synced left low within in
-            shows_counted o.tail.0 was image a cell low (shape ∙ sym was_shape)
+            shows_counted o.tail.0 was image a cell (omega (arith, was_begin, later)) low (shape ∙ sym was_shape)
             (subst (λ (s : Shape). bytes_at image.image (record_place s a) 24 ≡ bytes_at bytes (record_place s a) 24) (begins.its_shape ∙ sym was_shape) same) (counted.published a cell was_there)
         | inr high ↦
             let its = shows a cell high e in

@@ -22,6 +22,7 @@ use Rattle.law_order.specs.Rules.Ordered.{now_after}
 use Rattle.law_order.specs.Recovered.Crashed.{kept_first}
 use Rattle.law_order.specs.Recovered.Leaves.{homes_of}
 use Rattle.law_order.proofs.OfImages.Resting.{life_awake}
+use Rattle.law_order.proofs.OfPrefix.Forgotten.{as_left}
 use Rattle.law_order.proofs.OfRecovered.OfCrashed.{all_finished, is_newest, shows_none}
 use Rattle.law_order.proofs.recovered.crashed.law_crash_keeps_first.Goals as goal
 
@@ -51,7 +52,7 @@ returns c =
       image = torn_image bytes (calls_so_far n bytes events) 0;
       left = c.law_torn.ensures bytes (calls_so_far n bytes events) 0;
       each = λ image left.
-          let held : HoldsPrefix o n bytes events image = c.law_prefix.ensures.recovered its is far image left in
+          let held : HoldsPrefix o n bytes events image = c.law_prefix.ensures.recovered its is far image (as_left bytes (calls_so_far n bytes events) image left) in
           let it : BegunCommit = held.commit in
           let as_last : IsAsLast last it = is_newest (past_so_far n bytes events).begun last it (c.law_prefix.ensures.in_turn its is) finished held.current.begun held.current.newest in
           record {

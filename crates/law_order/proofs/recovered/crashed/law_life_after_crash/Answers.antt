@@ -13,6 +13,7 @@ use Rattle.law_order.specs.OneHistory.EachLife.{Life}
 use Rattle.law_order.specs.OneHistory.NewLives.{HasLife}
 use Rattle.law_order.specs.Prefix.Law.{AreLives, HoldsPrefix, map_of}
 use Rattle.law_order.specs.Recovered.Crashed.{CrashKeepsFirst, HoldsFirst, kept_first}
+use Rattle.law_order.proofs.OfPrefix.Forgotten.{as_left}
 use Rattle.law_order.proofs.recovered.crashed.law_life_after_crash.Goals as goal
 
 value_kept : (m : Map) → get (content m kept_first) 5 ≡ Some 70
@@ -25,7 +26,7 @@ returns c =
     let its : Life = crashed.its in
     let new = crashed.is_new in
     let far : ReachesFar its.bytes = c.law_long_opens.ensures.created crashed.shape its.bytes new.created in
-    let held : HoldsPrefix its.opened its.world its.bytes its.events first.image = c.law_prefix.ensures.recovered its new.life far first.image first.left in
+    let held : HoldsPrefix its.opened its.world its.bytes its.events first.image = c.law_prefix.ensures.recovered its new.life far first.image (as_left _ _ first.image first.left) in
     let store = held.store in
     let o : Opened = store.opened in
     let holds : HoldsFirst its first.image = first.each first.image first.left in
@@ -34,7 +35,7 @@ returns c =
       next = λ events fit few.
           let has : HasLife first.image o events = c.law_life_exists.ensures.opened first.image o events store.is fit few in
           let life : Life = record { bytes = first.image; opened = o; world = has.world; events = events } in
-          let lives : AreLives (life ∷ its ∷ []) = (has.life, first.left, (new.life, far, tt)) in
+          let lives : AreLives (life ∷ its ∷ []) = (has.life, as_left _ _ first.image first.left, (new.life, far, tt)) in
           let pairs : map_of life ≡ content (map_of its) kept_first = holds.pairs o store.is in
           record {
             its = life;

@@ -11,7 +11,7 @@ use Rattle.law_commit.specs.Below.fkv_world.World.{Event, Now}
 use Rattle.law_commit.specs.BegunCommits.{BegunCommit}
 use Rattle.law_commit.proofs.OfVersions.Requests.{same_version}
 use Rattle.law_log.specs.Trace.{Effect, IsIn}
-use Rattle.law_order.specs.Prefix.Law.{history_so_far}
+use Rattle.law_order.specs.Prefix.Law.{HoldsPrefix, history_so_far}
 use Rattle.law_order.specs.Prefix.Stores.{IsOfCommitBeside}
 use Rattle.law_commit.specs.Below.law_paper.Kept.{PointsSplit}
 use Rattle.law_order.specs.Recovered.Holds.{HoldsBegun}
@@ -33,24 +33,25 @@ risen_same : (opening points others : List Serial) → ((session : ℕ) → poin
 risen_same opening points others same risen session = subst (λ (n : ℕ). point_of opening session ≤ n) (sym (same session)) (risen session)
 
 pub returns : goal.returns
-returns c = λ its is reaches image left.
+returns c = λ its is reaches other found.
     let o : Opened = its.opened in
     let n : Now = its.world in
     let bytes : List ℕ = its.bytes in
     let events : List Event = its.events in
+    let image : List ℕ = found.image in
     let leaves : Leaves o n bytes events image = record {
       store = is.store;
       begins = is.begins;
       fits = is.fits;
       few = is.few;
       far = reaches;
-      left = left;
+      left = found.left;
     } in
     let held : HoldsBegun o n bytes events image = c.law_images_hold.ensures o n bytes events image leaves in
     let named = held.named in
     let it : BegunCommit = named.commit in
     let points = c.law_points_keep.ensures.kept its it is named.begun in
-    record {
+    let own : HoldsPrefix o n bytes events image = record {
       commit = it;
       current = record {
         begun = named.begun;
@@ -85,4 +86,5 @@ returns c = λ its is reaches image left.
             risen = risen_same o.points.items r.points.items it.points same points.risen;
           };
       reaches = held.far;
-    }
+    } in
+    c.law_forgotten.ensures o n bytes events image other own found.agrees
