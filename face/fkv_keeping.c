@@ -46,6 +46,8 @@ struct run {
     bool is_full;          /* it writes them all */
     uint32_t idle;         /* so many turns in a row had nothing to do */
     bool has_called;       /* the last turn has called the file, so the next one may have something to do */
+    uint64_t helped;       /* turns that sessions' threads had made by its last one */
+    bool is_helped;        /* and some of them since the one before */
     bool is_put_off;       /* a commit was due, and has to wait for more turns */
     bool has_told;         /* the hook `stopped` was called */
 };
@@ -204,7 +206,7 @@ static uint32_t rest_us(const struct run *run) {
 static void rest(const struct run *run) {
     fkv_file *file = run->file;
     const struct warmer *warmer = &file->warmer;
-    if (run->has_called || file->nudged || file->stops) return;
+    if (file->nudged || file->stops || (run->has_called && !run->is_helped)) return;
     struct timespec until = fkv_later(fkv_now(), rest_us(run));
     if (warmer->has_more && fkv_is_before(warmer->rests_until, until)) until = warmer->rests_until;
     if (goes_by_clock(file) && !run->is_put_off && fkv_is_before(run->next, until)) until = run->next;
@@ -241,6 +243,9 @@ static void go_on(struct run *run) {
     bool begins = begin_commit(run);
     bool commits = file->in_hand;
     bool is_stirred = file->nudged || file->is_stirred || commits || file->abandoned;
+    /* Who waits for a read makes its turns, and would only find this thread in the way. A commit goes on by this thread's turns alone. */
+    run->is_helped = file->helped != run->helped && !commits;
+    run->helped = file->helped;
     run->idle = is_stirred ? 0 : run->idle < UINT16_MAX ? run->idle + 1 : run->idle;
     file->nudged = file->is_stirred = false;
     pthread_mutex_unlock(&file->lock);
