@@ -65,9 +65,9 @@ pub extern "C" fn fkv_image(alloc: Global, sizes: &Sizes, into: &mut [u8]) -> i3
     }
 }
 
-/// Opens the store of this image, of either class: the bytes of its file, all of them synced. They aren't needed behind the call. Memory gets its newest records, at
-/// most so many: 0 says all that fit, and the greatest number none. It tells the sizes, the number of
-/// the last commit, and the points, as many as there is room for. `NotAStore`, `Damaged` with the part and its place, `Memory`.
+/// Opens the store of this image, of either class: the bytes of its file, all of them synced. They aren't needed behind the call. Memory gets
+/// its newest records, at most so many: 0 says all that fit, and the greatest number none. It tells the sizes, the number of the last commit,
+/// and the points, as many as there is room for. `NotAStore`, `Damaged` with the part and its place, `Memory`.
 #[unsafe(no_mangle)]
 pub extern "C" fn fkv_open(
     alloc: Global,

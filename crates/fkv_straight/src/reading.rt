@@ -36,8 +36,8 @@ pub(crate) fn tell<L: Line>(
     requires reads { is_read op ≡ true }
     ensures seat { L.seat line.new ≡ L.seat line.old }
     ensures led { (start : L) (call : Call) → L.led start call line.old → L.led start call line.new }
-    ensures ended { (c : Course) → Goes c (L.seat line.old) op going.now → (bounds : Option Bounds) → c.occasion ≡ occasion.Call bounds → HasMet c met (L.stands line.old)
-        → IfOk result (λ its. IsEnded c.lasts its (L.stands line.new)) }
+    ensures ended { (c : Course) → Goes c (L.seat line.old) op going.now → (bounds : Option Bounds) → c.occasion ≡ occasion.Call bounds
+        → HasMet c met (L.stands line.old) → IfOk result (λ its. IsEnded c.lasts its (L.stands line.new)) }
     ensures left { (c : Course) → HasMet c met (L.stands line.old) → IfErr result (λ sought. IsAway c sought (L.stands line.new)) }
     ensures kept { IfErr result (λ sought. L.kept line.new ≤ 48) }
 {

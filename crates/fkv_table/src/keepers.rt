@@ -170,8 +170,8 @@ fn ask_word<D: Device, E: OfKeeper>(
     requires ask { ask.now ≡ said.keeper_ask machine.old.shape machine.old.places machine.old.state }
     requires word { (place : ℕ) × (said.asked_place ask.now ≡ Some place) }
     ensures seat { (seat.new.table_id ≡ seat.old.table_id) × (seat.new.id ≡ seat.old.id) }
-    ensures replied { said.KeeperReplied (said.opening_of D.seen) words.now.key seat.old.me (said.granted_for machine.old.state (is_some room) goes_on) machine.old
-        seat.new.me machine.new }
+    ensures replied { said.KeeperReplied (said.opening_of D.seen) words.now.key seat.old.me
+        (said.granted_for machine.old.state (is_some room) goes_on) machine.old seat.new.me machine.new }
     ensures ask { result ≡ said.keeper_ask machine.new.shape machine.new.places machine.new.state }
 {
     let reply = perform::<D, Adding<E>, KeeperTold>(words, seat, ask, Part::Any);
@@ -204,8 +204,8 @@ fn ask_by_grant<D: Device>(
     requires ask { ask.now ≡ said.keeper_ask machine.old.shape machine.old.places machine.old.state }
     requires word { (place : ℕ) × (said.asked_place ask.now ≡ Some place) }
     ensures seat { (seat.new.table_id ≡ seat.old.table_id) × (seat.new.id ≡ seat.old.id) }
-    ensures replied { said.KeeperReplied (said.opening_of D.seen) words.now.key seat.old.me (said.granted_for machine.old.state (is_some room) goes_on) machine.old
-        seat.new.me machine.new }
+    ensures replied { said.KeeperReplied (said.opening_of D.seen) words.now.key seat.old.me
+        (said.granted_for machine.old.state (is_some room) goes_on) machine.old seat.new.me machine.new }
     ensures ask { result ≡ said.keeper_ask machine.new.shape machine.new.places machine.new.state }
 {
     if is_granted(machine, &room, goes_on) {

@@ -104,7 +104,8 @@ impl Keeper {
         ensures after { said.IsAfterSeen (said.opening_of D.seen) table.now.table.shared.key pass.new.seat.me.0.seen (D.seen d.new) (D.may_leave d.new) }
         ensures moments { said.AtEachMoment D.moment D.left_since d.old d.new (said.IsLeftWithin (said.opening_of D.seen) table.now.table.shared.key
             pass.old.seat.me.0.seen pass.new.seat.me.0.seen) }
-        ensures due { D.expects d.new ≡ said.kinds_by (said.keeper_due self.old.machine) (not (said.ended_by_device self.new.machine.state.step)) (D.expects d.old) }
+        ensures due { D.expects d.new ≡ said.kinds_by (said.keeper_due self.old.machine) (not (said.ended_by_device self.new.machine.state.step))
+            (D.expects d.old) }
         ensures counted { said.IsCounted 1 (said.ended_by_device self.new.machine.state.step) (D.failed d.old) (D.failed d.new) (D.refuses d.old)
             (D.refuses d.new) }
         ensures fewer { said.keeper_asks_left self.new.machine.shape self.new.machine.places self.new.machine.state < said.keeper_asks_left

@@ -26,8 +26,8 @@ use std::thread::Threads;
 /// their own, and the keeper's on the caller's. A file is opened again for the report. What there is to print is printed. Of the options it goes by the file
 /// alone.
 ///
-/// An `Err` is a run that ended early. Its status is 2 where the sizes are no shape's, and 3 where a store or a turn was refused. It is 4 where memory, a thread or
-/// the output was; then what is written is a beginning.
+/// An `Err` is a run that ended early. Its status is 2 where the sizes are no shape's, and 3 where a store or a turn was refused. It is 4 where
+/// memory, a thread or the output was; then what is written is a beginning.
 pub fn run_threads<G: Gate + Sync, W: Write, R: Threads + Wait + Sync, S: StorePlaces>(
     rt: &R,
     places: &S,
@@ -142,8 +142,8 @@ where
     Ok((status, trouble))
 }
 
-/// The report of these lines over a new store of these sizes, in memory or in the file of this path. Behind it stands what is wrong with the file, if that is why
-/// there is none.
+/// The report of these lines over a new store of these sizes, in memory or in the file of this path. Behind it stands what is wrong with the
+/// file, if that is why there is none.
 fn end_of_run<G: Gate + Sync, R: Threads + Wait + Sync, S: StorePlaces>(
     rt: &R,
     places: &S,
