@@ -101,7 +101,7 @@ typedef struct {
     uint64_t mutable_pages; /* pages whose records are updated in place: 1 to frames - 1 */
     uint64_t sessions;      /* 1 to 32; of fkv_posix.h, which adds one to a file, to 31 */
     uint64_t overflow;      /* buckets that full ones overflow to: 0 to 2^24, of a specified store to 1,024. See fkv_image and fkv_shape_of */
-    uint64_t disk_pages;    /* pages that the log may have in the file: 1 to 2^30, of a specified store to 65,536 */
+    uint64_t disk_pages;    /* pages that the log may have in the file: 1 to 2^30, of a specified store to 65,536. 0 of fkv_posix.h: 2^30 */
 } fkv_shape;
 
 /* What an opening found. */

@@ -25,6 +25,9 @@ enum {
 /* No point is so large. */
 #define POINT_LIMIT (UINT64_C(1) << 48)
 
+/* Pages that the log of a living store may have at most, in all its life. */
+#define MOST_DISK_PAGES (UINT64_C(1) << 30)
+
 /* A number of the file: its lowest byte comes first. */
 static uint64_t word_at(const uint8_t *at) {
     uint64_t word = 0;
@@ -34,10 +37,14 @@ static uint64_t word_at(const uint8_t *at) {
 
 bool fkv_is_living(const uint8_t *bytes) { return memcmp(bytes, fkv_formats(), FORMAT_SIZE) != 0; }
 
+/* (0 asks for as many as there may be) */
+static uint64_t pages_of(const fkv_shape *asked) { return asked->disk_pages ? asked->disk_pages : MOST_DISK_PAGES; }
+
 int32_t fkv_with_own(const fkv_shape *asked, fkv_shape *shape) {
     if (asked->sessions < 1 || asked->sessions > FKV_MOST_JOINED) return -FKV_BAD_SHAPE;
     *shape = *asked;
     shape->sessions++;
+    shape->disk_pages = pages_of(asked);
     return 0;
 }
 
@@ -46,6 +53,7 @@ static uint64_t least(uint64_t one, uint64_t other) { return one < other ? one :
 fkv_shape fkv_made_of(const fkv_shape *asked) {
     fkv_shape made = *asked;
     made.sessions++;
+    made.disk_pages = pages_of(asked);
     /* (too many of them are refused as they are) */
     if (made.overflow < MOST_OVERFLOW) made.overflow = least(made.overflow + IN_HAND * made.sessions, MOST_OVERFLOW);
     return made;
@@ -59,7 +67,7 @@ fkv_shape fkv_asked_of(const fkv_file *file) {
 
 /* (No record has address 0.) */
 uint64_t fkv_records_of(const fkv_shape *asked) {
-    uint64_t sessions = asked->sessions + 1, kept = IN_HAND * sessions * sessions + 1, room = asked->page * asked->disk_pages;
+    uint64_t sessions = asked->sessions + 1, kept = IN_HAND * sessions * sessions + 1, room = asked->page * pages_of(asked);
     return room - least(room, kept);
 }
 

@@ -110,7 +110,8 @@ int32_t fkv_size_of(const fkv_shape *shape, fkv_size *size);
 
 /*
  * Makes the file of a new living store of this shape, which has 1 to 31 sessions (FKV_MOST_JOINED). The file has one session more, and 65
- * overflow buckets more for each of its sessions, as far as there may be so many: calls leave these to polls (fkv_shape). It is written under
+ * overflow buckets more for each of its sessions, as far as there may be so many: calls leave these to polls (fkv_shape). `disk_pages` bounds
+ * the log over all the store's life; 0 lets it have as many as there may be, 2^30. The file is as long as its log is. It is written under
  * another name in the same folder, synced, and put in place by a rename that replaces nothing; then the folder is synced. So a crash leaves the
  * whole file or none of this name. It may leave one of another name, `path` with ".new" and eight digits, which no store needs. The file isn't
  * open after the call.

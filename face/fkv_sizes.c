@@ -157,8 +157,8 @@ int32_t fkv_size_of(const fkv_shape *shape, fkv_size *size) {
     fkv_shape made = fkv_made_of(shape);
     *size = (fkv_size){
         .memory_bytes = memory_of(shape),
-        .opening_bytes = most(2 * 8 * words_of(shape), SORTED_SIZE * least(shape->page * shape->disk_pages, MOST_SORTED)) + OPENED_SIZE * keys,
-        .file_bytes = fkv_log_place(&made) + RECORD_SIZE * shape->page * shape->disk_pages,
+        .opening_bytes = most(2 * 8 * words_of(shape), SORTED_SIZE * least(made.page * made.disk_pages, MOST_SORTED)) + OPENED_SIZE * keys,
+        .file_bytes = fkv_log_place(&made) + RECORD_SIZE * made.page * made.disk_pages,
         .keys = keys,
         .records = fkv_records_of(shape),
     };

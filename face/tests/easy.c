@@ -422,6 +422,8 @@ static void sizes(void) {
     wants_room(&shape, "thousand");
     wants_room(&(fkv_shape){6, 64, 16, 8, FKV_MOST_JOINED, 64, 65536}, "crowded");
     wants_room(&(fkv_shape){8, 64, 16, 8, 1, 16, 65536}, "few");
+    WANTS("a shape without a bound of its log", fkv_size_of(&(fkv_shape){8, 64, 16, 8, 1, 16, 0}, &size), 0);
+    WANTS("its records", size.records, (UINT64_C(1) << 36) - 65 * 4 - 1);
     WANTS("a shape without overflow", fkv_size_of(&(fkv_shape){8, 64, 16, 8, 1, 0, 65536}, &size), 0);
     WANTS("its keys", size.keys, 0);
 }

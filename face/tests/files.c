@@ -115,6 +115,21 @@ static void making(void) {
     WANTS("making in no folder", fkv_make_file(path_of("none/store"), &SHAPE), -FKV_DEVICE);
 }
 
+/* A log without a bound may have as many pages as there may be, and the file is as long as the log is. */
+static void making_unbounded(void) {
+    const char *path = path_of("unbounded");
+    struct stat seen;
+    fkv_file *file;
+    fkv_shape shape = SHAPE;
+    shape.disk_pages = 0;
+    WANTS("making a file", fkv_make_file(path, &shape), 0);
+    WANTS("looking at it", stat(path, &seen), 0);
+    WANTS("its bytes", seen.st_size, FKV_IMAGE_SIZE);
+    WANTS("opening it", fkv_open_file(path, NULL, &file), 0);
+    WANTS("its pages", fkv_shape_of(file).disk_pages, UINT64_C(1) << 30);
+    WANTS("closing it", fkv_close_file(file), 0);
+}
+
 /* A file whose folder wasn't synced as it was made stays. Each opening syncs the folder, and is refused where that fails. */
 static void naming(void) {
     fkv_file *file;
@@ -364,6 +379,7 @@ int main(int count, char **words) {
     if (count != 2) return 2;
     folder = words[1];
     making();
+    making_unbounded();
     naming();
     leftovers();
     forking();

@@ -28,8 +28,8 @@ pub struct Shape {
     /// Buckets that full ones overflow to: 0 to 2^24, of a specified store to 1,024. A file that is made has 65 more for each of its sessions, which
     /// calls leave to polls, as far as there may be so many. [`Store::shape`] is without these.
     pub overflow: u64,
-    /// Pages that the log may have in the file: 1 to 2^30, of a specified store to 65,536. Of n sessions of a living file calls leave the last
-    /// 65·n² records to polls.
+    /// Pages that the log may have in the file: 1 to 2^30, of a specified store to 65,536. 0 for a new file's 2^30. Of n sessions of a living
+    /// file calls leave the last 65·n² records to polls.
     pub disk_pages: u64,
 }
 
