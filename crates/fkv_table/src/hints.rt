@@ -114,7 +114,7 @@ impl<D: Device> Table<D> {
     }
 
     /// Writes the keys of the records in memory from this address on, as many as there are places. A key is told as it lies in the store. Gives their
-    /// count. A record may be spoiled or no longer the newest: `where_led` then leads elsewhere.
+    /// count. A record may be spoiled or no longer the newest: `where_led` then leads elsewhere. Their buckets are loaded, so that this is soon found out.
     pub fn keys_from(&self, from: Addr, keys: &mut [u64]) -> usize
         ensures count { result ≤ length keys.new }
         ensures room { length keys.new ≡ length keys.old }
@@ -126,8 +126,18 @@ impl<D: Device> Table<D> {
         let count = keys.len().min((its.tail - from.0) as usize);
         for i in 0..count {
             let place = self.places.record(Addr(from.0 + i as u64), RecordWord::Key);
-            keys[i] = glance(self, place);
+            let key = glance(self, place);
+            keys[i] = key;
+            self.fetch_home(Key(key));
         }
         count
+    }
+
+    /// Loads the cache line of the key's bucket, which `where_led` reads. Many are waited for at once so.
+    fn fetch_home(&self, key: Key) {
+        let buckets = self.places.buckets as u64;
+        if buckets != 0 {
+            let _ = glance(self, self.places.bucket((key.0 % buckets) as usize, 0));
+        }
     }
 }
