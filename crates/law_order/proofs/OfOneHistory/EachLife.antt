@@ -43,7 +43,7 @@ pub record OpensSo : Type 0 where
   pub versions : OpensItsVersions
   pub latches : (o : Opened) (n : Now) → IsOpeningWorld o n → latches.IsOpened n
 
-pub begun_life : LivesBegin → (its : Life) → IsLife its → BegunLife
+abbrev pub begun_life : LivesBegin → (its : Life) → IsLife its → BegunLife
 begun_life lives its is = record {
   opening = beginning its.world its.bytes;
   start = (let o = its.opened in o.tail.0);

@@ -1,6 +1,5 @@
 -- What is new in a life lies at the tail, above all that is fixed. So the log goes on to do without what it once did without.
 use Rattle.std.proofs.Common.{◌≡◌, ℕ, ◌≤◌, ◌∙◌, refl, sym, ap, subst, arith, List, [], ◌∷◌, ◌++◌, append_assoc}
-use Rattle.law_commit.specs.Below.fkv_flush.GuardLevels.{levels_of}
 use Rattle.law_commit.specs.Below.fkv_world.Runs.{World, run}
 use Rattle.law_commit.specs.Below.fkv_world.World.{Event}
 use Rattle.law_commit.specs.Below.law_refine.Events.GhostEvents.{ghost_events, life_ghosts, mapped, safe_at, serials_in}
@@ -16,7 +15,7 @@ use Rattle.law_commit.proofs.Below.law_world.OfGuarded.Worlds.{life_shows}
 use Rattle.law_log.specs.Begins.{IsOver, Live, LiveAtRest, LiveUpto, StaysFromThere, TakeAbove, TakesAbove}
 use Rattle.law_log.specs.Chains.{Logged, NoneLater, version_at}
 use Rattle.law_log.specs.Enabled.{AreChains, AreEnabled}
-use Rattle.law_log.specs.Ghosts.{Changes, Drops, FindsEntry, Fixes, GhostEvent, Ghosts, Log, Publishes, Reserves, TakesValue, Tells, ghost_run}
+use Rattle.law_log.specs.Ghosts.{Changes, Drops, FindsEntry, Fixes, GhostEvent, Log, Publishes, Reserves, TakesValue, Tells, ghost_run}
 use Rattle.law_log.proofs.Shown.{enabled_before, run_held}
 use Rattle.law_commit.specs.Versions.Cells.{CellsUpto, made_in}
 use Rattle.law_order.specs.Known.Begins.{BegunLife, home_of_world}
@@ -100,10 +99,10 @@ module _ (life : BegunLife) where
     fixed = low;
     none_reserved = λ a entry cell e.
         let of = life_sessions life.opening life.start life.ghosts events life.begins.store.now life.begins.unborn life.begins.reserves a entry cell e in
-        let open = (reserved_open life.opening life.start events life.begins.store.now of.number of.its of.has).0 in
+        let above = (reserved_open life.opening life.start events life.begins.store.now of.number of.its of.has).0 in
         let at : of.its.addr ≡ a = of.its_addr in
         let fixed = fixed_is_safe events in
-        omega (arith, low, open, at, fixed);
+        omega (arith, low, above, at, fixed);
   }
 
   -- so what the log's law says of such a moment goes on to hold
