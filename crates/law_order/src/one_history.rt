@@ -64,10 +64,10 @@ pub fn law_lives_keep_rules()
     law_lives_keep_order();
 }
 
-/// In each life each key's newest record lies at or above the begin that the store was opened with, or the key reads as absent. So it is in the versions up to each
-/// one. So what lies below that begin may be forgotten. Any other address at which a log could begin stays so too. If the log does without its records below it at a
-/// moment at which they are fixed, it does so from then on, since new records lie at the tail. So it is of the versions up to each one by themselves. And it does so
-/// in the versions up to that of the phase word then, and up to each later one. So who moves the begin has to show it once.
+/// In each life each key's newest record lies at or above the begin that the store was opened with, or the key reads as absent. So it is in the versions up to
+/// each one. So what lies below that begin may be forgotten. What is so of any other address stays so. If the log does without the records below it at a moment
+/// at which they are fixed, it does so from then on. For new records lie at the tail. So it is of the versions up to each one by themselves. And from then on it
+/// does without them in the versions up to the phase word's of that moment, and up to each later one. So who moves the begin has to show it once.
 pub fn law_live()
     ensures opened { said.InEachLife said.IsLive }
     ensures stays { said.InEachLife said.StaysLive }

@@ -47,8 +47,8 @@ GoesOn P o n bytes events =
     (begin : ℕ) (later before : List Event) → events ≡ later ++ before → HasFixed o n bytes before begin
     → P begin (home_in n.shape.bucket_bits) (log_beside o n bytes before) → P begin (home_in n.shape.bucket_bits) (log_beside o n bytes events)
 
--- The log that does without its records below an address does so from then on, and in the versions up to each one by itself. If it does at all, it does so from
--- then on in the versions up to the phase word's of then, and up to each later one.
+-- A log that does without its records below an address does so from then on. So it is in the versions up to each one. And from then on it does without them in
+-- the versions up to the phase word's of that moment, and up to each later one.
 pub record StaysLive (o : Opened) (n : Now) (bytes : List ℕ) (events : List Event) : Type 0 where
   pub now : GoesOn Live o n bytes events
   pub upto : (version : ℕ) → GoesOn (LiveUpto version) o n bytes events
