@@ -7,6 +7,7 @@ use Rattle.law_commit.specs.Below.fkv_world.World.{Event, Now}
 use Rattle.law_commit.specs.Below.law_refine.Events.GhostEvents.{home_in}
 use Rattle.law_commit.specs.Versions.Laws.{version_now}
 use Rattle.law_log.specs.Begins.{Live, LiveUpto}
+use Rattle.law_log.specs.Ghosts.{Log}
 use Rattle.law_opening.specs.Log.Lives.{ghosts_beside}
 use Rattle.law_order.specs.Decided.Cut.{log_beside}
 use Rattle.law_order.specs.Served.Fits.{CallsFit}
