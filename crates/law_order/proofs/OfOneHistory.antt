@@ -5,6 +5,7 @@ pub mod EachLife
 pub mod History
 pub mod InVersions
 pub mod NewLives
+pub mod StaysLive
 mod WorkedEffects
 pub mod WorkedLives
 pub mod WorkedShape

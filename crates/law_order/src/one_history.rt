@@ -5,6 +5,7 @@ use crate::fits::law_opening_fits;
 use crate::in_turn::{law_ends_open, law_versions_open};
 use crate::ordered::{law_reads_met, law_world_ordered};
 use crate::rules::{law_life_begins, law_order_of_rules};
+use crate::versions::law_lives_bound_versions;
 use law_commit::{
     law_begun, law_commits_cut, law_commits_ended, law_floor_stands, law_latched_in_tries,
     law_phases_are_seen, law_shares_not_missed, law_versions_counted, law_versions_end,
@@ -63,13 +64,17 @@ pub fn law_lives_keep_rules()
     law_lives_keep_order();
 }
 
-/// In each life each key's newest record lies at or above the begin that the store was opened with, or the key reads as absent. So it is in the versions up to each
-/// one. So what lies below that begin may be forgotten.
+/// In each life each key's newest record lies at or above the begin that the store was opened with, or the key reads as absent. So it is in the versions up to
+/// each one. So what lies below that begin may be forgotten. What is so of any other address stays so. If the log does without the records below it at a moment
+/// at which they are fixed, it does so from then on. For new records lie at the tail. So it is of the versions up to each one by themselves. And from then on it
+/// does without them in the versions up to the phase word's of that moment, and up to each later one. So who moves the begin has to show it once.
 pub fn law_live()
-    ensures { said.InEachLife said.IsLive }
+    ensures opened { said.InEachLife said.IsLive }
+    ensures stays { said.InEachLife said.StaysLive }
 {
     law_life_begins();
     law_lives_keep_rules();
+    law_lives_bound_versions();
     law_lives_are_above();
     law_live_stays();
 }

@@ -21,7 +21,7 @@ use Rattle.law_order.specs.Rules.Openings.{OpensItsEnds, OpensItsVersions}
 use Rattle.law_commit.specs.Below.law_refine.Latches.Shows as latches
 use Rattle.law_order.specs.Served.Fits.{CallsFit, CellsFit}
 use Rattle.law_order.proofs.OfTickets.Life.{tickets_apart}
-use Rattle.law_order.specs.OneHistory.EachLife.{InEachLife}
+use Rattle.law_order.specs.OneHistory.EachLife.{InEachLife, IsLife, Life}
 
 -- what a life begins with
 abbrev pub LivesBegin : Type 0
@@ -43,6 +43,17 @@ pub record OpensSo : Type 0 where
   pub versions : OpensItsVersions
   pub latches : (o : Opened) (n : Now) → IsOpeningWorld o n → latches.IsOpened n
 
+abbrev pub begun_life : LivesBegin → (its : Life) → IsLife its → BegunLife
+begun_life lives its is = record {
+  opening = beginning its.world its.bytes;
+  start = (let o = its.opened in o.tail.0);
+  lists = (let o = its.opened in opening_lists o.entries.items);
+  map = opening_map its.bytes its.opened;
+  number = (let o = its.opened in o.number.0);
+  ghosts = opening_ghosts its.bytes its.opened;
+  begins = lives its.bytes its.opened its.world is.store is.begins;
+}
+
 -- what holds of each life that begins so holds of each
 abbrev HoldsInLives : (World → Ghosts → List Event → Type 0) → Type 0
 HoldsInLives P = (life : BegunLife) (events : List Event) → Given → OpensApart life → CellsFit life.ghosts.log → CallsFit events → TicketsAreApart life.opening events → P life.opening life.ghosts events
@@ -52,15 +63,7 @@ holds_in_each P lives opens given fit keep = λ its is.
     let n : Now = its.world in
     let bytes : List ℕ = its.bytes in
     let o : Opened = its.opened in
-    let life : BegunLife = record {
-      opening = beginning n bytes;
-      start = o.tail.0;
-      lists = opening_lists o.entries.items;
-      map = opening_map bytes o;
-      number = o.number.0;
-      ghosts = opening_ghosts bytes o;
-      begins = lives bytes o n is.store is.begins;
-    } in
+    let life : BegunLife = begun_life lives its is in
     let apart : OpensApart life = record { quiet = opens.ends bytes o n is.store is.begins; latches = opens.latches o n is.begins; upto = (opens.versions bytes o n is.store is.begins).upto } in
     keep life its.events given apart (fit bytes o is.store) is.fits (tickets_apart (beginning n bytes) its.events life.begins.world is.few)
 

@@ -1,12 +1,15 @@
 -- The lives of which the order law speaks, and the law of prefixes.
-use Rattle.std.specs.Prelude.{ℕ, List}
-use Rattle.law_opening.specs.Below.fkv_core.Openings.{IsOpeningWorld}
+use Rattle.std.specs.Prelude.{◌≡◌, ◌≤◌, ◌++◌, ℕ, List}
+use Rattle.law_opening.specs.Below.fkv_core.Openings.{IsOpeningWorld, beginning}
 use Rattle.law_opening.specs.Below.fkv_opening.Opened.{IsStoreOf}
 use Rattle.law_opening.specs.Below.fkv_opening.TheOpened.{Opened}
 use Rattle.law_commit.specs.Below.fkv_world.World.{Event, Now}
 use Rattle.law_commit.specs.Below.law_refine.Events.GhostEvents.{home_in}
+use Rattle.law_commit.specs.Versions.Laws.{version_now}
 use Rattle.law_log.specs.Begins.{Live, LiveUpto}
+use Rattle.law_log.specs.Ghosts.{Log}
 use Rattle.law_opening.specs.Log.Lives.{ghosts_beside}
+use Rattle.law_order.specs.Decided.Cut.{log_beside}
 use Rattle.law_order.specs.Served.Fits.{CallsFit}
 use Rattle.law_order.specs.Tickets.Few.{HasFewCalls}
 
@@ -33,3 +36,22 @@ InEachLife P = (its : Life) → IsLife its → P its.opened its.world its.bytes 
 pub record IsLive (o : Opened) (n : Now) (bytes : List ℕ) (events : List Event) : Type 0 where
   pub now : (let beside = ghosts_beside o n bytes events in Live o.begin.0 (home_in n.shape.bucket_bits) beside.log)
   pub upto : (version : ℕ) → (let beside = ghosts_beside o n bytes events in LiveUpto version o.begin.0 (home_in n.shape.bucket_bits) beside.log)
+
+-- ---- and of any other address at which the log may come to begin
+-- Behind these events all below the address is fixed: it lies at or below the safe read-only offset.
+abbrev pub HasFixed : Opened → Now → List ℕ → List Event → ℕ → Type 0
+HasFixed o n bytes events begin = (let log = log_beside o n bytes events in begin ≤ log.fixed)
+
+-- What is so of an address behind the earlier events of a life, with all below it fixed, is so behind all its events.
+abbrev pub GoesOn : (ℕ → (ℕ → ℕ) → Log → Type 0) → Opened → Now → List ℕ → List Event → Type 0
+GoesOn P o n bytes events =
+    (begin : ℕ) (later before : List Event) → events ≡ later ++ before → HasFixed o n bytes before begin
+    → P begin (home_in n.shape.bucket_bits) (log_beside o n bytes before) → P begin (home_in n.shape.bucket_bits) (log_beside o n bytes events)
+
+-- A log that does without its records below an address does so from then on. So it is in the versions up to each one. And from then on it does without them in
+-- the versions up to the phase word's of that moment, and up to each later one.
+pub record StaysLive (o : Opened) (n : Now) (bytes : List ℕ) (events : List Event) : Type 0 where
+  pub now : GoesOn Live o n bytes events
+  pub upto : (version : ℕ) → GoesOn (LiveUpto version) o n bytes events
+  pub gives_upto : (version begin : ℕ) (later before : List Event) → events ≡ later ++ before → HasFixed o n bytes before begin → version_now (beginning n bytes) before ≤ version
+      → Live begin (home_in n.shape.bucket_bits) (log_beside o n bytes before) → LiveUpto version begin (home_in n.shape.bucket_bits) (log_beside o n bytes events)

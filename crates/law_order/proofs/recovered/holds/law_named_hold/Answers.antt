@@ -23,7 +23,7 @@ returns c = λ o n bytes events image leaves names.
     let slots : (triples : List Triple) → HasSlots (log_named names triples) log = λ triples.
     c.law_slots_open.ensures bytes o n events (log_named names triples) store begins (names.shape ∙ begins.its_shape) in
     let life : Life = record { bytes = bytes; opened = o; world = n; events = events } in
-    let live = (c.law_live.ensures life (record { store = store; begins = begins; fits = leaves.fits; few = leaves.few })).upto in
+    let live = (c.law_live.ensures.opened life (record { store = store; begins = begins; fits = leaves.fits; few = leaves.few })).upto in
     elim (c.law_images_use_checkpoints.ensures o n bytes events image leaves names) [
       | inl made ↦
           c.law_paper_is_sound.ensures.named home image names.newest made.triples log made.checkpoint
