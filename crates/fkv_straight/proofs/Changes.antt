@@ -22,7 +22,7 @@ use Rattle.fkv_ops.specs.declared.trying.Trying.TheVariants.{SwapsValue, LoadsCu
 use Rattle.fkv_ops.specs.declared.walking.WalkAnswer.TheVariants as walked
 use Rattle.fkv_ops.specs.declared.walking.Walking.TheVariants.{HasFound}
 use Rattle.fkv_ops.specs.declared.walking.Walking.TheVariants as walk
-use Rattle.fkv_ops.specs.HeaderWords.{header_said}
+use Rattle.fkv_ops.specs.HeaderWords.{header_said, previous_in}
 use Rattle.fkv_ops.specs.Requests.{is_read, is_blind}
 use Rattle.fkv_ops.specs.Values.{value_of, word_of}
 use Rattle.fkv_ops.specs.Appending.{append_rested}
@@ -41,8 +41,8 @@ use Rattle.fkv_ops.specs.Bounds.{bounds_at}
 
 -- what the table tests of the record that an update has met
 pub record MetBy (c : Course) (r : Record) : Type 0 where
-  pub said : header_said r.header ≡ Says (record { 0 = r.previous }) (record { 0 = r.mark })
-  pub below : nat_lt r.previous r.addr ≡ true
+  pub said : header_said r.header ≡ Says (record { 0 = previous_in r.header }) (record { 0 = r.mark })
+  pub below : nat_lt (previous_in r.header) r.addr ≡ true
   pub mine : ((key_of c.op).0 == (key_of c.op).0) ≡ true
   pub stays : IsUnshifted c r
   pub updates : is_read c.op ≡ false

@@ -16,7 +16,7 @@ use Rattle.fkv_ops.specs.declared.header_words.HeaderSaid.TheVariants.{Says}
 use Rattle.fkv_ops.specs.declared.requests.Occasion.TheVariants.{Call as AtCall}
 use Rattle.fkv_ops.specs.declared.trying.Trying.TheVariants.{LoadsAnswer, Ended}
 use Rattle.fkv_ops.specs.declared.walking.Walking.{Walking}
-use Rattle.fkv_ops.specs.HeaderWords.{header_said}
+use Rattle.fkv_ops.specs.HeaderWords.{header_said, previous_in}
 use Rattle.fkv_ops.specs.Requests.{is_read, is_chain_end}
 use Rattle.fkv_ops.specs.Trying.{TryState, trying_ask, trying_next, walk_ledto, answer_ledto, ends, ends_so}
 use Rattle.fkv_ops.specs.Walking.{reached, walking_ask, walking_next, load_ledto, value_ledto, walking_on}
@@ -33,7 +33,7 @@ use Rattle.fkv_ops.specs.declared.bounds.Bounds.{Bounds}
 use Rattle.fkv_ops.proofs.Shown.{ends_there}
 
 -- ---- the record was met: its value is loaded
-reads_on : (c : Course) (trail : Trail) (r : Record) → header_said r.header ≡ Says (record { 0 = r.previous }) (record { 0 = r.mark }) → nat_lt r.previous r.addr ≡ true → ((key_of c.op).0 == (key_of c.op).0) ≡ true
+reads_on : (c : Course) (trail : Trail) (r : Record) → header_said r.header ≡ Says (record { 0 = previous_in r.header }) (record { 0 = r.mark }) → nat_lt (previous_in r.header) r.addr ≡ true → ((key_of c.op).0 == (key_of c.op).0) ≡ true
     → shares c ≡ false → is_read c.op ≡ true
     → next_try c (meeting c trail r.place r.entry r.addr (load.LoadsKey (record { 0 = r.addr }) r.header)) (key_of c.op).0 ≡ holding c (past trail (record { 0 = r.mark })) r LoadsAnswer
 unfolding trying_next walk_ledto walking_ask walking_next load_ledto load_ask load_next load_next_ask load_on walking_on passed
@@ -42,7 +42,7 @@ reads_on c trail r said below mine calm reads = rw (said, below, mine, calm, rea
 met_answers : (c : Course) (r : Record) (s : SessionState) → IsMet c r s → shares c ≡ false → is_read c.op ≡ true → IsAtAnswer c r s
 unfolding HasKey IsAtAnswer trying_ask walking_ask load_ask passed
 met_answers c r s met calm reads =
-    let below : nat_lt r.previous r.addr ≡ true = (let h = met.below in grind (arith, nat_tests)) in
+    let below : nat_lt (previous_in r.header) r.addr ≡ true = (let h = met.below in grind (arith, nat_tests)) in
     let has = met.key in (
       past has.0 (record { 0 = r.mark }),
       stays c (holding c (past has.0 (record { 0 = r.mark })) r LoadsAnswer) s

@@ -1,9 +1,12 @@
 -- Tests as a call makes them and as the table does.
-use Rattle.std.proofs.Common.{◌≡◌, ℕ, ◌-◌, ◌/◌, ◌%◌, ◌^◌, ◌≤◌, refl, sym, ◌∙◌, arith, Bool, true, false}
-use Rattle.std.specs.Prelude.{◌==◌, ◌&&◌, ◌||◌, max, not, nat_lt}
+use Rattle.std.proofs.Common.{◌≡◌, ℕ, ◌-◌, ◌/◌, ◌%◌, ◌^◌, ◌≤◌, refl, sym, ap, ◌∙◌, arith, Bool, true, false}
+use Rattle.std.specs.Prelude.{◌==◌, ◌&&◌, ◌||◌, if◌then◌else◌, max, not, nat_lt}
 use Rattle.std.proofs.lemmas.Bool.Decides.{nat_tests}
-use Rattle.fkv_ops.specs.declared.header_words.HeaderSaid.TheVariants.{Says}
-use Rattle.fkv_ops.specs.HeaderWords.{header_said}
+use Rattle.fkv_base.specs.declared.numbers.Addr.{Addr}
+use Rattle.fkv_base.specs.declared.numbers.Version.{Version}
+use Rattle.fkv_ops.specs.declared.header_words.HeaderSaid.{HeaderSaid}
+use Rattle.fkv_ops.specs.declared.header_words.HeaderSaid.TheVariants.{Says, Spoiled}
+use Rattle.fkv_ops.specs.HeaderWords.{header_said, is_header, previous_in, version_in}
 use Rattle.fkv_straight.specs.Memory.{is_in_memory}
 
 pub same : (n : ℕ) → (n == n) ≡ true
@@ -49,6 +52,22 @@ said_plainly word previous version some fits p v =
     let clear : (word / 2 ^ 61 % 2 == 0) ≡ true = (let h : word / 2 ^ 61 % 2 ≡ 0 = omega (arith, fits) in grind (arith, nat_tests, h)) in
     let top : (word / 2 ^ 63 == 0) ≡ true = (let h : word / 2 ^ 63 ≡ 0 = omega (arith, fits) in grind (arith, nat_tests, h)) in
     (λ i. Says (record { 0 = p i }) (record { 0 = (v ∙ sym whole) i })) ∙ sym (rw (has, clear, top) refl)
+
+-- what a valid header says of the record before is what its word has there
+abbrev before_in : HeaderSaid → ℕ
+before_in (Says previous version) = previous.0
+before_in Spoiled = 0
+
+pub previous_said : (word : ℕ) (previous : Addr) (version : Version) → header_said word ≡ Says previous version → previous.0 ≡ previous_in word
+unfolding header_said
+previous_said word previous version = of_kind (is_header word)
+  where
+    of_kind : (valid : Bool) → (if valid then Says (record { 0 = previous_in word }) (record { 0 = version_in word }) else Spoiled) ≡ Says previous version → previous.0 ≡ previous_in word
+    of_kind true e = sym (ap before_in e)
+    of_kind false e = absurd (cc e)
+
+pub says_previous : (word : ℕ) (previous : Addr) (version : Version) → header_said word ≡ Says previous version → header_said word ≡ Says (record { 0 = previous_in word }) version
+says_previous word previous version said = said ∙ ap (λ (n : ℕ). Says (record { 0 = n }) version) (previous_said word previous version said)
 
 pub max_same : (a : ℕ) → max a a ≡ a
 max_same a = omega arith

@@ -37,7 +37,7 @@ use Rattle.fkv_ops.specs.declared.trying.Trying.TheVariants.{TakesShared, Walks,
 use Rattle.fkv_ops.specs.declared.walking.Walking.{Walking}
 use Rattle.fkv_ops.specs.declared.walking.Walking.TheVariants.{Finds, Meets, HasFound, LoadsValue}
 use Rattle.fkv_ops.specs.Bounds.{bounds_at, tail_bound}
-use Rattle.fkv_ops.specs.HeaderWords.{header_said}
+use Rattle.fkv_ops.specs.HeaderWords.{header_said, previous_in}
 use Rattle.fkv_ops.specs.Requests.{is_read, purpose_at}
 use Rattle.fkv_ops.specs.Walking.{WalkState, first_met, reached, walk_ask, walk_rested}
 use Rattle.fkv_ops.specs.Appending.{AppendState, append_rested}
@@ -163,8 +163,8 @@ HasKey c place entry addr header key s = (trail : Trail) × IsTrail c trail entr
 -- the record of the operation's key was met in memory
 pub record IsMet (c : Course) (r : Record) (s : SessionState) : Type 0 where
   pub key : HasKey c r.place r.entry r.addr r.header (key_of c.op).0 s
-  pub said : header_said r.header ≡ Says (record { 0 = r.previous }) (record { 0 = r.mark })
-  pub below : r.previous < r.addr
+  pub said : header_said r.header ≡ Says (record { 0 = previous_in r.header }) (record { 0 = r.mark })
+  pub below : previous_in r.header < r.addr
   pub here : IsInMemory c r.addr
   pub at : r.at ≡ record_place c.seat.places r.addr Header
 

@@ -38,7 +38,6 @@ pub struct Record {
     pub entry: u64,
     pub addr: u64,
     pub header: u64,
-    pub previous: u64,
     /// The mark of its version.
     pub mark: u64,
     /// The place of its header.
@@ -69,25 +68,22 @@ enum Judged {
     Spoiled,
 }
 
-/// What a word is to the search. The tag comes first: most words that end a search have it.
+/// What a word is to the search. Most words have an address, and most that end a search have the tag.
 #[inline(always)]
 fn judge(word: u64, tag: u64) -> Judged
+    requires tag { tag < 2 ^ 15 }
     ensures here { result ≡ Here → (word ≡ 0) ⊎ ((is_entry word ≡ true) × (word / 2 ^ 48 ≡ tag)) }
     ensures other { result ≡ Other → (is_entry word ≡ true) × ¬ (word / 2 ^ 48 ≡ tag) }
 {
-    if word >> 48 == tag {
-        let entry = is_entry(word);
-        if entry || word == 0 {
-            return Judged::Here;
-        }
-        return Judged::Spoiled;
-    }
     let addr = addr_of(word);
     if addr == 0 {
         if word == 0 {
             return Judged::Here;
         }
         return Judged::Spoiled;
+    }
+    if word >> 48 == tag {
+        return Judged::Here;
     }
     let entry = is_entry(word);
     if entry {
@@ -276,7 +272,6 @@ fn visit<L: Line>(line: &mut L, going: &Going, op: Op, slot: Slot, addr: u64) ->
             entry: slot.entry,
             addr,
             header,
-            previous: previous.0,
             mark: version.0,
             at,
         });

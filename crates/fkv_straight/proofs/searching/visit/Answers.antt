@@ -10,6 +10,7 @@ use Rattle.fkv_straight.specs.declared.searching.Visited.{Visited}
 use Rattle.fkv_straight.specs.declared.searching.Visited.TheVariants.{Own, Other}
 use Rattle.fkv_straight.specs.Met.{HasKey, IsMet, IsReached}
 use Rattle.fkv_straight.proofs.Goings.{key_at, record_asks, record_is, record_past, leads_on, memory_is}
+use Rattle.fkv_straight.proofs.Tests.{previous_said, says_previous}
 use Rattle.fkv_straight.proofs.Walks.{reached_here, header_asks, header_comes, key_asks, key_comes, key_passed}
 use Rattle.fkv_straight.proofs.searching.visit.Goals as goal
 
@@ -74,11 +75,12 @@ returns-then-found-key-clause-own g c = λ own is its goes reached.
     let has = key_comes its place entry addr c.load_past-header.result c.load_past-found.result then last with_header
     (leads_on its k c.args.op c.args.going.now (g.L.Line.seat c.load_past-header.new.self) then last c.load_past-found.result goes c.load_past-header.ensures.seat c.load_past-found.ensures.next) in
     let mine : c.key-key.result.0 ≡ (key_of its.op).0 = ap (λ (x : Key). x.0) c.key-key.ensures ∙ ap (λ (x : Op). (key_of x).0) (sym goes.its_op) in
-    let made : Record = record { place = place; entry = entry; addr = addr; header = c.load_past-header.result; previous = c.in-Says.previous.0; mark = c.in-Says.version.0; at = c.record-at.result } in
+    let made : Record = record { place = place; entry = entry; addr = addr; header = c.load_past-header.result; mark = c.in-Says.version.0; at = c.record-at.result } in
+    let said = sym c.header_said-said.ensures ∙ c.in-Says.is in
     let met : IsMet its made last = record {
       key = subst (λ (n : ℕ). HasKey its place entry addr c.load_past-header.result n last) (c.if-found-key.true ∙ mine) has;
-      said = sym c.header_said-said.ensures ∙ c.in-Says.is;
-      below = omega arith;
+      said = says_previous c.load_past-header.result c.in-Says.previous c.in-Says.version said;
+      below = (let same = previous_said c.load_past-header.result c.in-Says.previous c.in-Says.version said in omega (arith, same));
       here = here;
       at = sym (record_is its k c.args.op c.args.going.now addr c.record-at.result rec.Header goes c.record-at.ensures);
     } in
