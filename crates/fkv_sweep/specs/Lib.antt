@@ -1,0 +1,3 @@
+pub mod Swept
+pub mod SweptLogs
+pub mod Sweeping
