@@ -1,2 +1,3 @@
+pub mod AsksLeft
 mod Reading
 mod Sound

@@ -1,7 +1,7 @@
 -- What a sweep has at each moment, and that each event keeps it.
-use Rattle.std.proofs.Common.{◌≡◌, ℕ, ◌+◌, ◌-◌, ◌<◌, ◌≤◌, ◌⊎◌, List, [], ◌∷◌, ◌++◌, length, refl, sym, ap, ◌∙◌, subst, inl, inr, arith, Bool, true, false, eqb-true}
+use Rattle.std.proofs.Common.{◌≡◌, ℕ, ◌+◌, ◌-◌, ◌<◌, ◌≤◌, ◌⊎◌, List, [], ◌∷◌, ◌++◌, length, refl, sym, subst, inl, inr, arith, Bool, true, false, eqb-true}
 use Rattle.std.proofs.lemmas.Bool.{eqb-false}
-use Rattle.std.specs.Prelude.{◌==◌, ◌&&◌, nat_lt, nat_le, if◌then◌else◌, ⊤, Option, Some, None}
+use Rattle.std.specs.Prelude.{◌==◌, ◌&&◌, nat_lt, if◌then◌else◌, ⊤, Some}
 use Rattle.std.proofs.lemmas.Bool.Decides.{nat_tests}
 use Rattle.std.proofs.lemmas.List.{length-append}
 use Rattle.fkv_base.specs.declared.numbers.Addr.{Addr}
@@ -19,7 +19,7 @@ use Rattle.fkv_index.specs.Finding.{first_finding, find_next, find_next_ask}
 use Rattle.fkv_sweep.specs.declared.record_words.RecordWords.{RecordWords}
 use Rattle.fkv_sweep.specs.declared.sweeping.Sweeping.{Sweeping}
 use Rattle.fkv_sweep.specs.declared.sweeping.Sweeping.TheVariants.{AtRest, LoadsHead, Meets, Finds, LoadsKey, LoadsHeader, Reads}
-use Rattle.fkv_sweep.specs.Sweeping.{Sweeper, most_records, most_wanted, previous_in, is_counted, words_in, sweep_begun, turn_begun, gone_on, record_passed, key_wanted, reached, led_down, slot_found, find_ledto, key_met, chain_met, record_met, sweeping_next, sweep_next, sweeping_read, sweep_read, sweep_failed, sweeping_addr}
+use Rattle.fkv_sweep.specs.Sweeping.{Sweeper, most_records, most_wanted, previous_in, is_counted, words_in, sweep_begun, turn_begun, gone_on, record_passed, key_wanted, reached, led_down, slot_found, find_ledto, key_met, chain_met, record_met, sweeping_next, sweeping_read, sweeping_addr}
 use Rattle.fkv_sweep.specs.SweptLogs.{Standing, SweptLog, IsInChain, HasKeyAt, StandsAbove, Swept, Grows, ShowsEntry, ShowsReply, ShowsCell, ShowsChained, ShowsRead}
 use Rattle.fkv_sweep.specs.Swept.{SweepEvent, TurnBegins, IsReplied, IsRead, ReadFails, SweepMoment, sweep_happens, sweep_run, ShowsEvent, HasGrown, AreShown, AllSwept, ReadsAbove}
 
@@ -41,7 +41,7 @@ pub record IsMet (s : Sweeper) (log : SweptLog) (key : Key) : Type 0 where
 pub record IsProbed (s : Sweeper) (log : SweptLog) (key : Key) (addr : ℕ) : Type 0 where
   pub met : IsMet s log key
   pub above : s.to.0 ≤ addr
-  pub in_chain : IsInChain s log key addr
+  pub in_chain : IsInChain s.shape.bucket_bits log key addr
 
 abbrev pub Probes : Sweeper → SweptLog → Sweeping → Type 0
 Probes s log AtRest = ⊤
@@ -57,7 +57,7 @@ pub record IsSound (begin end : ℕ) (s : Sweeper) (log : SweptLog) : Type 0 whe
   pub probes : Probes s log s.step
 
 -- ---- as the log grows
-above_grown : (s : Sweeper) (before after : SweptLog) (key : Key) → Grows s.to.0 before after → StandsAbove s before key → StandsAbove s after key
+above_grown : (s : Sweeper) (before after : SweptLog) (key : Key) → Grows s.to.0 before after → StandsAbove s.shape.bucket_bits s.to.0 before key → StandsAbove s.shape.bucket_bits s.to.0 after key
 above_grown s before after key grows its = record {
   addr = its.addr;
   above = its.above;
@@ -80,7 +80,7 @@ probes_grown s before after (LoadsKey key addr) grows its = (probed_grown s befo
 probes_grown s before after (LoadsHeader key addr) grows its = (probed_grown s before after key addr.0 grows its.0, its.1)
 probes_grown s before after (Reads key addr) grows its = (probed_grown s before after key addr.0 grows its.0, its.1)
 
-side_grown : (s : Sweeper) (before after : SweptLog) (cell : Standing) → Grows s.to.0 before after → (cell.absent ≡ true) ⊎ StandsAbove s before cell.key → (cell.absent ≡ true) ⊎ StandsAbove s after cell.key
+side_grown : (s : Sweeper) (before after : SweptLog) (cell : Standing) → Grows s.to.0 before after → (cell.absent ≡ true) ⊎ StandsAbove s.shape.bucket_bits s.to.0 before cell.key → (cell.absent ≡ true) ⊎ StandsAbove s.shape.bucket_bits s.to.0 after cell.key
 side_grown s before after cell grows (inl absent) = inl absent
 side_grown s before after cell grows (inr above) = inr (above_grown s before after cell.key grows above)
 
@@ -126,7 +126,7 @@ gone_sound begin end s log its = cases (nat_lt (s.next.0 + 1) s.to.0 && nat_lt 1
 
 -- the record that is met may be passed
 abbrev MayPass : Sweeper → SweptLog → Type 0
-MayPass s log = (cell : Standing) → log.cells s.next.0 ≡ Some cell → (cell.absent ≡ true) ⊎ StandsAbove s log cell.key
+MayPass s log = (cell : Standing) → log.cells s.next.0 ≡ Some cell → (cell.absent ≡ true) ⊎ StandsAbove s.shape.bucket_bits s.to.0 log cell.key
 
 passed_done : (begin end : ℕ) (s : Sweeper) (log : SweptLog) (b : Bool) → (length s.wanted == 0) ≡ b → Knows begin end s log → s.next.0 < s.to.0 → MayPass s log
     → IsDone begin end (record s { at = if b then record { 0 = s.next.0 + 1 } else s.at }) log
@@ -142,7 +142,7 @@ passed_done begin end s log true e its below here =
       level = λ empty. refl;
     }
   where
-    each : (a : ℕ) (cell : Standing) → s.from.0 ≤ a → a < s.next.0 + 1 → log.cells a ≡ Some cell → (t : Bool) → nat_lt a s.next.0 ≡ t → s.at.0 ≡ s.next.0 → (cell.absent ≡ true) ⊎ StandsAbove s log cell.key
+    each : (a : ℕ) (cell : Standing) → s.from.0 ≤ a → a < s.next.0 + 1 → log.cells a ≡ Some cell → (t : Bool) → nat_lt a s.next.0 ≡ t → s.at.0 ≡ s.next.0 → (cell.absent ≡ true) ⊎ StandsAbove s.shape.bucket_bits s.to.0 log cell.key
     each a cell from low stands true t level = let less : a < s.next.0 = grind (arith, nat_tests, t) in its.swept a cell from (omega (arith, less, level)) stands
     each a cell from low stands false t level =
         let more : s.next.0 ≤ a = grind (arith, nat_tests, t) in
@@ -177,7 +177,7 @@ wanted_sound begin end s log key its = gone_sound begin end (record s { wanted =
 knows_on : (begin end : ℕ) (s : Sweeper) (log : SweptLog) (head : Addr) (step : Sweeping) → Knows begin end s log → Knows begin end (record s { head = head; step = step }) log
 knows_on begin end s log head step its = record { its_end = its.its_end; low = its.low; swept = its.swept; within = its.within; near = its.near; level = its.level }
 
-reached_sound : (begin end : ℕ) (s : Sweeper) (log : SweptLog) (key : Key) (addr : ℕ) → Knows begin end s log → IsMet s log key → (s.to.0 ≤ addr → IsInChain s log key addr) → IsSound begin end (reached s key addr) log
+reached_sound : (begin end : ℕ) (s : Sweeper) (log : SweptLog) (key : Key) (addr : ℕ) → Knows begin end s log → IsMet s log key → (s.to.0 ≤ addr → IsInChain s.shape.bucket_bits log key addr) → IsSound begin end (reached s key addr) log
 reached_sound begin end s log key addr its met leads = cases (nat_lt addr s.to.0) (nat_lt addr s.head.0) refl refl
   where
     probed : (step : Sweeping) → s.to.0 ≤ addr → IsProbed (record s { step = step }) log key addr
@@ -195,7 +195,7 @@ reached_sound begin end s log key addr its met leads = cases (nat_lt addr s.to.0
         let high : s.head.0 ≤ addr = grind (arith, nat_tests, d) in
         record { knows = knows_on begin end s log s.head (LoadsKey key (record { 0 = addr })) its; probes = (probed (LoadsKey key (record { 0 = addr })) above, high) }
 
-led_sound : (begin end : ℕ) (s : Sweeper) (log : SweptLog) (key : Key) (addr : Addr) (previous : ℕ) → Knows begin end s log → IsMet s log key → (s.to.0 ≤ previous → IsInChain s log key previous)
+led_sound : (begin end : ℕ) (s : Sweeper) (log : SweptLog) (key : Key) (addr : Addr) (previous : ℕ) → Knows begin end s log → IsMet s log key → (s.to.0 ≤ previous → IsInChain s.shape.bucket_bits log key previous)
     → IsSound begin end (led_down s key addr previous) log
 led_sound begin end s log key addr previous its met leads = cases (nat_lt previous addr.0)
   where
@@ -205,7 +205,7 @@ led_sound begin end s log key addr previous its met leads = cases (nat_lt previo
 
 -- a record of the key lets the one that is met pass
 may_pass : (s : Sweeper) (log : SweptLog) (key : Key) (addr : ℕ) → IsProbed s log key addr → HasKeyAt log key addr → MayPass s log
-may_pass s log key addr its has = λ cell stands. inr (subst (StandsAbove s log) (sym (its.met.its_key cell stands)) (record { addr = addr; above = its.above; in_chain = its.in_chain; its_key = has }))
+may_pass s log key addr its has = λ cell stands. inr (subst (StandsAbove s.shape.bucket_bits s.to.0 log) (sym (its.met.its_key cell stands)) (record { addr = addr; above = its.above; in_chain = its.in_chain; its_key = has }))
 
 key_sound : (begin end : ℕ) (s : Sweeper) (log : SweptLog) (key : Key) (addr : Addr) (word : ℕ) → Knows begin end s log → IsProbed s log key addr.0 → s.head.0 ≤ addr.0 → (word ≡ key.0 → HasKeyAt log key addr.0)
     → IsSound begin end (key_met s key addr word) log
@@ -227,7 +227,7 @@ chain_sound begin end s log key addr words its probed shown = cases (words.key.0
     cases false e = led_sound begin end s log key addr (previous_in words.header) its probed.met shown.leads
 
 found_sound : (begin end : ℕ) (s : Sweeper) (log : SweptLog) (key : Key) (found : Found) → Knows begin end s log → IsMet s log key
-    → ((place entry : ℕ) → found ≡ Slot place entry → s.to.0 ≤ entry_addr entry → IsInChain s log key (entry_addr entry)) → IsSound begin end (slot_found s key found) log
+    → ((place entry : ℕ) → found ≡ Slot place entry → s.to.0 ≤ entry_addr entry → IsInChain s.shape.bucket_bits log key (entry_addr entry)) → IsSound begin end (slot_found s key found) log
 found_sound begin end s log key (Slot place word) its met shown = reached_sound begin end s log key (entry_addr word) its met (shown place word refl)
 found_sound begin end s log key NoSlot its met shown = wanted_sound begin end s log key its
 found_sound begin end s log key Full its met shown = wanted_sound begin end s log key its
@@ -235,17 +235,17 @@ found_sound begin end s log key Kept its met shown = wanted_sound begin end s lo
 found_sound begin end s log key Contended its met shown = wanted_sound begin end s log key its
 
 ledto_sound : (begin end : ℕ) (s : Sweeper) (log : SweptLog) (key : Key) (ask : Ask FindAnswer) → s.step ≡ Finds key → Knows begin end s log → IsMet s log key
-    → ((answer : FindAnswer) (place entry : ℕ) → ask ≡ Done answer → answer.found ≡ Slot place entry → s.to.0 ≤ entry_addr entry → IsInChain s log key (entry_addr entry)) → IsSound begin end (find_ledto s key ask) log
+    → ((answer : FindAnswer) (place entry : ℕ) → ask ≡ Done answer → answer.found ≡ Slot place entry → s.to.0 ≤ entry_addr entry → IsInChain s.shape.bucket_bits log key (entry_addr entry)) → IsSound begin end (find_ledto s key ask) log
 unfolding find_ledto
 ledto_sound begin end s log key (Done answer) step its met shown = found_sound begin end s log key answer.found its met (λ place entry. shown answer place entry refl)
-ledto_sound begin end s log key (Load place) step its met shown = record { knows = its; probes = rw step met }
-ledto_sound begin end s log key (Store place new) step its met shown = record { knows = its; probes = rw step met }
-ledto_sound begin end s log key (Swap place new) step its met shown = record { knows = its; probes = rw step met }
-ledto_sound begin end s log key (Cas place old new) step its met shown = record { knows = its; probes = rw step met }
-ledto_sound begin end s log key (Add place k) step its met shown = record { knows = its; probes = rw step met }
-ledto_sound begin end s log key (Max place k) step its met shown = record { knows = its; probes = rw step met }
-ledto_sound begin end s log key (Put slot action) step its met shown = record { knows = its; probes = rw step met }
-ledto_sound begin end s log key (Take slot) step its met shown = record { knows = its; probes = rw step met }
+ledto_sound begin end s log key (Load place) step its met shown = record { knows = its; probes = subst (Probes s log) (sym step) met }
+ledto_sound begin end s log key (Store place new) step its met shown = record { knows = its; probes = subst (Probes s log) (sym step) met }
+ledto_sound begin end s log key (Swap place new) step its met shown = record { knows = its; probes = subst (Probes s log) (sym step) met }
+ledto_sound begin end s log key (Cas place old new) step its met shown = record { knows = its; probes = subst (Probes s log) (sym step) met }
+ledto_sound begin end s log key (Add place k) step its met shown = record { knows = its; probes = subst (Probes s log) (sym step) met }
+ledto_sound begin end s log key (Max place k) step its met shown = record { knows = its; probes = subst (Probes s log) (sym step) met }
+ledto_sound begin end s log key (Put slot action) step its met shown = record { knows = its; probes = subst (Probes s log) (sym step) met }
+ledto_sound begin end s log key (Take slot) step its met shown = record { knows = its; probes = subst (Probes s log) (sym step) met }
 
 -- the search inside goes on
 finds_sound : (begin end : ℕ) (s : Sweeper) (log : SweptLog) (key : Key) (word : ℕ) → s.step ≡ Finds key → Knows begin end s log → IsMet s log key → ShowsEntry log s key word
@@ -260,7 +260,7 @@ meet_sound : (begin end : ℕ) (s : Sweeper) (log : SweptLog) (words : RecordWor
     → IsSound begin end (record_met s words) log
 meet_sound begin end s log words its below shown = cases (is_counted words) refl
   where
-    absent : (cell : Standing) (b : Bool) → cell.absent ≡ b → is_counted words ≡ false → log.cells s.next.0 ≡ Some cell → (cell.absent ≡ true) ⊎ StandsAbove s log cell.key
+    absent : (cell : Standing) (b : Bool) → cell.absent ≡ b → is_counted words ≡ false → log.cells s.next.0 ≡ Some cell → (cell.absent ≡ true) ⊎ StandsAbove s.shape.bucket_bits s.to.0 log cell.key
     absent cell true same e stands = inl same
     absent cell false same e stands = let yes = (shown cell stands).counts same in let never : ⊥ = cc in absurd never
 
@@ -275,22 +275,22 @@ meet_sound begin end s log words its below shown = cases (is_counted words) refl
 -- ---- event by event
 next_sound : (begin end : ℕ) (s : Sweeper) (log : SweptLog) (step : Sweeping) (word : ℕ) → s.step ≡ step → Knows begin end s log → Probes s log step → ShowsReply log s step word → IsSound begin end (sweeping_next s step word) log
 unfolding sweeping_next
-next_sound begin end s log AtRest word same its probes shown = record { knows = its; probes = rw same tt }
+next_sound begin end s log AtRest word same its probes shown = record { knows = its; probes = subst (Probes s log) (sym same) tt }
 next_sound begin end s log LoadsHead word same its probes shown = record { knows = knows_on begin end s log (record { 0 = word }) Meets its; probes = probes }
-next_sound begin end s log Meets word same its probes shown = record { knows = its; probes = rw same probes }
+next_sound begin end s log Meets word same its probes shown = record { knows = its; probes = subst (Probes s log) (sym same) probes }
 next_sound begin end s log (Finds key) word same its probes shown = finds_sound begin end s log key word same its probes shown
 next_sound begin end s log (LoadsKey key addr) word same its probes shown = key_sound begin end s log key addr word its probes.0 probes.1 (shown probes.1 probes.0.above probes.0.in_chain)
 next_sound begin end s log (LoadsHeader key addr) word same its probes shown = led_sound begin end s log key addr (previous_in word) its probes.0.met (shown probes.1 probes.0.above probes.0.in_chain)
-next_sound begin end s log (Reads key addr) word same its probes shown = record { knows = its; probes = rw same probes }
+next_sound begin end s log (Reads key addr) word same its probes shown = record { knows = its; probes = subst (Probes s log) (sym same) probes }
 
 read_sound : (begin end : ℕ) (s : Sweeper) (log : SweptLog) (step : Sweeping) (words : RecordWords) → s.step ≡ step → Knows begin end s log → Probes s log step → ShowsRead log s step words → IsSound begin end (sweeping_read s step words) log
 unfolding sweeping_read
-read_sound begin end s log AtRest words same its probes shown = record { knows = its; probes = rw same tt }
-read_sound begin end s log LoadsHead words same its probes shown = record { knows = its; probes = rw same probes }
+read_sound begin end s log AtRest words same its probes shown = record { knows = its; probes = subst (Probes s log) (sym same) tt }
+read_sound begin end s log LoadsHead words same its probes shown = record { knows = its; probes = subst (Probes s log) (sym same) probes }
 read_sound begin end s log Meets words same its probes shown = meet_sound begin end s log words its probes (shown probes)
-read_sound begin end s log (Finds key) words same its probes shown = record { knows = its; probes = rw same probes }
-read_sound begin end s log (LoadsKey key addr) words same its probes shown = record { knows = its; probes = rw same probes }
-read_sound begin end s log (LoadsHeader key addr) words same its probes shown = record { knows = its; probes = rw same probes }
+read_sound begin end s log (Finds key) words same its probes shown = record { knows = its; probes = subst (Probes s log) (sym same) probes }
+read_sound begin end s log (LoadsKey key addr) words same its probes shown = record { knows = its; probes = subst (Probes s log) (sym same) probes }
+read_sound begin end s log (LoadsHeader key addr) words same its probes shown = record { knows = its; probes = subst (Probes s log) (sym same) probes }
 read_sound begin end s log (Reads key addr) words same its probes shown = chain_sound begin end s log key addr words its probes.0 (shown probes.1 probes.0.above probes.0.in_chain)
 
 turn_sound : (begin end : ℕ) (s : Sweeper) (log : SweptLog) → Knows begin end s log → IsSound begin end (turn_begun s) log

@@ -3,6 +3,7 @@ ghost use Rattle.std.specs.Prelude.{◌≡◌, ◌+◌, ◌-◌, ◌<◌, ◌≤
 ghost use Rattle.fkv_disk.specs.Asks.{asked_call, kinds_by, count_by};
 ghost use Rattle.fkv_disk.specs.Bytes.{bytes_at};
 ghost use Rattle.fkv_disk.specs.Device.{LeavesNoMore, Elapses, HasCause, MakesCalls};
+ghost use Rattle.fkv_sweep.specs.AsksLeft.{GoesOnWhereLeft, sweep_asks_left, most_sweep_asks};
 ghost use Rattle.fkv_sweep.specs.Sweeping.{IsUnderWay, sweep_begun, turn_begun, gone_on, record_passed, key_wanted, reached, led_down, slot_found, find_ledto, key_met, chain_met, record_met, sweep_ask, sweep_next, sweep_read, sweep_failed, read_addr, read_asked, read_place, sweeping_read};
 
 use crate::record_words::{RECORD_BYTES, RecordWords, is_counted, previous_in, words_in};
@@ -95,9 +96,12 @@ impl Sweep {
     }
 
     /// The first ask of a turn. The keys that were wanted are forgotten.
+    #[tactic(auto, using(crate::proofs::AsksLeft::sweep_asked))]
     pub fn start(&mut self) -> Ask<SweepAnswer>
         ensures next { self.new ≡ turn_begun self.old }
         ensures ask { result ≡ sweep_ask self.new }
+        ensures left { GoesOnWhereLeft (sweep_asks_left self.new) result }
+        ensures bounded { sweep_asks_left self.new ≤ most_sweep_asks self.old.places }
     {
         self.step = Sweeping::AtRest;
         self.next = self.at;
@@ -114,6 +118,8 @@ impl Sweep {
     pub fn drive(&mut self, reply: u64) -> Ask<SweepAnswer>
         ensures next { self.new ≡ sweep_next self.old reply }
         ensures ask { result ≡ sweep_ask self.new }
+        ensures left { GoesOnWhereLeft (sweep_asks_left self.new) result }
+        ensures fewer { 0 < sweep_asks_left self.old → count_by (read_asked self.old) ≡ 0 → sweep_asks_left self.new < sweep_asks_left self.old }
     {
         match self.step {
             Sweeping::AtRest | Sweeping::Meets | Sweeping::Reads(_, _) => {}
@@ -133,12 +139,14 @@ impl Sweep {
 
     /// Makes the one call of the device that it needs, a read of a record's bytes, and goes on. Where it needs none it makes none,
     /// and stays where it is. `Fault::Device` where the device failed: the machine is at rest then.
-    #[tactic(auto, unfolding(crate::specs::Sweeping::sweeping_read))]
+    #[tactic(auto, unfolding(crate::specs::Sweeping::sweeping_read, crate::specs::AsksLeft::sweeping_asks_left))]
     pub fn device_step<D: Device>(&mut self, d: &mut D) -> Result<Ask<SweepAnswer>, Fault>
         ensures next { OnOk result ((bytes : List ℕ) × (self.new ≡ sweep_read self.old bytes)) }
         ensures read { D.honest d.old → OnOk result (self.new ≡ sweep_read self.old (bytes_at (D.seen d.old) (read_place self.old) 24)) }
         ensures ask { IfOk result (λ ask. ask ≡ sweep_ask self.new) }
         ensures failed { OnErr result (self.new ≡ sweep_failed self.old) }
+        ensures left { IfOk result (λ ask. GoesOnWhereLeft (sweep_asks_left self.new) ask) }
+        ensures fewer { sweep_asks_left self.new ≤ sweep_asks_left self.old - count_by (read_asked self.old) }
         ensures cause { HasCause (D.failed d.old) (D.failed d.new) result }
         ensures counted { MakesCalls (count_by (read_asked self.old)) (D.refuses d.old) (D.refuses d.new) result }
         ensures kind { D.expects d.new ≡ kinds_by (read_asked self.old) (is_ok result) (D.expects d.old) }
@@ -164,10 +172,7 @@ impl Sweep {
         ensures { asked_call result ≡ read_asked self.now }
     {
         let addr = self.read_addr()?;
-        Some(DeviceAsk::Read(
-            record_place(self.shape, addr),
-            RECORD_BYTES,
-        ))
+        Some(DeviceAsk::Read(record_place(self.shape, addr), RECORD_BYTES))
     }
 
     /// What it asks now.
@@ -342,7 +347,9 @@ impl Sweep {
         requires some { 0 < self.old.left }
         ensures { self.new ≡ gone_on self.old }
     {
-        let goes_on = self.next.0 + 1 < self.to.0 && self.left > 1 && self.wanted.len() < MOST_WANTED;
+        let goes_on = self.next.0 + 1 < self.to.0
+            && self.left > 1
+            && self.wanted.len() < MOST_WANTED;
         self.step = Sweeping::AtRest;
         self.next = Addr(self.next.0 + 1);
         self.left -= 1;

@@ -26,6 +26,7 @@ const RECORDS: [(u64, u64, u64); 5] = [
 
 /// Entries of two tags that lead to addresses 5 and 6.
 const FIRST_ENTRY: u64 = FIRST + 5;
+
 const FOURTH_ENTRY: u64 = 4 * FIRST + 6;
 
 /// More steps than a turn has here.
@@ -76,7 +77,7 @@ fn wanted_keys_are_probed_again(rt: HostRuntime) -> Result<(), Fail> {
     let mut sweep = Sweep::new(shape, places, Addr(1), Addr(5));
     turn(&mut sweep, &mut plane, &mut disk)?;
     assert_eq!(rt; sweep.at(), Addr(4));
-    assert!(rt; sweep.wanted() == [Key(4)]);
+    assert!(rt; sweep.wanted() == [Key(4)].as_slice());
     store(&mut plane, places.bucket(0, 1), FOURTH_ENTRY);
     store(&mut plane, places.record(Addr(6), RecordWord::Key), 4);
     turn(&mut sweep, &mut plane, &mut disk)?;
