@@ -19,9 +19,11 @@ use Rattle.fkv_index.specs.Finding.{first_finding, find_next, find_next_ask}
 use Rattle.fkv_sweep.specs.declared.record_words.RecordWords.{RecordWords}
 use Rattle.fkv_sweep.specs.declared.sweeping.Sweeping.{Sweeping}
 use Rattle.fkv_sweep.specs.declared.sweeping.Sweeping.TheVariants.{AtRest, LoadsHead, Meets, Finds, LoadsKey, LoadsHeader, Reads}
-use Rattle.fkv_sweep.specs.Sweeping.{Sweeper, most_records, most_wanted, previous_in, is_counted, words_in, sweep_begun, turn_begun, gone_on, record_passed, key_wanted, reached, led_down, slot_found, find_ledto, key_met, chain_met, record_met, sweeping_next, sweeping_read, sweeping_addr}
+use Rattle.fkv_sweep.specs.Sweeping.{sweeping_ask, Sweeper, most_records, most_wanted, previous_in, is_counted, words_in, sweep_begun, turn_begun, gone_on, record_passed, key_wanted, reached, led_down, slot_found, find_ledto, key_met, chain_met, record_met, sweeping_next, sweeping_read, sweeping_addr}
 use Rattle.fkv_sweep.specs.SweptLogs.{Standing, SweptLog, IsInChain, HasKeyAt, StandsAbove, Swept, Grows, ShowsEntry, ShowsReply, ShowsCell, ShowsChained, ShowsRead}
-use Rattle.fkv_sweep.specs.Swept.{SweepEvent, TurnBegins, IsReplied, IsRead, ReadFails, SweepMoment, sweep_happens, sweep_run, ShowsEvent, HasGrown, AreShown, AllSwept, ReadsAbove}
+use Rattle.fkv_index.proofs.Shown.{IsReading}
+use Rattle.fkv_sweep.proofs.Searches.{find_reads, first_reads, rested_reads, find_loads}
+use Rattle.fkv_sweep.specs.Swept.{IsLoadOrEnd, LoadsAlone, SweepEvent, TurnBegins, IsReplied, IsRead, ReadFails, SweepMoment, sweep_happens, sweep_run, ShowsEvent, HasGrown, AreShown, AllSwept, ReadsAbove}
 
 -- it has swept what it has passed, and while no key is wanted it has passed all before the record that it meets
 pub record Knows (begin end : ℕ) (s : Sweeper) (log : SweptLog) : Type 0 where
@@ -31,6 +33,7 @@ pub record Knows (begin end : ℕ) (s : Sweeper) (log : SweptLog) : Type 0 where
   pub within : (a : ℕ) → s.from.0 ≤ a → a < s.at.0 → a < s.to.0
   pub near : s.at.0 ≤ s.next.0
   pub level : length s.wanted ≡ 0 → s.at.0 ≡ s.next.0
+  pub reads : IsReading s.finding
 
 -- the record that is met has this key, if one stands there
 pub record IsMet (s : Sweeper) (log : SweptLog) (key : Key) : Type 0 where
@@ -92,6 +95,7 @@ knows_grown begin end s before after grows its = record {
   within = its.within;
   near = its.near;
   level = its.level;
+  reads = its.reads;
 }
 
 sound_grown : (begin end : ℕ) (s : Sweeper) (before after : SweptLog) → Grows end before after → IsSound begin end s before → IsSound begin end s after
@@ -108,6 +112,7 @@ record IsDone (begin end : ℕ) (s : Sweeper) (log : SweptLog) : Type 0 where
   pub within : (a : ℕ) → s.from.0 ≤ a → a < s.at.0 → a < s.to.0
   pub near : s.at.0 ≤ s.next.0 + 1
   pub level : length s.wanted ≡ 0 → s.at.0 ≡ s.next.0 + 1
+  pub reads : IsReading s.finding
 
 first_true : (a b c : Bool) → (a && b && c) ≡ true → a ≡ true
 first_true true b c e = refl
@@ -121,8 +126,8 @@ gone_sound begin end s log its = cases (nat_lt (s.next.0 + 1) s.to.0 && nat_lt 1
     cases true e =
         let t = first_true (nat_lt (s.next.0 + 1) s.to.0) (nat_lt 1 s.left) (nat_lt (length s.wanted) most_wanted) e in
         let less : s.next.0 + 1 < s.to.0 = grind (arith, nat_tests, t) in
-        record { knows = record { its_end = its.its_end; low = its.low; swept = its.swept; within = its.within; near = its.near; level = its.level }; probes = less }
-    cases false e = record { knows = record { its_end = its.its_end; low = its.low; swept = its.swept; within = its.within; near = its.near; level = its.level }; probes = tt }
+        record { knows = record { its_end = its.its_end; low = its.low; swept = its.swept; within = its.within; near = its.near; level = its.level; reads = its.reads }; probes = less }
+    cases false e = record { knows = record { its_end = its.its_end; low = its.low; swept = its.swept; within = its.within; near = its.near; level = its.level; reads = its.reads }; probes = tt }
 
 -- the record that is met may be passed
 abbrev MayPass : Sweeper → SweptLog → Type 0
@@ -140,6 +145,7 @@ passed_done begin end s log true e its below here =
       within = λ a from low. omega (arith, low, below);
       near = omega arith;
       level = λ empty. refl;
+      reads = its.reads;
     }
   where
     each : (a : ℕ) (cell : Standing) → s.from.0 ≤ a → a < s.next.0 + 1 → log.cells a ≡ Some cell → (t : Bool) → nat_lt a s.next.0 ≡ t → s.at.0 ≡ s.next.0 → (cell.absent ≡ true) ⊎ StandsAbove s.shape.bucket_bits s.to.0 log cell.key
@@ -155,6 +161,7 @@ passed_done begin end s log false e its below here = record {
   within = its.within;
   near = let near = its.near in omega (arith, near);
   level = λ none. absurd (some none);
+  reads = its.reads;
 }
   where
     some : length s.wanted ≡ 0 → ⊥
@@ -171,11 +178,12 @@ wanted_sound begin end s log key its = gone_sound begin end (record s { wanted =
   within = its.within;
   near = let near = its.near in omega (arith, near);
   level = λ none. let more = length-append s.wanted (key ∷ []) in absurd (omega (arith, more, none));
+  reads = its.reads;
 })
 
 -- ---- the probe
 knows_on : (begin end : ℕ) (s : Sweeper) (log : SweptLog) (head : Addr) (step : Sweeping) → Knows begin end s log → Knows begin end (record s { head = head; step = step }) log
-knows_on begin end s log head step its = record { its_end = its.its_end; low = its.low; swept = its.swept; within = its.within; near = its.near; level = its.level }
+knows_on begin end s log head step its = record { its_end = its.its_end; low = its.low; swept = its.swept; within = its.within; near = its.near; level = its.level; reads = its.reads }
 
 reached_sound : (begin end : ℕ) (s : Sweeper) (log : SweptLog) (key : Key) (addr : ℕ) → Knows begin end s log → IsMet s log key → (s.to.0 ≤ addr → IsInChain s.shape.bucket_bits log key addr) → IsSound begin end (reached s key addr) log
 reached_sound begin end s log key addr its met leads = cases (nat_lt addr s.to.0) (nat_lt addr s.head.0) refl refl
@@ -252,7 +260,7 @@ finds_sound : (begin end : ℕ) (s : Sweeper) (log : SweptLog) (key : Key) (word
     → IsSound begin end (find_ledto (record s { finding = find_next s.places s.finding word }) key (find_next_ask s.places s.finding word)) log
 finds_sound begin end s log key word step its met shown =
     ledto_sound begin end (record s { finding = find_next s.places s.finding word }) log key (find_next_ask s.places s.finding word) step
-    (record { its_end = its.its_end; low = its.low; swept = its.swept; within = its.within; near = its.near; level = its.level })
+    (record { its_end = its.its_end; low = its.low; swept = its.swept; within = its.within; near = its.near; level = its.level; reads = find_reads s.places s.finding word its.reads })
     (record { below = met.below; its_key = met.its_key }) shown
 
 -- the record that is met has no value, or its key is probed
@@ -267,7 +275,7 @@ meet_sound begin end s log words its below shown = cases (is_counted words) refl
     cases : (b : Bool) → is_counted words ≡ b
         → IsSound begin end (if b then record s { finding = first_finding s.places (home_of s.shape.bucket_bits words.key) Read 0; step = Finds words.key } else record_passed s) log
     cases true e = record {
-      knows = record { its_end = its.its_end; low = its.low; swept = its.swept; within = its.within; near = its.near; level = its.level };
+      knows = record { its_end = its.its_end; low = its.low; swept = its.swept; within = its.within; near = its.near; level = its.level; reads = first_reads s.places (home_of s.shape.bucket_bits words.key) };
       probes = record { below = below; its_key = λ cell stands. let same = (shown cell stands).its_key in sym same };
     }
     cases false e = passed_sound begin end s log its below (λ cell stands. absent cell cell.absent refl e stands)
@@ -299,8 +307,8 @@ turn_sound begin end s log its = cases (nat_lt s.at.0 s.to.0) refl
     cases : (b : Bool) → nat_lt s.at.0 s.to.0 ≡ b → IsSound begin end (record s { next = s.at; left = most_records; wanted = []; step = if b then LoadsHead else AtRest }) log
     cases true e =
         let less : s.at.0 < s.to.0 = grind (arith, nat_tests, e) in
-        record { knows = record { its_end = its.its_end; low = its.low; swept = its.swept; within = its.within; near = omega arith; level = λ none. refl }; probes = less }
-    cases false e = record { knows = record { its_end = its.its_end; low = its.low; swept = its.swept; within = its.within; near = omega arith; level = λ none. refl }; probes = tt }
+        record { knows = record { its_end = its.its_end; low = its.low; swept = its.swept; within = its.within; near = omega arith; level = λ none. refl; reads = its.reads }; probes = less }
+    cases false e = record { knows = record { its_end = its.its_end; low = its.low; swept = its.swept; within = its.within; near = omega arith; level = λ none. refl; reads = its.reads }; probes = tt }
 
 event_sound : (begin end : ℕ) (s : Sweeper) (log : SweptLog) (event : SweepEvent) → IsSound begin end s log → ShowsEvent log s event → IsSound begin end (sweep_happens s event) log
 event_sound begin end s log TurnBegins its shown = turn_sound begin end s log its.knows
@@ -318,6 +326,7 @@ begun_sound shape p from to log = record {
     within = λ a low high. absurd (omega (arith, low, high));
     near = omega arith;
     level = λ none. refl;
+    reads = rested_reads;
   };
   probes = tt;
 }
@@ -359,3 +368,19 @@ reads_above shape p from to moments log addr shown grown e =
     let s = sweep_run (sweep_begun shape p from to) moments in
     let sound = run_sound shape p from to moments log shown grown in
     step_above from.0 to.0 s log s.step addr sound.knows sound.probes e
+
+-- what is asked
+step_loads : (s : Sweeper) (step : Sweeping) → IsReading s.finding → IsLoadOrEnd (sweeping_ask s step)
+unfolding sweeping_ask
+step_loads s AtRest its = tt
+step_loads s LoadsHead its = tt
+step_loads s Meets its = tt
+step_loads s (Finds key) its = find_loads s.finding its
+step_loads s (LoadsKey key addr) its = tt
+step_loads s (LoadsHeader key addr) its = tt
+step_loads s (Reads key addr) its = tt
+
+pub loads_alone : LoadsAlone
+loads_alone shape p from to moments log shown grown =
+    let s = sweep_run (sweep_begun shape p from to) moments in
+    step_loads s s.step (run_sound shape p from to moments log shown grown).knows.reads

@@ -2,8 +2,11 @@
 use Rattle.std.specs.Prelude.{◌≡◌, ℕ, ◌≤◌, ⊤, List, [], ◌∷◌, Some}
 use Rattle.fkv_base.specs.declared.numbers.Addr.{Addr}
 use Rattle.fkv_base.specs.declared.shapes.Shape.{Shape}
+use Rattle.fkv_plane.specs.declared.asks.Ask.{Ask}
+use Rattle.fkv_plane.specs.declared.asks.Ask.TheVariants.{Load, Done}
 use Rattle.fkv_plane.specs.declared.places.Places.{Places}
-use Rattle.fkv_sweep.specs.Sweeping.{Sweeper, words_in, sweep_begun, turn_begun, sweep_next, sweep_read, sweep_failed, read_addr}
+use Rattle.fkv_sweep.specs.declared.sweeping.SweepAnswer.{SweepAnswer}
+use Rattle.fkv_sweep.specs.Sweeping.{Sweeper, words_in, sweep_begun, turn_begun, sweep_ask, sweep_next, sweep_read, sweep_failed, read_addr}
 use Rattle.fkv_sweep.specs.SweptLogs.{SweptLog, Swept, Grows, ShowsReply, ShowsRead}
 
 -- What may happen next to a sweep.
@@ -56,3 +59,13 @@ AllSwept = (shape : Shape) (p : Places) (from to : Addr) (moments : List SweepMo
 abbrev pub ReadsAbove : Type 0
 ReadsAbove = (shape : Shape) (p : Places) (from to : Addr) (moments : List SweepMoment) (log : SweptLog) (addr : Addr)
     → AreShown (sweep_begun shape p from to) moments → HasGrown to.0 moments log → read_addr (sweep_run (sweep_begun shape p from to) moments) ≡ Some addr → from.0 ≤ addr.0
+
+-- It asks for no change of a word.
+abbrev pub IsLoadOrEnd : Ask SweepAnswer → Type 0
+IsLoadOrEnd (Load place) = ⊤
+IsLoadOrEnd (Done answer) = ⊤
+IsLoadOrEnd ask = ⊥
+
+abbrev pub LoadsAlone : Type 0
+LoadsAlone = (shape : Shape) (p : Places) (from to : Addr) (moments : List SweepMoment) (log : SweptLog)
+    → AreShown (sweep_begun shape p from to) moments → HasGrown to.0 moments log → IsLoadOrEnd (sweep_ask (sweep_run (sweep_begun shape p from to) moments))
