@@ -1,11 +1,10 @@
 -- A turn has fewer asks left after each reply and each read.
 use Rattle.std.proofs.Common.{◌≡◌, ℕ, zero, suc, ◌+◌, ◌-◌, ◌*◌, ◌^◌, ◌<◌, ◌≤◌, [], ◌∷◌, ◌++◌, length, refl, sym, subst, arith, Bool, true, false}
-use Rattle.std.specs.Prelude.{◌==◌, ◌&&◌, nat_lt, if◌then◌else◌, Option, None}
+use Rattle.std.specs.Prelude.{List, Some, ◌==◌, ◌&&◌, nat_lt, if◌then◌else◌, None}
 use Rattle.std.proofs.Math.Nat.{suc-mul}
 use Rattle.std.proofs.lemmas.Bool.Decides.{nat_tests}
 use Rattle.fkv_base.specs.declared.numbers.Addr.{Addr}
 use Rattle.fkv_base.specs.declared.numbers.Key.{Key}
-use Rattle.fkv_disk.specs.Asks.{count_by}
 use Rattle.fkv_plane.specs.declared.asks.Ask.{Ask}
 use Rattle.fkv_plane.specs.declared.asks.Ask.TheVariants.{Load, Store, Swap, Cas, Add, Max, Put, Take, Done}
 use Rattle.fkv_plane.specs.AsksLeft.{sum_left}
@@ -24,8 +23,8 @@ use Rattle.fkv_sweep.specs.declared.sweeping.SweepAnswer.{SweepAnswer}
 use Rattle.fkv_sweep.specs.declared.sweeping.SweepAnswer.TheVariants as answer
 use Rattle.fkv_sweep.specs.declared.sweeping.Sweeping.{Sweeping}
 use Rattle.fkv_sweep.specs.declared.sweeping.Sweeping.TheVariants.{AtRest, LoadsHead, Meets, Finds, LoadsKey, LoadsHeader, Reads}
-use Rattle.fkv_sweep.specs.Sweeping.{Sweeper, most_wanted, previous_in, is_counted, turn_begun, gone_on, record_passed, key_wanted, reached, led_down, slot_found, find_ledto, key_met, chain_met, record_met, sweeping_ask, sweep_ask, sweeping_next, sweep_next, sweeping_read, sweeping_addr, read_addr, read_asked, read_of}
-use Rattle.fkv_sweep.specs.AsksLeft.{GoesOnWhereLeft, chain_asks, record_asks, asks_behind, sweeping_asks_left, sweep_asks_left, most_sweep_asks}
+use Rattle.fkv_sweep.specs.Sweeping.{Sweeper, most_wanted, previous_in, is_counted, turn_begun, gone_on, record_passed, key_wanted, reached, led_down, slot_found, find_ledto, key_met, chain_met, record_met, sweeping_ask, sweep_ask, sweeping_next, sweep_next, sweeping_read, sweeping_addr, piece_read, holds, words_held, words_at, sweeping_held, gone_by, sweep_read}
+use Rattle.fkv_sweep.specs.AsksLeft.{steps_asked, GoesOnWhereLeft, chain_asks, record_asks, asks_behind, sweeping_asks_left, sweep_asks_left, most_sweep_asks}
 
 second_true : (a b c : Bool) → (a && b && c) ≡ true → b ≡ true
 second_true true true c e = refl
@@ -126,8 +125,8 @@ ledto_left s key old (Max place k) same some fewer = subst (λ x. sweeping_asks_
 ledto_left s key old (Put slot action) same some fewer = subst (λ x. sweeping_asks_left s x < sum_left old (chain_asks + asks_behind s)) (sym same) (inside_fewer (asks_left s.finding) old (chain_asks + asks_behind s) fewer)
 ledto_left s key old (Take slot) same some fewer = subst (λ x. sweeping_asks_left s x < sum_left old (chain_asks + asks_behind s)) (sym same) (inside_fewer (asks_left s.finding) old (chain_asks + asks_behind s) fewer)
 
-next_left : (s : Sweeper) (step : Sweeping) (word : ℕ) → s.step ≡ step → 0 < sweeping_asks_left s step → count_by (read_of s.shape (sweeping_addr s step)) ≡ 0 → sweep_asks_left (sweeping_next s step word) < sweeping_asks_left s step
-unfolding sweeping_asks_left sweeping_next sweeping_addr
+next_left : (s : Sweeper) (step : Sweeping) (word : ℕ) → s.step ≡ step → 0 < sweeping_asks_left s step → steps_asked (sweeping_ask s step) ≡ 0 → sweep_asks_left (sweeping_next s step word) < sweeping_asks_left s step
+unfolding sweeping_asks_left sweeping_next sweeping_ask
 next_left s AtRest word same some none = absurd (omega (arith, some))
 next_left s LoadsHead word same some none = omega arith
 next_left s Meets word same some none = absurd (omega (arith, none))
@@ -138,27 +137,41 @@ next_left s (LoadsKey key addr) word same some none = let few = key_left s key a
 next_left s (LoadsHeader key addr) word same some none = let few = led_left s key addr (previous_in word) in omega (arith, few)
 next_left s (Reads key addr) word same some none = absurd (omega (arith, none))
 
-pub sweep_fewer : (s : Sweeper) (word : ℕ) → 0 < sweep_asks_left s → count_by (read_asked s) ≡ 0 → sweep_asks_left (sweep_next s word) < sweep_asks_left s
+pub sweep_fewer : (s : Sweeper) (word : ℕ) → 0 < sweep_asks_left s → steps_asked (sweep_ask s) ≡ 0 → sweep_asks_left (sweep_next s word) < sweep_asks_left s
 sweep_fewer s word some none = next_left s s.step word refl some none
 
 stays_left : (s : Sweeper) (step : Sweeping) → s.step ≡ step → sweep_asks_left s ≤ sweeping_asks_left s step - 0
 stays_left s step same = subst (λ x. sweeping_asks_left s x ≤ sweeping_asks_left s step - 0) (sym same) (omega arith)
 
-read_left : (s : Sweeper) (step : Sweeping) (words : RecordWords) → s.step ≡ step → sweep_asks_left (sweeping_read s step words) ≤ sweeping_asks_left s step - count_by (read_of s.shape (sweeping_addr s step))
-unfolding sweeping_asks_left sweeping_read sweeping_addr
-read_left s AtRest words same = stays_left s AtRest same
-read_left s LoadsHead words same = stays_left s LoadsHead same
-read_left s Meets words same = let few = meet_left s words in omega (arith, few)
-read_left s (Finds key) words same = stays_left s (Finds key) same
-read_left s (LoadsKey key addr) words same = stays_left s (LoadsKey key addr) same
-read_left s (LoadsHeader key addr) words same = stays_left s (LoadsHeader key addr) same
-read_left s (Reads key addr) words same = let few = chain_left s key addr words in omega (arith, few)
+-- a search is no step by the device
+through_none : (ask : Ask FindAnswer) → steps_asked (passed ask answer.Through) ≡ 0
+unfolding passed
+through_none (Done its) = refl
+through_none (Load place) = refl
+through_none (Store place new) = refl
+through_none (Swap place new) = refl
+through_none (Cas place old new) = refl
+through_none (Add place k) = refl
+through_none (Max place k) = refl
+through_none (Put slot action) = refl
+through_none (Take slot) = refl
 
-pub read_fewer : (s : Sweeper) (words : RecordWords) → sweep_asks_left (sweeping_read s s.step words) ≤ sweep_asks_left s - count_by (read_asked s)
-read_fewer s words = read_left s s.step words refl
+read_left : (s : Sweeper) (step : Sweeping) (bytes : List ℕ) → s.step ≡ step → sweep_asks_left (gone_by (sweeping_addr s step) s step bytes) ≤ sweeping_asks_left s step - steps_asked (sweeping_ask s step)
+unfolding sweeping_asks_left sweeping_read sweeping_held sweeping_addr sweeping_ask
+read_left s AtRest bytes same = stays_left s AtRest same
+read_left s LoadsHead bytes same = stays_left s LoadsHead same
+read_left s Meets bytes same = cases (holds s.piece s.next)
+  where
+    cases : (b : Bool) → sweep_asks_left (gone_by (if b then None else Some s.next) s Meets bytes) ≤ record_asks s.places + asks_behind s - 1
+    cases true = let few = meet_left s (words_held s.piece s.next) in omega (arith, few)
+    cases false = let few = meet_left (record s { piece = piece_read s.next bytes }) (words_held (piece_read s.next bytes) s.next) in omega (arith, few)
+read_left s (Finds key) bytes same = rw (through_none (find_ask s.finding)) (stays_left s (Finds key) same)
+read_left s (LoadsKey key addr) bytes same = stays_left s (LoadsKey key addr) same
+read_left s (LoadsHeader key addr) bytes same = stays_left s (LoadsHeader key addr) same
+read_left s (Reads key addr) bytes same = let few = chain_left s key addr (words_at bytes 0) in omega (arith, few)
 
-pub rest_fewer : (s : Sweeper) → None ≡ read_addr s → sweep_asks_left s ≤ sweep_asks_left s - count_by (read_asked s)
-rest_fewer s e = subst (λ (a : Option Addr). sweep_asks_left s ≤ sweep_asks_left s - count_by (read_of s.shape a)) e (omega arith)
+pub read_fewer : (s : Sweeper) (bytes : List ℕ) → sweep_asks_left (sweep_read s bytes) ≤ sweep_asks_left s - steps_asked (sweep_ask s)
+read_fewer s bytes = read_left s s.step bytes refl
 
 -- ---- it asks just where it has asks left
 through_left : (left behind : ℕ) (ask : Ask FindAnswer) → IsCounted left ask → GoesOnWhereLeft (sum_left left behind) (passed ask answer.Through)

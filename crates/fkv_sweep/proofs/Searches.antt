@@ -1,6 +1,6 @@
 -- A search for a read loads words, whatever it is replied.
-use Rattle.std.proofs.Common.{◌≡◌, ℕ, ◌+◌, ◌-◌, refl, Bool, true, false}
-use Rattle.std.specs.Prelude.{◌==◌, ◌&&◌, nat_lt, nat_le, if◌then◌else◌, ⊤}
+use Rattle.std.proofs.Common.{◌≡◌, ℕ, ◌+◌, refl, Bool, true, false}
+use Rattle.std.specs.Prelude.{◌==◌, ◌&&◌, nat_lt, nat_le, if◌then◌else◌}
 use Rattle.fkv_plane.specs.declared.places.Places.{Places}
 use Rattle.fkv_plane.specs.Passing.{passed}
 use Rattle.fkv_index.specs.declared.slot_words.SlotWord.{SlotWord}
@@ -13,7 +13,7 @@ use Rattle.fkv_index.specs.declared.finding.FindStep.{FindStep}
 use Rattle.fkv_index.specs.declared.finding.FindStep.TheVariants.{AtRest, LoadsSlot, LoadsLink, LoadsTaken, TakesBucket, LinksBucket}
 use Rattle.fkv_index.specs.declared.finding.Finding.{Finding}
 use Rattle.fkv_index.specs.Slots.{slot_word, link_of}
-use Rattle.fkv_index.specs.Finding.{rested, first_finding, find_step_ask, find_ask, find_led, slot_led, slot_after, entered, ended_list, link_led, led_to, find_next}
+use Rattle.fkv_index.specs.Finding.{rested, first_finding, find_step_ask, find_ask, find_led, slot_led, entered, ended_list, link_led, led_to, find_next}
 use Rattle.fkv_index.proofs.Shown.{IsReading}
 use Rattle.fkv_sweep.specs.declared.sweeping.SweepAnswer.TheVariants as answer
 use Rattle.fkv_sweep.specs.Swept.{IsLoadOrEnd}

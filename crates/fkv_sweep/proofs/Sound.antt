@@ -1,7 +1,7 @@
 -- What a sweep has at each moment, and that each event keeps it.
 use Rattle.std.proofs.Common.{◌≡◌, ℕ, ◌+◌, ◌-◌, ◌<◌, ◌≤◌, ◌⊎◌, List, [], ◌∷◌, ◌++◌, length, refl, sym, subst, inl, inr, arith, Bool, true, false, eqb-true}
 use Rattle.std.proofs.lemmas.Bool.{eqb-false}
-use Rattle.std.specs.Prelude.{◌==◌, ◌&&◌, nat_lt, if◌then◌else◌, ⊤, Some}
+use Rattle.std.specs.Prelude.{◌==◌, ◌&&◌, nat_lt, if◌then◌else◌, ⊤, Some, None, nat_le}
 use Rattle.std.proofs.lemmas.Bool.Decides.{nat_tests}
 use Rattle.std.proofs.lemmas.List.{length-append}
 use Rattle.fkv_base.specs.declared.numbers.Addr.{Addr}
@@ -19,11 +19,12 @@ use Rattle.fkv_index.specs.Finding.{first_finding, find_next, find_next_ask}
 use Rattle.fkv_sweep.specs.declared.record_words.RecordWords.{RecordWords}
 use Rattle.fkv_sweep.specs.declared.sweeping.Sweeping.{Sweeping}
 use Rattle.fkv_sweep.specs.declared.sweeping.Sweeping.TheVariants.{AtRest, LoadsHead, Meets, Finds, LoadsKey, LoadsHeader, Reads}
-use Rattle.fkv_sweep.specs.Sweeping.{sweeping_ask, Sweeper, most_records, most_wanted, previous_in, is_counted, words_in, sweep_begun, turn_begun, gone_on, record_passed, key_wanted, reached, led_down, slot_found, find_ledto, key_met, chain_met, record_met, sweeping_next, sweeping_read, sweeping_addr}
-use Rattle.fkv_sweep.specs.SweptLogs.{Standing, SweptLog, IsInChain, HasKeyAt, StandsAbove, Swept, Grows, ShowsEntry, ShowsReply, ShowsCell, ShowsChained, ShowsRead}
+use Rattle.fkv_sweep.specs.Sweeping.{sweeping_ask, Sweeper, most_records, most_wanted, previous_in, is_counted, sweep_begun, turn_begun, gone_on, record_passed, key_wanted, reached, led_down, slot_found, find_ledto, key_met, chain_met, record_met, sweeping_next, sweeping_read, sweeping_addr, piece_read, holds, words_held, words_at, next_met, sweeping_held, gone_by}
+use Rattle.fkv_sweep.specs.SweptLogs.{Standing, SweptLog, IsInChain, HasKeyAt, StandsAbove, Swept, Grows, ShowsEntry, ShowsReply, ShowsCell, ShowsChained, ShowsPiece}
 use Rattle.fkv_index.proofs.Shown.{IsReading}
 use Rattle.fkv_sweep.proofs.Searches.{find_reads, first_reads, rested_reads, find_loads}
-use Rattle.fkv_sweep.specs.Swept.{IsLoadOrEnd, LoadsAlone, SweepEvent, TurnBegins, IsReplied, IsRead, ReadFails, SweepMoment, sweep_happens, sweep_run, ShowsEvent, HasGrown, AreShown, AllSwept, ReadsAbove}
+use Rattle.fkv_sweep.proofs.Reading.{next_read, first_held}
+use Rattle.fkv_sweep.specs.Swept.{ShowsBytes, IsLoadOrEnd, LoadsAlone, SweepEvent, TurnBegins, IsReplied, IsRead, ReadFails, SweepMoment, sweep_happens, sweep_run, ShowsEvent, HasGrown, AreShown, AllSwept, ReadsAbove}
 
 -- it has swept what it has passed, and while no key is wanted it has passed all before the record that it meets
 pub record Knows (begin end : ℕ) (s : Sweeper) (log : SweptLog) : Type 0 where
@@ -34,6 +35,7 @@ pub record Knows (begin end : ℕ) (s : Sweeper) (log : SweptLog) : Type 0 where
   pub near : s.at.0 ≤ s.next.0
   pub level : length s.wanted ≡ 0 → s.at.0 ≡ s.next.0
   pub reads : IsReading s.finding
+  pub piece : ShowsPiece s.to.0 log s.piece
 
 -- the record that is met has this key, if one stands there
 pub record IsMet (s : Sweeper) (log : SweptLog) (key : Key) : Type 0 where
@@ -96,6 +98,7 @@ knows_grown begin end s before after grows its = record {
   near = its.near;
   level = its.level;
   reads = its.reads;
+  piece = λ a cell has low stands. its.piece a cell has low (grows.old a.0 cell low stands);
 }
 
 sound_grown : (begin end : ℕ) (s : Sweeper) (before after : SweptLog) → Grows end before after → IsSound begin end s before → IsSound begin end s after
@@ -113,6 +116,7 @@ record IsDone (begin end : ℕ) (s : Sweeper) (log : SweptLog) : Type 0 where
   pub near : s.at.0 ≤ s.next.0 + 1
   pub level : length s.wanted ≡ 0 → s.at.0 ≡ s.next.0 + 1
   pub reads : IsReading s.finding
+  pub piece : ShowsPiece s.to.0 log s.piece
 
 first_true : (a b c : Bool) → (a && b && c) ≡ true → a ≡ true
 first_true true b c e = refl
@@ -126,8 +130,8 @@ gone_sound begin end s log its = cases (nat_lt (s.next.0 + 1) s.to.0 && nat_lt 1
     cases true e =
         let t = first_true (nat_lt (s.next.0 + 1) s.to.0) (nat_lt 1 s.left) (nat_lt (length s.wanted) most_wanted) e in
         let less : s.next.0 + 1 < s.to.0 = grind (arith, nat_tests, t) in
-        record { knows = record { its_end = its.its_end; low = its.low; swept = its.swept; within = its.within; near = its.near; level = its.level; reads = its.reads }; probes = less }
-    cases false e = record { knows = record { its_end = its.its_end; low = its.low; swept = its.swept; within = its.within; near = its.near; level = its.level; reads = its.reads }; probes = tt }
+        record { knows = record { its_end = its.its_end; low = its.low; swept = its.swept; within = its.within; near = its.near; level = its.level; reads = its.reads; piece = its.piece }; probes = less }
+    cases false e = record { knows = record { its_end = its.its_end; low = its.low; swept = its.swept; within = its.within; near = its.near; level = its.level; reads = its.reads; piece = its.piece }; probes = tt }
 
 -- the record that is met may be passed
 abbrev MayPass : Sweeper → SweptLog → Type 0
@@ -146,6 +150,7 @@ passed_done begin end s log true e its below here =
       near = omega arith;
       level = λ empty. refl;
       reads = its.reads;
+      piece = its.piece;
     }
   where
     each : (a : ℕ) (cell : Standing) → s.from.0 ≤ a → a < s.next.0 + 1 → log.cells a ≡ Some cell → (t : Bool) → nat_lt a s.next.0 ≡ t → s.at.0 ≡ s.next.0 → (cell.absent ≡ true) ⊎ StandsAbove s.shape.bucket_bits s.to.0 log cell.key
@@ -162,6 +167,7 @@ passed_done begin end s log false e its below here = record {
   near = let near = its.near in omega (arith, near);
   level = λ none. absurd (some none);
   reads = its.reads;
+  piece = its.piece;
 }
   where
     some : length s.wanted ≡ 0 → ⊥
@@ -179,11 +185,12 @@ wanted_sound begin end s log key its = gone_sound begin end (record s { wanted =
   near = let near = its.near in omega (arith, near);
   level = λ none. let more = length-append s.wanted (key ∷ []) in absurd (omega (arith, more, none));
   reads = its.reads;
+  piece = its.piece;
 })
 
 -- ---- the probe
 knows_on : (begin end : ℕ) (s : Sweeper) (log : SweptLog) (head : Addr) (step : Sweeping) → Knows begin end s log → Knows begin end (record s { head = head; step = step }) log
-knows_on begin end s log head step its = record { its_end = its.its_end; low = its.low; swept = its.swept; within = its.within; near = its.near; level = its.level; reads = its.reads }
+knows_on begin end s log head step its = record { its_end = its.its_end; low = its.low; swept = its.swept; within = its.within; near = its.near; level = its.level; reads = its.reads; piece = its.piece }
 
 reached_sound : (begin end : ℕ) (s : Sweeper) (log : SweptLog) (key : Key) (addr : ℕ) → Knows begin end s log → IsMet s log key → (s.to.0 ≤ addr → IsInChain s.shape.bucket_bits log key addr) → IsSound begin end (reached s key addr) log
 reached_sound begin end s log key addr its met leads = cases (nat_lt addr s.to.0) (nat_lt addr s.head.0) refl refl
@@ -260,7 +267,7 @@ finds_sound : (begin end : ℕ) (s : Sweeper) (log : SweptLog) (key : Key) (word
     → IsSound begin end (find_ledto (record s { finding = find_next s.places s.finding word }) key (find_next_ask s.places s.finding word)) log
 finds_sound begin end s log key word step its met shown =
     ledto_sound begin end (record s { finding = find_next s.places s.finding word }) log key (find_next_ask s.places s.finding word) step
-    (record { its_end = its.its_end; low = its.low; swept = its.swept; within = its.within; near = its.near; level = its.level; reads = find_reads s.places s.finding word its.reads })
+    (record { its_end = its.its_end; low = its.low; swept = its.swept; within = its.within; near = its.near; level = its.level; reads = find_reads s.places s.finding word its.reads; piece = its.piece })
     (record { below = met.below; its_key = met.its_key }) shown
 
 -- the record that is met has no value, or its key is probed
@@ -275,10 +282,18 @@ meet_sound begin end s log words its below shown = cases (is_counted words) refl
     cases : (b : Bool) → is_counted words ≡ b
         → IsSound begin end (if b then record s { finding = first_finding s.places (home_of s.shape.bucket_bits words.key) Read 0; step = Finds words.key } else record_passed s) log
     cases true e = record {
-      knows = record { its_end = its.its_end; low = its.low; swept = its.swept; within = its.within; near = its.near; level = its.level; reads = first_reads s.places (home_of s.shape.bucket_bits words.key) };
+      knows = record { its_end = its.its_end; low = its.low; swept = its.swept; within = its.within; near = its.near; level = its.level; reads = first_reads s.places (home_of s.shape.bucket_bits words.key); piece = its.piece };
       probes = record { below = below; its_key = λ cell stands. let same = (shown cell stands).its_key in sym same };
     }
     cases false e = passed_sound begin end s log its below (λ cell stands. absent cell cell.absent refl e stands)
+
+met_sound : (begin end : ℕ) (s : Sweeper) (log : SweptLog) → Knows begin end s log → s.next.0 < s.to.0 → holds s.piece s.next ≡ true → IsSound begin end (next_met s) log
+met_sound begin end s log its below has = meet_sound begin end s log (words_held s.piece s.next) its below (λ cell stands. its.piece s.next cell has below stands)
+
+piece_sound : (begin end : ℕ) (s : Sweeper) (log : SweptLog) (bytes : List ℕ) → Knows begin end s log → s.next.0 < s.to.0 → ShowsPiece s.to.0 log (piece_read s.next bytes) → IsSound begin end (next_met (record s { piece = piece_read s.next bytes })) log
+piece_sound begin end s log bytes its below shown =
+    met_sound begin end (record s { piece = piece_read s.next bytes }) log
+    (record { its_end = its.its_end; low = its.low; swept = its.swept; within = its.within; near = its.near; level = its.level; reads = its.reads; piece = shown }) below (first_held s.next bytes)
 
 -- ---- event by event
 next_sound : (begin end : ℕ) (s : Sweeper) (log : SweptLog) (step : Sweeping) (word : ℕ) → s.step ≡ step → Knows begin end s log → Probes s log step → ShowsReply log s step word → IsSound begin end (sweeping_next s step word) log
@@ -291,15 +306,20 @@ next_sound begin end s log (LoadsKey key addr) word same its probes shown = key_
 next_sound begin end s log (LoadsHeader key addr) word same its probes shown = led_sound begin end s log key addr (previous_in word) its probes.0.met (shown probes.1 probes.0.above probes.0.in_chain)
 next_sound begin end s log (Reads key addr) word same its probes shown = record { knows = its; probes = subst (Probes s log) (sym same) probes }
 
-read_sound : (begin end : ℕ) (s : Sweeper) (log : SweptLog) (step : Sweeping) (words : RecordWords) → s.step ≡ step → Knows begin end s log → Probes s log step → ShowsRead log s step words → IsSound begin end (sweeping_read s step words) log
-unfolding sweeping_read
-read_sound begin end s log AtRest words same its probes shown = record { knows = its; probes = subst (Probes s log) (sym same) tt }
-read_sound begin end s log LoadsHead words same its probes shown = record { knows = its; probes = subst (Probes s log) (sym same) probes }
-read_sound begin end s log Meets words same its probes shown = meet_sound begin end s log words its probes (shown probes)
-read_sound begin end s log (Finds key) words same its probes shown = record { knows = its; probes = subst (Probes s log) (sym same) probes }
-read_sound begin end s log (LoadsKey key addr) words same its probes shown = record { knows = its; probes = subst (Probes s log) (sym same) probes }
-read_sound begin end s log (LoadsHeader key addr) words same its probes shown = record { knows = its; probes = subst (Probes s log) (sym same) probes }
-read_sound begin end s log (Reads key addr) words same its probes shown = chain_sound begin end s log key addr words its probes.0 (shown probes.1 probes.0.above probes.0.in_chain)
+read_sound : (begin end : ℕ) (s : Sweeper) (log : SweptLog) (step : Sweeping) (bytes : List ℕ) → s.step ≡ step → Knows begin end s log → Probes s log step → ShowsBytes log s step (sweeping_addr s step) bytes
+    → IsSound begin end (gone_by (sweeping_addr s step) s step bytes) log
+unfolding sweeping_addr sweeping_read sweeping_held
+read_sound begin end s log AtRest bytes same its probes shown = record { knows = its; probes = subst (Probes s log) (sym same) tt }
+read_sound begin end s log LoadsHead bytes same its probes shown = record { knows = its; probes = subst (Probes s log) (sym same) probes }
+read_sound begin end s log Meets bytes same its probes shown = cases (holds s.piece s.next) refl shown
+  where
+    cases : (b : Bool) → holds s.piece s.next ≡ b → ShowsBytes log s Meets (if b then None else Some s.next) bytes → IsSound begin end (gone_by (if b then None else Some s.next) s Meets bytes) log
+    cases true e shown = met_sound begin end s log its probes e
+    cases false e shown = piece_sound begin end s log bytes its probes shown
+read_sound begin end s log (Finds key) bytes same its probes shown = record { knows = its; probes = subst (Probes s log) (sym same) probes }
+read_sound begin end s log (LoadsKey key addr) bytes same its probes shown = record { knows = its; probes = subst (Probes s log) (sym same) probes }
+read_sound begin end s log (LoadsHeader key addr) bytes same its probes shown = record { knows = its; probes = subst (Probes s log) (sym same) probes }
+read_sound begin end s log (Reads key addr) bytes same its probes shown = chain_sound begin end s log key addr (words_at bytes 0) its probes.0 (shown probes.1 probes.0.above probes.0.in_chain)
 
 turn_sound : (begin end : ℕ) (s : Sweeper) (log : SweptLog) → Knows begin end s log → IsSound begin end (turn_begun s) log
 turn_sound begin end s log its = cases (nat_lt s.at.0 s.to.0) refl
@@ -307,16 +327,24 @@ turn_sound begin end s log its = cases (nat_lt s.at.0 s.to.0) refl
     cases : (b : Bool) → nat_lt s.at.0 s.to.0 ≡ b → IsSound begin end (record s { next = s.at; left = most_records; wanted = []; step = if b then LoadsHead else AtRest }) log
     cases true e =
         let less : s.at.0 < s.to.0 = grind (arith, nat_tests, e) in
-        record { knows = record { its_end = its.its_end; low = its.low; swept = its.swept; within = its.within; near = omega arith; level = λ none. refl; reads = its.reads }; probes = less }
-    cases false e = record { knows = record { its_end = its.its_end; low = its.low; swept = its.swept; within = its.within; near = omega arith; level = λ none. refl; reads = its.reads }; probes = tt }
+        record { knows = record { its_end = its.its_end; low = its.low; swept = its.swept; within = its.within; near = omega arith; level = λ none. refl; reads = its.reads; piece = its.piece }; probes = less }
+    cases false e = record { knows = record { its_end = its.its_end; low = its.low; swept = its.swept; within = its.within; near = omega arith; level = λ none. refl; reads = its.reads; piece = its.piece }; probes = tt }
 
 event_sound : (begin end : ℕ) (s : Sweeper) (log : SweptLog) (event : SweepEvent) → IsSound begin end s log → ShowsEvent log s event → IsSound begin end (sweep_happens s event) log
 event_sound begin end s log TurnBegins its shown = turn_sound begin end s log its.knows
 event_sound begin end s log (IsReplied word) its shown = next_sound begin end s log s.step word refl its.knows its.probes shown
-event_sound begin end s log (IsRead bytes) its shown = read_sound begin end s log s.step (words_in bytes) refl its.knows its.probes shown
+event_sound begin end s log (IsRead bytes) its shown = read_sound begin end s log s.step bytes refl its.knows its.probes shown
 event_sound begin end s log ReadFails its shown = record { knows = knows_on begin end s log s.head AtRest its.knows; probes = tt }
 
 -- ---- over a whole run
+none_held : (a : ℕ) → (nat_le 0 a && nat_lt a 0) ≡ true → ⊥
+none_held a has = let t = second (nat_le 0 a) (nat_lt a 0) has in let low : a < 0 = grind (arith, nat_tests, t) in omega (arith, low)
+  where
+    second : (x y : Bool) → (x && y) ≡ true → y ≡ true
+    second true true e = refl
+    second true false e = cc
+    second false y e = cc
+
 begun_sound : (shape : Shape) (p : Places) (from to : Addr) (log : SweptLog) → IsSound from.0 to.0 (sweep_begun shape p from to) log
 begun_sound shape p from to log = record {
   knows = record {
@@ -327,6 +355,7 @@ begun_sound shape p from to log = record {
     near = omega arith;
     level = λ none. refl;
     reads = rested_reads;
+    piece = λ a cell has low stands. absurd (none_held a.0 has);
   };
   probes = tt;
 }
@@ -348,7 +377,7 @@ unfolding sweeping_addr
 step_above begin end s log AtRest addr its probes e = cc
 step_above begin end s log LoadsHead addr its probes e = cc
 step_above begin end s log Meets addr its probes e =
-    let same : s.next ≡ addr = cc in
+    let same = next_read (holds s.piece s.next) s.next addr (sym e) in
     let low = its.low in
     let near = its.near in
     subst (λ (a : Addr). begin ≤ a.0) same (omega (arith, low, near))

@@ -16,6 +16,11 @@ abbrev pub is_through : Ask SweepAnswer → Bool
 is_through (Done answer.Through) = true
 is_through ask = false
 
+-- it goes on by its words or by the device, with a read or without one
+abbrev pub steps_asked : Ask SweepAnswer → ℕ
+steps_asked (Done answer.Device) = 1
+steps_asked ask = 0
+
 -- it asks or calls just where it has some left
 abbrev pub GoesOnWhereLeft : ℕ → Ask SweepAnswer → Type 0
 GoesOnWhereLeft left ask = (is_through ask ≡ false) ↔ (0 < left)

@@ -1,6 +1,6 @@
 -- How the front of the log is swept. Each record from an address on is read from the device. It is passed where it gives its key no value, or where
 -- a record of the key is found at or above the address where the sweep ends. Else its key is wanted there.
-use Rattle.std.specs.Prelude.{ℕ, ◌+◌, ◌-◌, ◌%◌, ◌^◌, ◌<◌, ◌≤◌, ◌==◌, ◌&&◌, not, nat_lt, nat_le, if◌then◌else◌, Bool, List, [], ◌∷◌, ◌++◌, length, ⊤, Option, Some, None}
+use Rattle.std.specs.Prelude.{ℕ, ◌+◌, ◌-◌, ◌*◌, ◌%◌, ◌^◌, ◌<◌, ◌≤◌, ◌==◌, ◌&&◌, not, nat_lt, nat_le, if◌then◌else◌, Bool, List, [], ◌∷◌, ◌++◌, length, replicate, ⊤, Option, Some, None}
 use Rattle.fkv_base.specs.declared.numbers.Addr.{Addr}
 use Rattle.fkv_base.specs.declared.numbers.Key.{Key}
 use Rattle.fkv_base.specs.declared.shapes.Shape.{Shape}
@@ -22,6 +22,7 @@ use Rattle.fkv_index.specs.declared.finding.FindAnswer.{FindAnswer}
 use Rattle.fkv_index.specs.declared.finding.Finding.{Finding}
 use Rattle.fkv_index.specs.Slots.{home_of, entry_addr}
 use Rattle.fkv_index.specs.Finding.{rested, first_finding, find_ask, find_next, find_next_ask}
+use Rattle.fkv_sweep.specs.declared.record_words.Piece.{Piece}
 use Rattle.fkv_sweep.specs.declared.record_words.RecordWords.{RecordWords}
 use Rattle.fkv_sweep.specs.declared.sweeping.SweepAnswer.{SweepAnswer}
 use Rattle.fkv_sweep.specs.declared.sweeping.SweepAnswer.TheVariants as answer
@@ -38,6 +39,8 @@ pub record Sweeper : Type 0 where
   -- the record that is met, and how many its turn may still meet, that one among them
   pub next : Addr
   pub left : ℕ
+  -- records that were read in a row
+  pub piece : Piece
   -- the head as its turn has loaded it
   pub head : Addr
   -- the keys that its turn has found wanted
@@ -54,9 +57,28 @@ abbrev pub most_wanted : ℕ
 most_wanted = 16
 
 -- ---- the words of a record
--- the three words that these bytes are
-abbrev pub words_in : List ℕ → RecordWords
-words_in bytes = record { header = number_at bytes 0; key = record { 0 = number_at bytes 8 }; value = number_at bytes 16 }
+-- the three words of the record whose bytes begin at a place
+abbrev pub words_at : List ℕ → ℕ → RecordWords
+words_at bytes at = record { header = number_at bytes at; key = record { 0 = number_at bytes (at + 8) }; value = number_at bytes (at + 16) }
+
+-- so many records are read in a row
+abbrev pub piece_records : ℕ
+piece_records = 32
+
+abbrev pub piece_bytes : ℕ
+piece_bytes = 768
+
+-- the records from an address on, which have these bytes
+abbrev pub piece_read : Addr → List ℕ → Piece
+piece_read first bytes = record { first = first; end = record { 0 = first.0 + piece_records }; bytes = bytes }
+
+-- the record of an address is among them
+abbrev pub holds : Piece → Addr → Bool
+holds piece addr = nat_le piece.first.0 addr.0 && nat_lt addr.0 piece.end.0
+
+-- its words
+abbrev pub words_held : Piece → Addr → RecordWords
+words_held piece addr = words_at piece.bytes (24 * (addr.0 - piece.first.0))
 
 -- the word of the value of a key that was deleted
 abbrev pub absent_word : ℕ
@@ -74,7 +96,7 @@ previous_in header = header % 2 ^ 48
 -- ---- a sweep
 -- It has passed nothing yet, and rests.
 abbrev pub sweep_begun : Shape → Places → Addr → Addr → Sweeper
-sweep_begun shape p from to = record { shape = shape; places = p; from = from; at = from; to = to; next = from; left = 0; head = record { 0 = 0 }; wanted = []; finding = rested 0; step = AtRest }
+sweep_begun shape p from to = record { shape = shape; places = p; from = from; at = from; to = to; next = from; left = 0; piece = record { first = record { 0 = 0 }; end = record { 0 = 0 }; bytes = replicate piece_bytes 0 }; head = record { 0 = 0 }; wanted = []; finding = rested 0; step = AtRest }
 
 -- A turn begins at the first record that isn't passed. No key is wanted any more: a key that was is probed again.
 abbrev pub turn_begun : Sweeper → Sweeper
@@ -154,29 +176,42 @@ sweeping_next s (Reads key addr) reply = s
 abbrev pub sweep_next : Sweeper → ℕ → Sweeper
 sweep_next s reply = sweeping_next s s.step reply
 
--- where the words of the record that was read lead
-unfoldable pub sweeping_read : Sweeper → Sweeping → RecordWords → Sweeper
-sweeping_read s Meets words = record_met s words
-sweeping_read s (Reads key addr) words = chain_met s key addr words
-sweeping_read s step words = s
+-- the record that comes next has the words that the piece has of it
+abbrev pub next_met : Sweeper → Sweeper
+next_met s = record_met s (words_held s.piece s.next)
 
--- the bytes
-abbrev pub sweep_read : Sweeper → List ℕ → Sweeper
-sweep_read s bytes = sweeping_read s s.step (words_in bytes)
+-- where the bytes that were read lead
+unfoldable pub sweeping_read : Sweeper → Sweeping → List ℕ → Sweeper
+sweeping_read s Meets bytes = next_met (record s { piece = piece_read s.next bytes })
+sweeping_read s (Reads key addr) bytes = chain_met s key addr (words_at bytes 0)
+sweeping_read s step bytes = s
 
--- the address whose record is read from the device, if one is
+-- where it goes on without a read
+unfoldable pub sweeping_held : Sweeper → Sweeping → Sweeper
+sweeping_held s Meets = next_met s
+sweeping_held s step = s
+
+-- the address whose record is read from the device, if one is: a record that comes next is not, where the piece has it
 unfoldable pub sweeping_addr : Sweeper → Sweeping → Option Addr
-sweeping_addr s Meets = Some s.next
+sweeping_addr s Meets = if holds s.piece s.next then None else Some s.next
 sweeping_addr s (Reads key addr) = Some addr
 sweeping_addr s step = None
 
 abbrev pub read_addr : Sweeper → Option Addr
 read_addr s = sweeping_addr s s.step
 
--- the read of its 24 bytes
+-- by the bytes that were read, if any were
+abbrev pub gone_by : Option Addr → Sweeper → Sweeping → List ℕ → Sweeper
+gone_by None s step bytes = sweeping_held s step
+gone_by (Some addr) s step bytes = sweeping_read s step bytes
+
+abbrev pub sweep_read : Sweeper → List ℕ → Sweeper
+sweep_read s bytes = gone_by (read_addr s) s s.step bytes
+
+-- each read is of the bytes of a piece
 abbrev pub read_of : Shape → Option Addr → Option AskedCall
 read_of shape None = None
-read_of shape (Some addr) = Some (disk.Reads (record_places.record_place shape addr.0) 24)
+read_of shape (Some addr) = Some (disk.Reads (record_places.record_place shape addr.0) piece_bytes)
 
 abbrev pub read_asked : Sweeper → Option AskedCall
 read_asked s = read_of s.shape (read_addr s)
@@ -211,4 +246,5 @@ IsStepInRange s (Reads key addr) = IsUnderWay s × (addr.0 < 2 ^ 48)
 
 pub record IsSweepInRange (s : Sweeper) : Type 0 where
   pub its_end : s.to.0 ≤ 2 ^ 48
+  pub few : s.piece.end.0 ≤ s.piece.first.0 + piece_records
   pub its_step : IsStepInRange s s.step

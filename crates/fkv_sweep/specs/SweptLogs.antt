@@ -1,5 +1,6 @@
 -- The log beside a sweep: what stands where, how it may grow meanwhile, and what a reply shows of it.
 use Rattle.std.specs.Prelude.{◌≡◌, ℕ, ◌<◌, ◌≤◌, ◌⊎◌, Bool, true, false, List, [], ◌∷◌, ⊤, Option, Some}
+use Rattle.fkv_base.specs.declared.numbers.Addr.{Addr}
 use Rattle.fkv_base.specs.declared.numbers.Key.{Key}
 use Rattle.fkv_plane.specs.declared.asks.Ask.TheVariants.{Done}
 use Rattle.fkv_index.specs.declared.homes.Home.{Home}
@@ -7,10 +8,11 @@ use Rattle.fkv_index.specs.declared.finding.Found.TheVariants.{Slot}
 use Rattle.fkv_index.specs.declared.finding.FindAnswer.{FindAnswer}
 use Rattle.fkv_index.specs.Slots.{home_of, entry_addr}
 use Rattle.fkv_index.specs.Finding.{find_next_ask}
+use Rattle.fkv_sweep.specs.declared.record_words.Piece.{Piece}
 use Rattle.fkv_sweep.specs.declared.record_words.RecordWords.{RecordWords}
 use Rattle.fkv_sweep.specs.declared.sweeping.Sweeping.{Sweeping}
 use Rattle.fkv_sweep.specs.declared.sweeping.Sweeping.TheVariants.{Meets, Finds, LoadsKey, LoadsHeader, Reads}
-use Rattle.fkv_sweep.specs.Sweeping.{Sweeper, is_counted, previous_in}
+use Rattle.fkv_sweep.specs.Sweeping.{Sweeper, words_at, is_counted, previous_in, piece_read, holds, words_held}
 
 -- a record that stands in its chain: its key, and whether that was deleted by it
 pub record Standing : Type 0 where
@@ -77,7 +79,11 @@ pub record ShowsChained (log : SweptLog) (s : Sweeper) (key : Key) (addr : ℕ) 
   pub its_key : words.key.0 ≡ key.0 → HasKeyAt log key addr
   pub leads : s.to.0 ≤ previous_in words.header → IsInChain s.shape.bucket_bits log key (previous_in words.header)
 
-abbrev pub ShowsRead : SweptLog → Sweeper → Sweeping → RecordWords → Type 0
-ShowsRead log s Meets words = s.next.0 < s.to.0 → (cell : Standing) → log.cells s.next.0 ≡ Some cell → ShowsCell words cell
-ShowsRead log s (Reads key addr) words = addr.0 < s.head.0 → s.to.0 ≤ addr.0 → IsInChain s.shape.bucket_bits log key addr.0 → ShowsChained log s key addr.0 words
-ShowsRead log s step words = ⊤
+-- the words that a piece has of each record below the sweep's end
+abbrev pub ShowsPiece : ℕ → SweptLog → Piece → Type 0
+ShowsPiece to log piece = (a : Addr) (cell : Standing) → holds piece a ≡ true → a.0 < to → log.cells a.0 ≡ Some cell → ShowsCell (words_held piece a) cell
+
+abbrev pub ShowsRead : SweptLog → Sweeper → Sweeping → List ℕ → Type 0
+ShowsRead log s Meets bytes = ShowsPiece s.to.0 log (piece_read s.next bytes)
+ShowsRead log s (Reads key addr) bytes = addr.0 < s.head.0 → s.to.0 ≤ addr.0 → IsInChain s.shape.bucket_bits log key addr.0 → ShowsChained log s key addr.0 (words_at bytes 0)
+ShowsRead log s step bytes = ⊤

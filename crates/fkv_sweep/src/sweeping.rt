@@ -1,12 +1,12 @@
 //! The machine that sweeps.
-ghost use Rattle.std.specs.Prelude.{◌≡◌, ◌+◌, ◌-◌, ◌<◌, ◌≤◌, ◌^◌, ◌↔◌, ℕ, List, is_ok, OnOk, IfOk, OnErr};
+ghost use Rattle.std.specs.Prelude.{◌≡◌, ◌+◌, ◌-◌, ◌<◌, ◌≤◌, ◌^◌, ◌↔◌, ℕ, List, None, is_ok, OnOk, IfOk, OnErr};
 ghost use Rattle.fkv_disk.specs.Asks.{asked_call, kinds_by, count_by};
 ghost use Rattle.fkv_disk.specs.Bytes.{bytes_at};
 ghost use Rattle.fkv_disk.specs.Device.{LeavesNoMore, Elapses, HasCause, MakesCalls};
-ghost use Rattle.fkv_sweep.specs.AsksLeft.{GoesOnWhereLeft, sweep_asks_left, most_sweep_asks};
-ghost use Rattle.fkv_sweep.specs.Sweeping.{IsUnderWay, sweep_begun, turn_begun, gone_on, record_passed, key_wanted, reached, led_down, slot_found, find_ledto, key_met, chain_met, record_met, sweep_ask, sweep_next, sweep_read, sweep_failed, read_addr, read_asked, read_place, sweeping_read};
+ghost use Rattle.fkv_sweep.specs.AsksLeft.{GoesOnWhereLeft, steps_asked, sweep_asks_left, most_sweep_asks};
+ghost use Rattle.fkv_sweep.specs.Sweeping.{IsUnderWay, sweep_begun, turn_begun, gone_on, record_passed, key_wanted, reached, led_down, slot_found, find_ledto, key_met, chain_met, record_met, sweep_ask, sweep_next, sweep_read, sweep_failed, read_addr, read_asked, read_place, sweeping_read, sweeping_held, piece_bytes};
 
-use crate::record_words::{RECORD_BYTES, RecordWords, is_counted, previous_in, words_in};
+use crate::record_words::{PIECE_BYTES, Piece, RecordWords, is_counted, previous_in, words_at};
 use arrayvec::ArrayVec;
 use fkv_base::{Addr, Fault, Key, Shape};
 use fkv_disk::{Device, DeviceAsk};
@@ -18,7 +18,7 @@ use std::marker::Model;
 /// What a sweep has come to.
 #[derive(Clone, Copy, Debug, PartialEq, Eq)]
 pub enum SweepAnswer {
-    /// Its next step is one read of the device, which `device_step` makes.
+    /// Its next step is one by the device, which `device_step` makes: a read, or none where the record was read with others.
     Device,
     /// Its turn is through, or it is at rest.
     Through,
@@ -50,6 +50,7 @@ pub struct Sweep {
     to: Addr,
     next: Addr,
     left: u64,
+    piece: Piece,
     head: Addr,
     wanted: ArrayVec<Key, MOST_WANTED>,
     find: Find,
@@ -62,9 +63,9 @@ impl Model for Sweep {
 
     ghost Value = { Sweeper };
 
-    ghost view = { λ m. record { shape = m.shape; places = m.places; from = m.from; at = m.at; to = m.to; next = m.next; left = m.left; head = m.head; wanted = m.wanted.items; finding = m.find.finding; step = m.step } };
+    ghost view = { λ m. record { shape = m.shape; places = m.places; from = m.from; at = m.at; to = m.to; next = m.next; left = m.left; piece = m.piece; head = m.head; wanted = m.wanted.items; finding = m.find.finding; step = m.step } };
 
-    ghost invariant = { λ m. (m.find.places ≡ m.places) × (m.find.bits ≡ m.shape.bucket_bits) × IsSweepInRange (record { shape = m.shape; places = m.places; from = m.from; at = m.at; to = m.to; next = m.next; left = m.left; head = m.head; wanted = m.wanted.items; finding = m.find.finding; step = m.step }) };
+    ghost invariant = { λ m. (m.find.places ≡ m.places) × (m.find.bits ≡ m.shape.bucket_bits) × IsSweepInRange (record { shape = m.shape; places = m.places; from = m.from; at = m.at; to = m.to; next = m.next; left = m.left; piece = m.piece; head = m.head; wanted = m.wanted.items; finding = m.find.finding; step = m.step }) };
 }
 
 /// The records that a turn meets, at most.
@@ -88,6 +89,11 @@ impl Sweep {
             to,
             next: from,
             left: 0,
+            piece: Piece {
+                first: Addr(0),
+                end: Addr(0),
+                bytes: [0; PIECE_BYTES],
+            },
             head: Addr(0),
             wanted: ArrayVec::new(),
             find: Find::new(places, shape.bucket_bits),
@@ -119,7 +125,7 @@ impl Sweep {
         ensures next { self.new ≡ sweep_next self.old reply }
         ensures ask { result ≡ sweep_ask self.new }
         ensures left { GoesOnWhereLeft (sweep_asks_left self.new) result }
-        ensures fewer { 0 < sweep_asks_left self.old → count_by (read_asked self.old) ≡ 0 → sweep_asks_left self.new < sweep_asks_left self.old }
+        ensures fewer { 0 < sweep_asks_left self.old → steps_asked (sweep_ask self.old) ≡ 0 → sweep_asks_left self.new < sweep_asks_left self.old }
     {
         match self.step {
             Sweeping::AtRest | Sweeping::Meets | Sweeping::Reads(_, _) => {}
@@ -137,16 +143,16 @@ impl Sweep {
         self.ask()
     }
 
-    /// Makes the one call of the device that it needs, a read of a record's bytes, and goes on. Where it needs none it makes none,
-    /// and stays where it is. `Fault::Device` where the device failed: the machine is at rest then.
+    /// Goes on by the device: it makes the one read that it needs, of the bytes of records in a row. Where it has the next record it
+    /// makes none, and goes on with that. Else it stays where it is. `Fault::Device` where the device failed: the machine is at rest then.
     #[tactic(auto, unfolding(crate::specs::Sweeping::sweeping_read, crate::specs::AsksLeft::sweeping_asks_left))]
     pub fn device_step<D: Device>(&mut self, d: &mut D) -> Result<Ask<SweepAnswer>, Fault>
         ensures next { OnOk result ((bytes : List ℕ) × (self.new ≡ sweep_read self.old bytes)) }
-        ensures read { D.honest d.old → OnOk result (self.new ≡ sweep_read self.old (bytes_at (D.seen d.old) (read_place self.old) 24)) }
+        ensures read { D.honest d.old → OnOk result (self.new ≡ sweep_read self.old (bytes_at (D.seen d.old) (read_place self.old) piece_bytes)) }
         ensures ask { IfOk result (λ ask. ask ≡ sweep_ask self.new) }
         ensures failed { OnErr result (self.new ≡ sweep_failed self.old) }
         ensures left { IfOk result (λ ask. GoesOnWhereLeft (sweep_asks_left self.new) ask) }
-        ensures fewer { sweep_asks_left self.new ≤ sweep_asks_left self.old - count_by (read_asked self.old) }
+        ensures fewer { sweep_asks_left self.new ≤ sweep_asks_left self.old - steps_asked (sweep_ask self.old) }
         ensures cause { HasCause (D.failed d.old) (D.failed d.new) result }
         ensures counted { MakesCalls (count_by (read_asked self.old)) (D.refuses d.old) (D.refuses d.new) result }
         ensures kind { D.expects d.new ≡ kinds_by (read_asked self.old) (is_ok result) (D.expects d.old) }
@@ -156,14 +162,15 @@ impl Sweep {
         ensures time { D.honest d.old → Elapses (D.moment d.old) (D.moment d.new) (D.left_since d.old) (D.left_since d.new) (D.may_leave d.new) }
     {
         let Some(addr) = self.read_addr() else {
+            self.meet_held();
             return Ok(self.ask());
         };
         let step = self.step;
         self.step = Sweeping::AtRest;
-        let mut bytes = [0; RECORD_BYTES];
+        let mut bytes = [0; PIECE_BYTES];
         d.read(record_place(self.shape, addr), &mut bytes)?;
         self.step = step;
-        self.after_read(words_in(&bytes));
+        self.after_read(&bytes);
         Ok(self.ask())
     }
 
@@ -172,7 +179,7 @@ impl Sweep {
         ensures { asked_call result ≡ read_asked self.now }
     {
         let addr = self.read_addr()?;
-        Some(DeviceAsk::Read(record_place(self.shape, addr), RECORD_BYTES))
+        Some(DeviceAsk::Read(record_place(self.shape, addr), PIECE_BYTES))
     }
 
     /// What it asks now.
@@ -222,22 +229,43 @@ impl Sweep {
         ensures addr { result ≡ read_addr self.now }
     {
         match self.step {
-            Sweeping::Meets => Some(self.next),
+            Sweeping::Meets => {
+                if self.piece.holds(self.next) {
+                    None
+                } else {
+                    Some(self.next)
+                }
+            }
             Sweeping::Reads(_, addr) => Some(addr),
             _ => None,
         }
     }
 
-    /// Goes on by the words that were read.
+    /// Goes on by the bytes that were read.
     #[tactic(auto, unfolding(crate::specs::Sweeping::sweeping_read))]
-    fn after_read(&mut self, words: RecordWords)
-        requires { IsUnderWay self.old }
-        ensures { self.new ≡ sweeping_read self.old self.old.step words }
+    fn after_read(&mut self, bytes: &[u8; 768])
+        ensures { self.new ≡ sweeping_read self.old self.old.step bytes.now }
     {
         match self.step {
-            Sweeping::Meets => self.meet(words),
-            Sweeping::Reads(key, addr) => self.meet_in_chain(key, addr, words),
+            Sweeping::Meets => {
+                self.piece = Piece::read(self.next, bytes);
+                let words = self.piece.words(self.next);
+                self.meet(words);
+            }
+            Sweeping::Reads(key, addr) => self.meet_in_chain(key, addr, words_at(bytes, 0)),
             _ => {}
+        }
+    }
+
+    /// Goes on with the next record, which was read with others.
+    #[tactic(auto, unfolding(crate::specs::Sweeping::sweeping_held))]
+    fn meet_held(&mut self)
+        requires { read_addr self.old ≡ None }
+        ensures { self.new ≡ sweeping_held self.old self.old.step }
+    {
+        if let Sweeping::Meets = self.step {
+            let words = self.piece.words(self.next);
+            self.meet(words);
         }
     }
 
