@@ -1,0 +1,4 @@
+pub mod AsksLeft
+mod Reading
+mod Searches
+mod Sound

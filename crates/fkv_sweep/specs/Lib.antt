@@ -1,0 +1,4 @@
+pub mod AsksLeft
+pub mod Swept
+pub mod SweptLogs
+pub mod Sweeping
