@@ -161,9 +161,9 @@ int32_t fkv_make_turn(fkv_file *file, struct turn *turn, tell_turn_fn *tell, voi
     return end_calls(file, turn, call, tell, user);
 }
 
-int32_t fkv_serve_turn(fkv_file *file, struct turn *turn) {
+int32_t fkv_serve_turn(fkv_file *file, struct turn *turn, tell_turn_fn *tell, void *user) {
     int32_t call = fkv_serve(&file->keeper, &turn->turned, turn->points, FKV_MOST_SESSIONS);
-    return end_calls(file, turn, call, NULL, NULL);
+    return end_calls(file, turn, call, tell, user);
 }
 
 void fkv_sync_ahead(fkv_file *file) {
@@ -218,11 +218,11 @@ int32_t fkv_help(fkv_file *file) {
     int32_t why = fkv_unserved(file);
     bool is_free = why == 0 && !atomic_load(&file->turning) && !file->is_wanted;
     /*
-     * A commit's turns sync: these are the keeper's thread's. It makes them one after the other as long as somebody waits. But while it is in
-     * a sync, turns only serve. No record leaves memory by these, so they needn't be left to it.
+     * A commit's turns sync, and so do those behind a flush that rests: these are the keeper's thread's. It makes them one after the other as
+     * long as somebody waits. But while it is in a sync, turns only serve. No record leaves memory by these, so they needn't be left to it.
      */
-    bool commits = atomic_load(&file->in_hand);
-    bool is_own = is_free && (commits ? file->is_syncing : !fkv_awaits_warmer(file));
+    bool syncs = atomic_load(&file->in_hand) || file->rests;
+    bool is_own = is_free && (syncs ? file->is_syncing : !fkv_awaits_warmer(file));
     if (is_own) atomic_store(&file->turning, true);
     else if (is_free && !file->nudged) {
         file->nudged = true;
@@ -232,12 +232,14 @@ int32_t fkv_help(fkv_file *file) {
     if (!is_own) return fkv_with_errno(file, why);
     turn.written = turn.end = turn.reads = turn.copied = 0;
     turn.why = 0;
-    int32_t result = commits ? fkv_serve_turn(file, &turn) : fkv_make_turn(file, &turn, NULL, NULL);
+    /* What comes to rest in it is left to the keeper's thread. */
+    int32_t result = fkv_serve_turn(file, &turn, NULL, NULL);
     pthread_mutex_lock(&file->lock);
     file->helped++;
     fkv_end_turn(file, &turn, result);
-    /* A page was written, so others will soon leave memory. */
-    if (turn.written && atomic_load_explicit(&file->warmed, memory_order_relaxed) != UINT64_MAX) pthread_cond_signal(&file->work);
+    /* A sync is due, or a page was written, so that others will soon leave memory. */
+    bool is_warmed = turn.written && atomic_load_explicit(&file->warmed, memory_order_relaxed) != UINT64_MAX;
+    if (turn.rests || is_warmed) pthread_cond_signal(&file->work);
     pthread_mutex_unlock(&file->lock);
     return 1;
 }
