@@ -61,7 +61,7 @@ use Rattle.law_refine.specs.Below.law_world.GuardSessions.OwnTurns.{own_turn_lik
 use Rattle.law_refine.specs.Below.law_world.GuardSessions.Sessions.{session_likeness, sitting_likeness}
 use Rattle.law_refine.specs.Below.law_world.GuardSessions.Tries.{is_for_entry, try_likeness_at}
 use Rattle.law_refine.proofs.Below.law_world.OfGuarded.Kept.{moved_is}
-use Rattle.law_refine.proofs.Below.law_world.OfGuarded.KeeperSteps.{keeper_steps}
+use Rattle.law_refine.proofs.Below.law_world.OfGuarded.KeeperSteps.{actor_above, keeper_steps}
 use Rattle.law_refine.proofs.Below.law_world.OfGuarded.OneStep.{IsStep}
 use Rattle.law_refine.proofs.Below.law_world.OfGuarded.Worlds.{life_shows}
 use Rattle.law_refine.specs.Events.Appends.{append_ghosts, reserved_ghosts, NewRecord, new_record}

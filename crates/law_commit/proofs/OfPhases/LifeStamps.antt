@@ -42,7 +42,7 @@ use Rattle.law_refine.specs.Below.law_world.Guarded.GuardEvents.{called_events, 
 use Rattle.law_refine.specs.Below.law_world.GuardSessions.Sessions.{called_guard_events}
 use Rattle.law_refine.specs.Below.law_world.Guarded.Shows as guard
 use Rattle.law_refine.specs.Below.law_world.Guarded.Shows.{IsSeated, Shows, guard_opening, seen_by_guard}
-use Rattle.law_refine.proofs.Below.law_world.OfGuarded.KeeperSteps.{keeper_steps, turn_asked_steps}
+use Rattle.law_refine.proofs.Below.law_world.OfGuarded.KeeperSteps.{actor_above, keeper_steps, turn_asked_steps}
 use Rattle.law_refine.proofs.Below.law_world.OfGuarded.OneStep.{of_others}
 use Rattle.law_refine.proofs.Below.law_world.OfGuarded.Worlds.{life_shows, runs_on}
 use Rattle.law_commit.specs.Phases.Stamped.{SessionStamped, SittingStamped, force_by, loads_by}

@@ -36,7 +36,7 @@ use Rattle.law_world.proofs.OfGuarded.OneStep.{IsQuiet, IsStep}
 use Rattle.law_world.proofs.OfGuarded.Permitted.{are_permitted}
 use Rattle.law_world.proofs.OfGuarded.Worlds.{happens_shows, life_shows}
 use Rattle.law_world.proofs.OfGuarded.Kept.{is_steps}
-use Rattle.law_world.proofs.OfGuarded.KeeperSteps.{keeper_steps}
+use Rattle.law_world.proofs.OfGuarded.KeeperSteps.{actor_above, keeper_steps}
 use Rattle.law_world.proofs.OfGuarded.Outer.{write_outer}
 use Rattle.law_refine.proofs.OfRecords.FrameEvents.{HasWord, IsNoFrame, Writes, onward_none, no_frame, session_frame, writes_none}
 use Rattle.law_refine.proofs.OfRecords.FrameWords.{FrameWord, sitting_word}
