@@ -42,7 +42,7 @@ use Rattle.fkv_maintain.specs.declared.maintaining.Maintaining.{Maintaining}
 use Rattle.fkv_maintain.specs.declared.maintaining.Maintaining.TheVariants as maintain
 use Rattle.fkv_manifest.specs.Committing.{commit_call}
 use Rattle.fkv_keeper.specs.KeeperRun.{is_in_hand}
-use Rattle.fkv_keeper.specs.Keeping.{KeeperState, keeper_ask, keeper_next}
+use Rattle.fkv_keeper.specs.Keeping.{KeeperState, keeper_ask, keeper_next, serves_alone}
 use Rattle.fkv_keeper.specs.declared.answers.KeeperTold.{KeeperTold}
 use Rattle.fkv_keeper.specs.declared.answers.KeeperTold.TheVariants.{Device}
 use Rattle.fkv_keeper.specs.declared.keepers.Keeping.{Keeping}
@@ -188,7 +188,7 @@ keeper_steps a shape p granted done read s words = keeper_step a _ (keeper_makes
 
 -- and a turn that is asked for
 pub turn_asked_makes : (a : ℕ) (s : KeeperState) → IsStepOf (OfKeeper a) a (turn_asked_events a s)
-turn_asked_makes a s = by_test_of (OfKeeper a) a (is_in_hand s.step) [] _ tt (by_test_of (OfKeeper a) a s.is_broken [] _ tt (one_of (OfKeeper a) a _ (mine a) (begins s.rests)))
+turn_asked_makes a s = by_test_of (OfKeeper a) a (is_in_hand s.step) [] _ tt (by_test_of (OfKeeper a) a s.is_broken [] _ tt (one_of (OfKeeper a) a _ (mine a) (begins (serves_alone s))))
   where
     begins : (rests : Bool) → OfKeeper a (Begins a (turn_task s.maintain.begin.0 rests))
     begins true = tt
