@@ -252,7 +252,8 @@ static void go_on(struct run *run) {
     int32_t result = goes_on ? fkv_make_turn(file, &turn, tell, run) : fkv_serve_turn(file, &turn, tell, run);
     run->written += turn.written;
     run->copied += turn.copied;
-    run->has_called = turn.has_called;
+    /* What was let go on does so in the next turn. */
+    run->has_called = turn.has_called || goes_on;
     pthread_mutex_lock(&file->lock);
     bool is_finished = result == FKV_OVER && turn.turned.finished;
     if (is_finished) file->in_hand = false;

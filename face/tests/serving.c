@@ -19,7 +19,7 @@
 enum { KEYS = 1200, MOST_KEYS = 2000, SYNC_NS = 20000000, SERVED = 50, COMMITS = 6, MOST_READS = 1000000, MOST_SYNCS = 16, MOST_SECONDS = 120, PATH_ROOM = 500 };
 
 /* Small pages and little memory, so that most records lie in the file alone. */
-static const fkv_shape SHAPE = {10, 16, 8, 4, 2, 64, 16384};
+static const fkv_shape SHAPE = {10, 16, 8, 4, 3, 64, 16384};
 static fkv_file *file;
 static atomic_bool syncs_are_slow, reads_fail;
 static atomic_int syncing, served, syncs_left = -1, failed, failed_reads;
@@ -56,11 +56,13 @@ static uint64_t drawn(void) {
     return random_state >> 33;
 }
 
-static fkv_session *joined(void) {
+static fkv_session *joined_as(uint64_t number) {
     fkv_session *session;
-    WANTS("joining", fkv_join(file, 0, &session), 0);
+    WANTS("joining", fkv_join(file, number, &session), 0);
     return session;
 }
+
+static fkv_session *joined(void) { return joined_as(0); }
 
 static void open_and_start(const char *path, uint32_t commit_ms) {
     fkv_keeping keeping = {.commit_ms = commit_ms, .log_commits = 1};
@@ -112,7 +114,7 @@ static atomic_bool ends_puts;
 
 /* Puts until it is told to end, so that pages are flushed one after the other. */
 static void *put_on(void *none) {
-    fkv_session *session = joined();
+    fkv_session *session = joined_as(1);
     for (uint64_t key = KEYS; !atomic_load(&ends_puts); key++) {
         WANTS("a put", fkv_put(file, session, key % MOST_KEYS, key + 1, NULL), FKV_DONE);
         WANTS("a tick", fkv_tick(file, session), 0);
@@ -124,9 +126,10 @@ static void *put_on(void *none) {
 /* No commit is made: all syncs are those of flushes, and slow. */
 static void serve_beside_flushes(const char *path) {
     pthread_t other;
-    fkv_stats stats;
+    fkv_stats first, stats;
     open_and_start(path, 0);
     fkv_session *session = joined();
+    WANTS("how it fares", fkv_stats_of(file, &first), 0);
     atomic_store(&syncs_are_slow, true);
     atomic_store(&served, 0);
     WANTS("a thread", pthread_create(&other, NULL, put_on, NULL), 0);
@@ -136,11 +139,12 @@ static void serve_beside_flushes(const char *path) {
         WANTS("a tick", fkv_tick(file, session), 0);
     }
     atomic_store(&syncs_are_slow, false);
+    /* (else it would hold up who puts) */
+    WANTS("leaving", fkv_leave(file, session), 0);
     atomic_store(&ends_puts, true);
     pthread_join(other, NULL);
     WANTS("how it fares", fkv_stats_of(file, &stats), 0);
-    WANTS("whether a commit was made", stats.commits, 0);
-    WANTS("leaving", fkv_leave(file, session), 0);
+    WANTS("how many commits were made", stats.commits, first.commits);
     WANTS("closing", fkv_close_file(file), 0);
 }
 

@@ -121,7 +121,7 @@ pub extern "C" fn fkv_serve(keeper: &mut HeldKeeper, turned: &mut Turned, points
     next(keeper, ask, turned, points).number
 }
 
-/// 1 where the writes of the commit in hand rest, or a flush does: a turn came to a sync, which the next `fkv_turn` posts or lets post. (A hint: no clause speaks of it.)
+/// 1 where the writes of the commit in hand rest, or a flush does, and weren't let go on: `fkv_serve` only serves then. (A hint: no clause speaks of it.)
 #[unsafe(no_mangle)]
 pub extern "C" fn fkv_rests(keeper: &mut HeldKeeper) -> i32
     ensures same { keeper.new.value ≡ keeper.old.value }

@@ -26,7 +26,7 @@ impl Keeper {
         }
     }
 
-    /// Whether the writes of the commit in hand rest, or a flush does. (A hint: no clause speaks of it.)
+    /// Whether the next turn only serves: the writes of the commit in hand rest, or a flush does, and weren't let go on. (A hint: no clause speaks of it.)
     pub fn rests(&self) -> bool {
         match &self.seat {
             Some(seat) => seat.rests(),

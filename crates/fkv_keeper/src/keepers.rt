@@ -14,7 +14,7 @@ ghost use Rattle.fkv_keeper.specs.declared.answers.KeeperTold.TheVariants.{Devic
 ghost use Rattle.fkv_disk.specs.Device.{Elapses, HasCause, MakesCalls};
 ghost use Rattle.fkv_flush.specs.Devices.{Adds};
 ghost use Rattle.fkv_keeper.specs.KeeperAsks.{IsBusyWhereLeft, keeper_asks_left, most_begin_asks, most_turn_asks, keeper_calls, keeper_calls_asked, keeper_due, keeper_made, keeper_read};
-ghost use Rattle.fkv_keeper.specs.Keeping.{commit_asked, turn_asked, keeper_ask, keeper_next, keeper_given, keeper_called, granted_for, is_resting, may_copy, turn_called, writes_called, keeper_word_due};
+ghost use Rattle.fkv_keeper.specs.Keeping.{commit_asked, turn_asked, keeper_ask, keeper_next, keeper_given, keeper_called, granted_for, is_resting, serves_alone, may_copy, turn_called, writes_called, keeper_word_due};
 ghost use Rattle.fkv_keeper.specs.KeeperRun.{IsOpened};
 ghost use Rattle.fkv_keeper.specs.NewKeepers.{IsNewKeeper};
 ghost use Rattle.fkv_keeper.specs.declared.keepers.Keeping.TheVariants.{Ended, Maintains};
@@ -289,9 +289,15 @@ impl Keeper {
         self.ask()
     }
 
-    /// Whether the writes of the commit in hand rest, or a flush does: then a turn ended before a sync, and the next one only serves, up
-    /// to where it is let go on.
+    /// Whether the next turn only serves: the writes of the commit in hand rest before a sync, or a flush does, and weren't let go on.
     pub fn rests(&self) -> bool
+        ensures { result ≡ serves_alone self.now.state }
+    {
+        self.rests || (self.maintain.is_flush_resting() && !self.is_granted)
+    }
+
+    /// Whether the writes of the commit in hand rest, or a flush does. There a step is granted that they go on, and no memory.
+    pub fn is_resting(&self) -> bool
         ensures { result ≡ is_resting self.now.state }
     {
         self.rests || self.maintain.is_flush_resting()

@@ -166,18 +166,11 @@ impl Keeper {
     pub(crate) fn begins_parts(&mut self)
         ensures { self.new ≡ record self.old { state = record self.old.state { maintain = parts_begun (serves_alone self.old.state) self.old.state.maintain } } }
     {
-        if self.serves_alone() {
+        if self.rests() {
             self.maintain.start_serving();
         } else {
             self.maintain.start();
         }
-    }
-
-    /// Whether the turn that begins only serves: something rests that isn't granted to go on.
-    fn serves_alone(&self) -> bool
-        ensures { result ≡ serves_alone self.now.state }
-    {
-        self.rests || (self.maintain.is_flush_resting() && !self.is_granted)
     }
 
     #[tactic(auto, unfolding(crate::specs::Keeping::maintain_ledto))]

@@ -95,7 +95,7 @@ fn the_flush_rests(rt: &impl Abort, own: &mut SmallStore, disk: &mut MemDisk) {
     a_read_is_served(rt, own, disk);
     rests_on(rt, own, disk, 0);
     turns_to(rt, own, disk, &turned(), 0);
-    assert!(rt; own.keeper.rests());
+    assert!(rt; !own.keeper.rests());
     is_flushed(rt, own, 1);
 }
 

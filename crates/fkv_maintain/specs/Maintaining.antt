@@ -1,11 +1,13 @@
 -- What a turn of the keeper does whether a commit is in hand or not: it scans, runs what is armed, flushes, shifts the read-only offset,
 -- opens a page or moves the head for it, and serves the mailboxes.
-use Rattle.std.specs.Prelude.{ℕ, List, [], Bool, true, false, not, ◌&&◌, if◌then◌else◌, Option, None}
+use Rattle.std.specs.Prelude.{ℕ, List, [], Bool, true, false, not, ◌&&◌, if◌then◌else◌, Option, Some, None}
 use Rattle.fkv_base.specs.declared.numbers.Addr.{Addr}
 use Rattle.fkv_base.specs.declared.shapes.Shape.{Shape}
 use Rattle.fkv_base.specs.Limits.{is_specified}
 use Rattle.fkv_disk.specs.Asks.{AskedCall, first_asked}
 use Rattle.fkv_disk.specs.Calls.{Call}
+use Rattle.fkv_disk.specs.declared.asks.DeviceAsk.{DeviceAsk}
+use Rattle.fkv_disk.specs.declared.asks.DeviceAsk.TheVariants as ask
 use Rattle.fkv_plane.specs.declared.actions.Action.{Action}
 use Rattle.fkv_plane.specs.declared.asks.Ask.{Ask}
 use Rattle.fkv_plane.specs.declared.asks.Ask.TheVariants.{Done}
@@ -88,7 +90,12 @@ abbrev pub is_sync_due : Flushing → Bool
 is_sync_due (Syncs end) = true
 is_sync_due step = false
 
--- where that is so as a turn begins, the flush rests
+-- then the call of the device that it makes next is a sync
+abbrev pub is_sync_asked : Option DeviceAsk → Bool
+is_sync_asked (Some ask.Sync) = true
+is_sync_asked asked = false
+
+-- where its sync is due as a turn begins, the flush rests
 abbrev pub is_flush_resting : MaintainState → Bool
 is_flush_resting s = is_sync_due s.flushing
 

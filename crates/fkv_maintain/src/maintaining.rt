@@ -13,7 +13,7 @@ ghost use Rattle.fkv_maintain.specs.declared.maintaining.MaintainAnswer.TheVaria
 ghost use Rattle.fkv_maintain.specs.declared.maintaining.Maintaining.TheVariants.{Through, Broken, Flushes};
 ghost use Rattle.fkv_plane.specs.Passing.{is_done};
 ghost use Rattle.fkv_plane.specs.declared.asks.Ask.TheVariants.{Done};
-ghost use Rattle.fkv_maintain.specs.Maintaining.{maintain_begun, maintain_serving, maintain_ask, maintain_next, maintain_given, maintain_called, maintain_asked, maintain_calls, maintain_calls_asked, maintain_made, device_asked, flush_told, is_flush_resting, scan_ledto, claim_ledto, flush_ledto, shift_ledto, turn_ledto, serve_begun, serve_ledto, turn_form, maintain_word_due};
+ghost use Rattle.fkv_maintain.specs.Maintaining.{maintain_begun, maintain_serving, maintain_ask, maintain_next, maintain_given, maintain_called, maintain_asked, maintain_calls, maintain_calls_asked, maintain_made, device_asked, flush_told, is_flush_resting, is_sync_asked, scan_ledto, claim_ledto, flush_ledto, shift_ledto, turn_ledto, serve_begun, serve_ledto, turn_form, maintain_word_due};
 
 use fkv_base::{Addr, Fault, Shape, StoreClass};
 use fkv_disk::{Device, DeviceAsk};
@@ -298,8 +298,8 @@ impl Maintain {
         ensures { result ≡ is_flush_resting self.now.state }
     {
         match self.flush.device_ask() {
-            Some(DeviceAsk::Sync) => true,
-            Some(DeviceAsk::Read(_, _) | DeviceAsk::Write(_, _)) | None => false,
+            Some(ask) => is_sync(&ask),
+            None => false,
         }
     }
 
@@ -409,6 +409,16 @@ impl Maintain {
         if let Ask::Done(DeviceAnswer::Through) = ask {
             self.step = Maintaining::Through;
         }
+    }
+}
+
+// Whether the call of the device is a sync.
+fn is_sync(ask: &DeviceAsk<'_>) -> bool
+    ensures { result ≡ is_sync_asked (Some ask.now) }
+{
+    match ask {
+        DeviceAsk::Sync => true,
+        DeviceAsk::Read(_, _) | DeviceAsk::Write(_, _) => false,
     }
 }
 

@@ -182,7 +182,7 @@ fn ask_word<D: Device, E: OfKeeper>(
 fn is_granted(machine: &fkv_keeper::Keeper, room: &Option<CopyRoom>, goes_on: bool) -> bool
     ensures { result ≡ said.granted_for machine.now.state (is_some room.now) goes_on }
 {
-    if machine.rests() {
+    if machine.is_resting() {
         goes_on
     } else {
         room.is_some()

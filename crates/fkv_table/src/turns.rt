@@ -62,9 +62,9 @@ impl Keeper {
         }
     }
 
-    /// Whether the writes of the commit in hand rest before a sync, or a flush does.
+    /// Whether the next turn only serves: the writes of the commit in hand rest before a sync, or a flush does, and weren't let go on.
     pub fn rests(&self) -> bool
-        ensures { result ≡ said.is_resting self.now.machine.state }
+        ensures { result ≡ said.serves_alone self.now.machine.state }
     {
         self.machine.rests()
     }

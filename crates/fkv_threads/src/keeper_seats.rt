@@ -94,7 +94,7 @@ impl<D: Device + Drop> KeeperSeat<D> {
         next
     }
 
-    /// Whether the writes of the commit in hand rest, or a flush does: behind a turn that came to a sync. (A hint: no clause speaks of it.)
+    /// Whether the next turn only serves: the writes of the commit in hand rest before a sync, or a flush does, and weren't let go on. (A hint: no clause speaks of it.)
     pub fn rests(&self) -> bool {
         self.keeper.rests()
     }

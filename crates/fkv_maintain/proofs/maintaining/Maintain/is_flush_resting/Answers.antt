@@ -1,13 +1,11 @@
 -- By the call of the device that the flush makes next.
-use Rattle.std.proofs.Common.{◌∙◌, ap}
-use Rattle.fkv_maintain.proofs.FlushRests.{is_sync_asked, due_so}
+use Rattle.std.proofs.Common.{◌∙◌}
+use Rattle.std.specs.Prelude.{Some, None}
+use Rattle.fkv_maintain.proofs.FlushRests.{due_so}
 use Rattle.fkv_maintain.proofs.maintaining.Maintain.is_flush_resting.Goals as goal
 
-pub returns-in-Some-Sync : goal.returns-in-Some-Sync
-returns-in-Some-Sync c = let flush = c.self.inside.flush in rw (← c.self.view_is) (ap is_sync_asked c.in-Some-Sync.ensures ∙ due_so flush.shape flush.bytes flush.step)
+pub returns-in-Some : goal.returns-in-Some
+returns-in-Some c = let flush = c.self.inside.flush in rw (← c.self.view_is) (c.is_sync.ensures ∙ due_so flush.shape flush.bytes flush.step (Some c.in-Some.ask) c.in-Some.ensures)
 
-pub returns-in-Some-Read : goal.returns-in-Some-Read
-returns-in-Some-Read c = let flush = c.self.inside.flush in rw (← c.self.view_is) (ap is_sync_asked c.in-Some-Read.ensures ∙ due_so flush.shape flush.bytes flush.step)
-
-pub returns-in-Some-Read-2 : goal.returns-in-Some-Read-2
-returns-in-Some-Read-2 c = let flush = c.self.inside.flush in rw (← c.self.view_is) (ap is_sync_asked c.in-Some-Read.ensures ∙ due_so flush.shape flush.bytes flush.step)
+pub returns-in-None : goal.returns-in-None
+returns-in-None c = let flush = c.self.inside.flush in rw (← c.self.view_is) (due_so flush.shape flush.bytes flush.step None c.in-None.ensures)
