@@ -50,7 +50,7 @@ use Rattle.fkv_keeper.specs.declared.answers.KeeperTold.TheVariants.{Device}
 use Rattle.fkv_keeper.specs.declared.keepers.Keeping.{Keeping}
 use Rattle.fkv_keeper.specs.declared.keepers.Keeping.TheVariants as keeping
 use Rattle.law_world.specs.GuardKeeper.CommitEvents.{defer_events, start_begins, enter_begins, seek_begins, starting_events, entered_events, entering_events, seeking_events, finishing_events}
-use Rattle.law_world.specs.GuardKeeper.KeeperActors.{actor_by, is_aside, keeper_actor, keeping_aside, maintaining_aside}
+use Rattle.law_world.specs.GuardKeeper.KeeperActors.{actor_by, is_aside, keeper_actor, keeping_aside, maintaining_aside, other_actor, other_by}
 use Rattle.law_world.specs.GuardKeeper.KeeperEvents.{part_begins, keeping_events, write_events, keeping_called_events, keeper_events_at, keeper_move_events, turn_asked_events, turn_task}
 use Rattle.law_world.specs.GuardKeeper.MaintainEvents.{scan_events, then_flushes, claim_events, shifter, flush_events, shift_events, turn_events, maintain_events, maintain_called_events}
 use Rattle.law_world.proofs.OfGuarded.OneStep.{IsStep, IsStepOf, IsOwn, OfKeeper, OfKeepers, mine, beside, one_of, then_own, then_quiet_of, nobodys, by_test_of, keeper_step}
@@ -203,6 +203,13 @@ actor_low k false = omega arith
 
 pub actor_above : (k : ℕ) (s : KeeperState) → k ≤ keeper_actor k s
 actor_above k s = actor_low k (is_aside s)
+
+other_low : (k : ℕ) (aside : Bool) → k ≤ other_by k aside
+other_low k true = omega arith
+other_low k false = omega arith
+
+pub other_above : (k : ℕ) (s : KeeperState) → k ≤ other_actor k s
+other_above k s = other_low k (is_aside s)
 
 first_part : (m : MaintainState) (step : Maintaining) → is_flush_resting m ≡ false → maintaining_aside m step ≡ false
 first_part m maintain.Flushes awake = refl
