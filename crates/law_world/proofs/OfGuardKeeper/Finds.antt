@@ -45,7 +45,7 @@ use Rattle.law_world.specs.GuardKeeper.Followed.{IsKeepers, KeeperLed, likeness}
 use Rattle.law_world.specs.GuardKeeper.KeeperShown.{KeepingKnows, keeping_machine, keeping_work}
 use Rattle.law_world.specs.GuardKeeper.MaintainShown.{maintaining_machine}
 use Rattle.law_world.specs.GuardKeeper.Settled.{is_of_slot}
-use Rattle.law_world.proofs.OfGuardKeeper.HandsOver.{taken_asks, takes_up}
+use Rattle.law_world.proofs.OfGuardKeeper.HandsOver.{taken_asks, takes_up, truth}
 use Rattle.law_world.proofs.OfGuardKeeper.CommitPuts.{start_puts, enter_puts, seek_puts}
 use Rattle.law_world.proofs.OfGuardKeeper.EndKept.{copy_quiet, wait_quiet, finish_quiet, finish_slot}
 use Rattle.law_world.proofs.OfGuardKeeper.KeeperLed.{keeper_settles}
@@ -226,7 +226,7 @@ keeper_takes w a x seen s granted slot keeps asks takes = by_found (action_at w.
 
     -- a flush that is taken up asks nothing of a slot
     plain : takes_up s s.step reply ≡ false
-    plain = elim (by_truth (takes_up s s.step reply)) [
+    plain = elim (truth (takes_up s s.step reply)) [
       | inl up ↦ clash (is_of_slot (keeper_ask w.now.shape w.now.places there)) (ap is_of_slot takes) (ap is_of_slot (taken_asks w.now.shape w.now.places s reply granted up))
       | inr stays ↦ stays
     ]

@@ -1,5 +1,5 @@
 -- Where the keeper's work goes from one of its actors to the other: a flush that rests is taken up, or one comes to rest.
-use Rattle.std.proofs.Common.{◌≡◌, ℕ, refl, Bool, true, false}
+use Rattle.std.proofs.Common.{◌≡◌, ◌⊎◌, inl, inr, ℕ, refl, Bool, true, false}
 use Rattle.std.specs.Prelude.{not, ◌&&◌}
 use Rattle.fkv_base.specs.Limits.{is_specified}
 use Rattle.fkv_base.specs.declared.shapes.Shape.{Shape}
@@ -19,6 +19,10 @@ use Rattle.fkv_keeper.specs.declared.keepers.Keeping.{Keeping}
 use Rattle.fkv_keeper.specs.declared.keepers.Keeping.TheVariants as keeping
 use Rattle.fkv_keeper.specs.declared.answers.KeeperTold.TheVariants as told
 use Rattle.fkv_keeper.specs.Keeping.{KeeperState, device_passed, keeper_ask, keeper_next, keeping_ask, keeping_next, maintain_ledto}
+
+pub truth : (b : Bool) → (b ≡ true) ⊎ (b ≡ false)
+truth true = inl refl
+truth false = inr refl
 
 -- the claims end, where a flush rests
 abbrev pub claim_takes_up : Flushing → Claiming → Bool
