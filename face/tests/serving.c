@@ -16,7 +16,7 @@
 #include <time.h>
 #include <unistd.h>
 
-enum { KEYS = 1200, MOST_KEYS = 2000, SYNC_NS = 20000000, SERVED = 50, COMMITS = 6, MOST_READS = 1000000, MOST_SYNCS = 16, MOST_SECONDS = 120, PATH_ROOM = 500 };
+enum { KEYS = 1200, OTHERS = 800, SYNC_NS = 20000000, SERVED = 50, COMMITS = 6, MOST_READS = 1000000, MOST_SYNCS = 16, MOST_SECONDS = 120, PATH_ROOM = 500 };
 
 /* Small pages and little memory, so that most records lie in the file alone. */
 static const fkv_shape SHAPE = {10, 16, 8, 4, 3, 64, 16384};
@@ -115,8 +115,8 @@ static atomic_bool ends_puts;
 /* Puts until it is told to end, so that pages are flushed one after the other. */
 static void *put_on(void *none) {
     fkv_session *session = joined_as(1);
-    for (uint64_t key = KEYS; !atomic_load(&ends_puts); key++) {
-        WANTS("a put", fkv_put(file, session, key % MOST_KEYS, key + 1, NULL), FKV_DONE);
+    for (uint64_t i = 0; !atomic_load(&ends_puts); i++) {
+        WANTS("a put", fkv_put(file, session, KEYS + i % OTHERS, i, NULL), FKV_DONE);
         WANTS("a tick", fkv_tick(file, session), 0);
     }
     WANTS("leaving", fkv_leave(file, session), 0);

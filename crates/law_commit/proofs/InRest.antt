@@ -25,6 +25,8 @@ use Rattle.law_refine.specs.Below.fkv_keeper.KeeperRun.{BeginsCommit, BeginsTurn
 use Rattle.law_refine.proofs.Below.fkv_keeper.Shown.{BeginsRest, each_rests, run_rests}
 use Rattle.law_refine.proofs.Below.law_world.OfStanding.Runs.{happens_at, happens_so}
 use Rattle.law_commit.specs.BegunCommits.{BegunCommit, begun_by}
+use Rattle.fkv_keeper.specs.Keeping.{serves_alone, unless_flush_rests, turned}
+use Rattle.fkv_maintain.specs.Maintaining.{is_flush_resting}
 
 -- where no writes rest a keeper has come to its step
 pub come_awake : (s : KeeperState) (step : Keeping) → s.rests ≡ false → s.step ≡ step → come_to s ≡ step
@@ -105,10 +107,14 @@ maintain_after s m ask rests = record { kept = record { commit = refl; writes = 
 
 phase_after : (p : Places) (s : KeeperState) (found : Option Commit) (said : PhaseSaid) (granted : Bool) → s.rests ≡ true → AfterRest s (phase_ledto p s found said granted)
 unfolding phase_ledto
-phase_after p s None said granted rests = record { kept = record { commit = refl; writes = refl; points = refl; taken = refl; used = refl; last = refl; lost = refl }; goes = inl rests }
+phase_after p s None said granted rests = by (is_flush_resting s.maintain)
+  where
+    by : (b : Bool) → AfterRest s (if b then turned (record s { is_granted = granted }) else turned s)
+    by true = record { kept = record { commit = refl; writes = refl; points = refl; taken = refl; used = refl; last = refl; lost = refl }; goes = inl rests }
+    by false = record { kept = record { commit = refl; writes = refl; points = refl; taken = refl; used = refl; last = refl; lost = refl }; goes = inl rests }
 phase_after p s (Some c) said granted rests = by s.rests rests granted
   where
-    by : (b : Bool) → b ≡ true → (granted : Bool) → AfterRest s (if b then writes_taken_up s granted else part_begun p s c said granted)
+    by : (b : Bool) → b ≡ true → (granted : Bool) → AfterRest s (if b then writes_taken_up s granted else unless_flush_rests s granted (part_begun p s c said granted))
     by true so true = record {
       kept = record { commit = refl; writes = refl; points = refl; taken = refl; used = refl; last = refl; lost = refl };
       goes = inr (inl (record { awake = refl; writes = refl }));
@@ -122,7 +128,7 @@ either_after s false x y one other = other
 
 turn_after : (s : KeeperState) → s.rests ≡ true → AfterRest s (turn_asked s)
 turn_after s rests =
-    either_after s s.is_broken (ended s (TurnRefused fault.Broken)) (record s { maintain = parts_begun s.rests s.maintain; is_drain_full = false; step = Maintains })
+    either_after s s.is_broken (ended s (TurnRefused fault.Broken)) (record s { maintain = parts_begun (serves_alone s) s.maintain; is_drain_full = false; step = Maintains })
     (record { kept = record { commit = refl; writes = refl; points = refl; taken = refl; used = refl; last = refl; lost = refl }; goes = inl rests }) (record { kept = record { commit = refl; writes = refl; points = refl; taken = refl; used = refl; last = refl; lost = refl }; goes = inl rests })
 
 commit_after : (s : KeeperState) (kind : CommitKind) → s.rests ≡ true → AfterRest s (commit_asked s kind)

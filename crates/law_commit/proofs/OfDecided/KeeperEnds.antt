@@ -53,6 +53,8 @@ use Rattle.law_refine.specs.Below.fkv_keeper.KeeperRun.{is_in_hand}
 use Rattle.law_refine.specs.Below.fkv_keeper.Keeping.{KeeperState, commit_asked, copied, copies, copies_next, copy_driven, copy_ledto, ended, enter_ledto, finish_ledto, finished, keeping_called, keeping_given, keeping_next, maintain_ledto, must_rest, part_begun, parts_begun, phase_ledto, points_known, seek_ledto, start_ledto, triples_written, turn_asked, turned, wait_ledto, write_ledto, writes_begun, writes_called, writes_taken_up, copy_taken, is_copy_resting, copy_told, asked_for}
 use Rattle.law_refine.specs.Below.fkv_world.World.{keeper_asked}
 use Rattle.law_commit.specs.Decided.Ended.{Span, span_in}
+use Rattle.fkv_keeper.specs.Keeping.{serves_alone, unless_flush_rests, turned}
+use Rattle.fkv_maintain.specs.Maintaining.{is_flush_resting}
 
 some_same : {X : Type 0} {x y : X} → ◌≡◌ {A = Option X} (Some x) (Some y) → x ≡ y
 some_same e = cc
@@ -284,9 +286,10 @@ module _ (F : Version → Addr → Type 0) (E : Span → Type 0) where
 
   phase_ends : (p : Places) (s : KeeperState) (found : Option Commit) (said : PhaseSaid) (granted : Bool) → s.commit ≡ found → (s.is_broken ≡ false) × IsHeld s → KeeperEnds (phase_ledto p s found said granted)
   unfolding phase_ledto
-  phase_ends p s None said granted is its = λ works. its.1
+  phase_ends p s None said granted is its = either_ends (is_flush_resting s.maintain) (turned (record s { is_granted = granted })) (turned s) (λ yes. (λ works. its.1)) (λ no. (λ works. its.1))
   phase_ends p s (Some c) said granted is its =
-      either_ends s.rests (writes_taken_up s granted) (part_begun p s c said granted) (λ rests. taken_up_ends s granted its.1 (held_at s true rests its.1)) (λ awake. part_ends p s c said granted awake is its.0 (held_at s false awake its.1))
+      either_ends s.rests (writes_taken_up s granted) (unless_flush_rests s granted (part_begun p s c said granted)) (λ rests. taken_up_ends s granted its.1 (held_at s true rests its.1))
+      (λ awake. either_ends (is_flush_resting s.maintain) (turned (record s { is_granted = granted })) (part_begun p s c said granted) (λ yes. (λ works. its.1)) (λ no. part_ends p s c said granted awake is its.0 (held_at s false awake its.1)))
 
   entered_ends : (s : KeeperState) (ask : Ask EnterAnswer) → s.step ≡ Enters → Hand s × (s.rests ≡ false) → KeeperEnds (enter_ledto s ask)
   unfolding enter_ledto
@@ -468,7 +471,7 @@ module _ (F : Version → Addr → Type 0) (E : Span → Type 0) where
   -- what is begun where no call is in hand
   turn_ends : (s : KeeperState) → (s.is_broken ≡ false → IsHeld s) → KeeperEnds (turn_asked s)
   turn_ends s hand =
-      either_ends s.is_broken (ended s (TurnRefused fault.Broken)) (record s { maintain = parts_begun s.rests s.maintain; is_drain_full = false; step = Maintains }) (λ yes. hand) (λ no. (no, hand no))
+      either_ends s.is_broken (ended s (TurnRefused fault.Broken)) (record s { maintain = parts_begun (serves_alone s) s.maintain; is_drain_full = false; step = Maintains }) (λ yes. hand) (λ no. (no, hand no))
 
   commit_ends : (s : KeeperState) (kind : CommitKind) → (s.is_broken ≡ false → IsHeld s) → KeeperEnds (commit_asked s kind)
   commit_ends s kind hand =

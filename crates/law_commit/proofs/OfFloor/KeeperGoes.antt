@@ -57,6 +57,8 @@ use Rattle.law_refine.proofs.Footprint.Commits.{finish_stores, seek_stores, star
 use Rattle.law_commit.specs.Phases.Staged.{Stage, StepAt}
 use Rattle.law_commit.proofs.OfFloor.KeeperFits.{EnterFits, Ground, HandFits, IsEnding, IsSafeEnding, KeeperFits, KeepingFits, SeekFits, StartFits, WaitFits}
 use Rattle.law_commit.proofs.OfFloor.PartsFit.{EnterReply, SeekReply, SeekTells, StartReply, StartTells, WaitReply, enter_goes_fits, enter_put_fits, owing_fits, seek_goes_fits, seek_put_fits, seek_tells_fits, start_goes_fits, start_put_fits, start_tells_fits, wait_goes_fits}
+use Rattle.fkv_keeper.specs.Keeping.{serves_alone, unless_flush_rests, turned}
+use Rattle.fkv_maintain.specs.Maintaining.{is_flush_resting}
 
 -- ---- where the hand stays
 some_same : {X : Type 0} {x y : X} → ◌≡◌ {A = Option X} (Some x) (Some y) → x ≡ y
@@ -116,9 +118,10 @@ taken_up_fits g s granted hand rests =
 
 phase_fits : (g : Ground) (p : Places) (s : KeeperState) (found : Option Commit) (said : PhaseSaid) (granted : Bool) → s.commit ≡ found → HandFits g s.commit s.has_points s.rests → KeeperFits g (phase_ledto p s found said granted)
 unfolding phase_ledto
-phase_fits g p s None said granted is hand = ended_fits g s _ hand
+phase_fits g p s None said granted is hand = either_fits g (is_flush_resting s.maintain) (turned (record s { is_granted = granted })) (turned s) (λ yes. record { hand = hand; step = tt }) (λ no. ended_fits g s _ hand)
 phase_fits g p s (Some c) said granted is hand =
-    either_fits g s.rests (writes_taken_up s granted) (part_begun p s c said granted) (λ rests. taken_up_fits g s granted hand rests) (λ awake. part_fits g p s c said granted awake is hand)
+    either_fits g s.rests (writes_taken_up s granted) (unless_flush_rests s granted (part_begun p s c said granted)) (λ rests. taken_up_fits g s granted hand rests)
+    (λ awake. either_fits g (is_flush_resting s.maintain) (turned (record s { is_granted = granted })) (part_begun p s c said granted) (λ yes. record { hand = hand; step = tt }) (λ no. part_fits g p s c said granted awake is hand))
 
 -- ---- the parts of a commit
 entered_fits : (g : Ground) (s : KeeperState) (ask : Ask EnterAnswer) → s.step ≡ Enters → HandFits g s.commit s.has_points s.rests → EnterFits g s.enter s.enter.step → KeeperFits g (enter_ledto s ask)
@@ -299,7 +302,7 @@ called_fits g shape p s step done bytes at hand fits its = its
 -- ---- what is begun where no call is in hand
 pub turn_asked_fits : (g : Ground) (s : KeeperState) → HandFits g s.commit s.has_points s.rests → KeeperFits g (turn_asked s)
 turn_asked_fits g s hand =
-    either_fits g s.is_broken (ended s (TurnRefused fault.Broken)) (record s { maintain = parts_begun s.rests s.maintain; is_drain_full = false; step = Maintains }) (λ yes. ended_fits g s _ hand) (λ no. record { hand = hand; step = tt })
+    either_fits g s.is_broken (ended s (TurnRefused fault.Broken)) (record s { maintain = parts_begun (serves_alone s) s.maintain; is_drain_full = false; step = Maintains }) (λ yes. ended_fits g s _ hand) (λ no. record { hand = hand; step = tt })
 
 pub commit_asked_fits : (g : Ground) (s : KeeperState) (kind : CommitKind) → HandFits g s.commit s.has_points s.rests → KeeperFits g (commit_asked s kind)
 commit_asked_fits g s kind hand =

@@ -60,6 +60,8 @@ use Rattle.law_refine.specs.Below.fkv_keeper.Keeping.{KeeperState, ended, turned
 use Rattle.law_refine.specs.Below.fkv_keeper.KeeperRun.{is_in_hand}
 use Rattle.law_commit.specs.Phases.Staged.{FitsVersion, DefersAt, defer_moves, Stage, Rests, Prepares, DefersProgress, Progresses, DefersPending, Pends, Flushes, stage_phase, stage_version, is_resting, is_early, StartsIt, StartAt, EnterAt, SeekAt, FinishAt, StepAt, EarlyAt, HasInHand, KeeperAt, start_moves, enter_moves, seek_moves, finish_moves, keeping_moves, finish_number, keeping_number}
 use Rattle.law_commit.proofs.OfPhases.CommitStages.{StartSays, start_goes, enter_goes, SeeksAt, seek_begins, seek_goes}
+use Rattle.fkv_keeper.specs.Keeping.{serves_alone, unless_flush_rests, turned}
+use Rattle.fkv_maintain.specs.Maintaining.{is_flush_resting}
 
 -- ---- where nothing but the control state changes
 ended_at : (number : Version) (stage : Stage) (s : KeeperState) (told : KeeperTold) → HasInHand number stage s → (s.has_entered ≡ false → is_early stage ≡ true) → KeeperAt number stage (ended s told)
@@ -211,10 +213,10 @@ taken_up_at number stage s granted has early is =
 phase_at : (number : Version) (stage : Stage) (p : Places) (s : KeeperState) (found : Option Commit) (granted : Bool) → s.commit ≡ found → HasInHand number stage s → (s.has_entered ≡ false → is_early stage ≡ true)
     → KeeperAt number stage (phase_ledto p s found (Says (stage_phase stage) (stage_version number stage)) granted)
 unfolding phase_ledto
-phase_at number stage p s None granted at has early = ended_at number stage s _ has early
+phase_at number stage p s None granted at has early = either_at number stage (is_flush_resting s.maintain) (turned (record s { is_granted = granted })) (turned s) (λ yes. record { has = record { next = has.next; hand = has.hand; rests = has.rests }; early = early; step = tt }) (λ no. ended_at number stage s _ has early)
 phase_at number stage p s (Some c) granted at has early =
-    either_at number stage s.rests (writes_taken_up s granted) (part_begun p s c (Says (stage_phase stage) (stage_version number stage)) granted) (λ rests. taken_up_at number stage s granted has early (has.rests rests))
-    (λ awake. part_at number p s c at granted stage awake has early)
+    either_at number stage s.rests (writes_taken_up s granted) (unless_flush_rests s granted (part_begun p s c (Says (stage_phase stage) (stage_version number stage)) granted)) (λ rests. taken_up_at number stage s granted has early (has.rests rests))
+    (λ awake. either_at number stage (is_flush_resting s.maintain) (turned (record s { is_granted = granted })) (part_begun p s c (Says (stage_phase stage) (stage_version number stage)) granted) (λ yes. record { has = record { next = has.next; hand = has.hand; rests = has.rests }; early = early; step = tt }) (λ no. part_at number p s c at granted stage awake has early))
 
 -- ---- the parts that defer wait-pending, copy and seek
 abbrev EnterTells : Stage → Ask EnterAnswer → Type 0
@@ -446,7 +448,7 @@ pub turn_asked_at : (number : Version) (stage : Stage) (s : KeeperState) → Kee
 turn_asked_at number stage s its idle =
     let has = its.has in
     let early = idle_early stage s s.step idle its.early in
-    either_at number stage s.is_broken (ended s (TurnRefused fault.Broken)) (record s { maintain = parts_begun s.rests s.maintain; is_drain_full = false; step = Maintains })
+    either_at number stage s.is_broken (ended s (TurnRefused fault.Broken)) (record s { maintain = parts_begun (serves_alone s) s.maintain; is_drain_full = false; step = Maintains })
     (λ yes. ended_at number stage s _ has early) (λ no. record { has = record { next = has.next; hand = has.hand; rests = has.rests }; early = early; step = tt })
 
 pub commit_asked_at : (number : Version) (stage : Stage) (s : KeeperState) (kind : CommitKind) → KeeperAt number stage s → is_in_hand s.step ≡ false → KeeperAt number stage (commit_asked s kind)

@@ -54,6 +54,7 @@ use Rattle.law_log.specs.Trace.{IsIn}
 use Rattle.law_commit.proofs.Below.law_world.OfStanding.Runs.{calls_at, happens_at, happens_so}
 use Rattle.law_commit.specs.Below.law_world.Standing.CallsMade.{calls_of}
 use Rattle.law_commit.specs.Below.law_world.Standing.Standing.{Standing, is_at_writes, is_writing_after, standing_after, triples_used}
+use Rattle.fkv_keeper.specs.Keeping.{serves_alone}
 
 -- ---- where no writes are near
 abbrev IsCalm : Keeping → Type 0
@@ -207,7 +208,7 @@ module _ (shape : Shape) (opened : List ℕ) (first : BegunCommit) (Good : Begun
   works told last true its w calls begun is = let clash = is.0 in cc
 
   turn_on : (s : KeeperState) (told : KeeperTold) (was : Bool) (its : Standing) (w : Writing) (calls : List Call) (begun : List BegunCommit) (broken : Bool) → s.is_broken ≡ broken → EndedAt told broken was s.last its w calls begun
-      → (let a = if broken then ended s (TurnRefused fault.Broken) else record s { maintain = parts_begun s.rests s.maintain; is_drain_full = false; step = Maintains } in Stands (is_writing_after a.step was) a its w calls begun)
+      → (let a = if broken then ended s (TurnRefused fault.Broken) else record s { maintain = parts_begun (serves_alone s) s.maintain; is_drain_full = false; step = Maintains } in Stands (is_writing_after a.step was) a its w calls begun)
   turn_on s told was its w calls begun true e is = refuses told fault.Broken s was its w calls begun e is
   turn_on s told was its w calls begun false e is = works told s.last was its w calls begun is
 

@@ -52,6 +52,8 @@ use Rattle.law_commit.specs.Below.fkv_world.World.{Event}
 use Rattle.law_commit.proofs.Below.fkv_world.Shown.{keeper_runs}
 use Rattle.law_order.proofs.OfImages.Resting.{RestsWell, at_step, happens_well, kept_on, opened_at, opened_well}
 use Rattle.law_order.proofs.OfImages.Untouched.{AreAbove, MakesAbove, flush_calls_above}
+use Rattle.fkv_keeper.specs.Keeping.{unless_flush_rests}
+use Rattle.fkv_maintain.specs.Maintaining.{is_flush_resting}
 
 -- ---- while a commit is written, its slot and its triples lie above the block
 abbrev WritesHigh : Keeping → CommitWriter → Type 0
@@ -105,12 +107,12 @@ part_high p s c said granted = tt
 
 phase_high : (p : Places) (s : KeeperState) (found : Option Commit) (said : PhaseSaid) (granted : Bool) → s.rests ≡ false → IsHigh (phase_ledto p s found said granted)
 unfolding phase_ledto
-phase_high p s None said granted none = tt
+phase_high p s None said granted none = either (is_flush_resting s.maintain) _ _ tt tt
 phase_high p s (Some c) said granted none = by s.rests none
   where
-    by : (rests : Bool) → rests ≡ false → IsHigh (if rests then writes_taken_up s granted else part_begun p s c said granted)
+    by : (rests : Bool) → rests ≡ false → IsHigh (if rests then writes_taken_up s granted else unless_flush_rests s granted (part_begun p s c said granted))
     by true none = cc
-    by false none = part_high p s c said granted
+    by false none = either (is_flush_resting s.maintain) _ _ tt (part_high p s c said granted)
 
 enter_high : (s : KeeperState) (ask : Ask EnterAnswer) → s.step ≡ Enters → IsHigh (enter_ledto s ask)
 unfolding enter_ledto

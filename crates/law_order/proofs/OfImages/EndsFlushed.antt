@@ -55,6 +55,8 @@ use Rattle.law_commit.specs.Below.fkv_world.World.{Event, near}
 use Rattle.law_commit.proofs.Below.fkv_world.Shown.{happens_keeper}
 use Rattle.law_order.specs.Images.Ends.{CommitEndsBy, WrittenEndsBy}
 use Rattle.law_order.proofs.OfImages.Resting.{RestsWell, happens_well, kept_on, opened_at, opened_well}
+use Rattle.fkv_keeper.specs.Keeping.{unless_flush_rests}
+use Rattle.fkv_maintain.specs.Maintaining.{is_flush_resting}
 
 -- ---- in its wait it waits for its own end
 abbrev pub IsWaiting : Waiting → Type 0
@@ -116,12 +118,12 @@ part_ends most p s c said granted here = tt
 
 phase_ends : (most : ℕ) (p : Places) (s : KeeperState) (found : Option Commit) (said : PhaseSaid) (granted : Bool) → s.rests ≡ false → s.commit ≡ found → EndsNow most (phase_ledto p s found said granted)
 unfolding phase_ledto
-phase_ends most p s None said granted none here = tt
+phase_ends most p s None said granted none here = either most (is_flush_resting s.maintain) _ _ tt tt
 phase_ends most p s (Some c) said granted none here = by s.rests none
   where
-    by : (rests : Bool) → rests ≡ false → EndsNow most (if rests then writes_taken_up s granted else part_begun p s c said granted)
+    by : (rests : Bool) → rests ≡ false → EndsNow most (if rests then writes_taken_up s granted else unless_flush_rests s granted (part_begun p s c said granted))
     by true none = cc
-    by false none = part_ends most p s c said granted here
+    by false none = either most (is_flush_resting s.maintain) _ _ tt (part_ends most p s c said granted here)
 
 enter_ends : (most : ℕ) (s : KeeperState) (ask : Ask EnterAnswer) → s.step ≡ Enters → EndsNow most (enter_ledto s ask)
 unfolding enter_ledto

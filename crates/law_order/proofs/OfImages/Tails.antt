@@ -62,6 +62,8 @@ use Rattle.fkv_words.specs.PhaseWords.{phase_said}
 use Rattle.law_order.proofs.OfImages.Resting.{IsSameInHand, RestsWell, happens_well, kept_on}
 use Rattle.law_order.proofs.OfImages.WordsRead.{AllRead, Always, ReadsWord, always_last}
 use Rattle.law_commit.specs.Below.law_world.Standing.Opening.{AreNumbersInTurn, IsNumberInTurn}
+use Rattle.fkv_keeper.specs.Keeping.{unless_flush_rests}
+use Rattle.fkv_maintain.specs.Maintaining.{is_flush_resting}
 
 -- ---- what is known below a tail
 -- the begin, the tail and the commit's number with which the store was opened, and the tail now
@@ -245,12 +247,12 @@ part_on t p s c said granted is = is
 
 phase_on : (t : Bounds) (p : Places) (s : KeeperState) (found : Option Commit) (said : PhaseSaid) (granted : Bool) → s.rests ≡ false → Below t s.has_points s.last s.commit → IsNowAt t (phase_ledto p s found said granted)
 unfolding phase_ledto
-phase_on t p s None said granted none is = is
+phase_on t p s None said granted none is = either t (is_flush_resting s.maintain) _ _ is is
 phase_on t p s (Some c) said granted none is = by s.rests none
   where
-    by : (rests : Bool) → rests ≡ false → IsNowAt t (if rests then writes_taken_up s granted else part_begun p s c said granted)
+    by : (rests : Bool) → rests ≡ false → IsNowAt t (if rests then writes_taken_up s granted else unless_flush_rests s granted (part_begun p s c said granted))
     by true none = cc
-    by false none = part_on t p s c said granted is
+    by false none = either t (is_flush_resting s.maintain) _ _ is (part_on t p s c said granted is)
 
 enter_on : (t : Bounds) (s : KeeperState) (ask : Ask EnterAnswer) → s.step ≡ Enters → Below t s.has_points s.last s.commit → IsNowAt t (enter_ledto s ask)
 unfolding enter_ledto

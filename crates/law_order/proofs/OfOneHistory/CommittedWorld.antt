@@ -123,6 +123,7 @@ module _ (o : Opened) (new : IsNewStore shape o) where
         works = refl;
         granted = refl;
         none_rest = refl;
+        none_flushed = refl;
       }
 
   pub committed_opens : (n : Now) (one other : SessionState) → one.floor ≡ o.begin → other.floor ≡ o.begin → IsOpeningWorld o n → IsOpeningWorld o (worked_now (new_keeper n.keeper) one other)

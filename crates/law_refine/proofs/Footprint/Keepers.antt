@@ -49,6 +49,8 @@ use Rattle.law_refine.proofs.Footprint.Latching.{passed_spares}
 use Rattle.law_refine.proofs.Footprint.Serves.{IsServedNot}
 use Rattle.law_refine.proofs.Footprint.Commits.{IsStartSparing, start_stores, start_spares, start_next_spares, start_begun_spares, IsEnterSparing, enter_spares, enter_next_spares, enter_begun_spares, IsSeekSparing, seek_stores, seek_spares, seek_next_spares, seek_begun_spares, wait_spares, FinishBounds, IsStoredNot, finish_stores, finish_spares, finish_next_spares, finish_begun_spares}
 use Rattle.law_refine.proofs.Footprint.Maintains.{IsMaintainSparing, maintain_stores, maintain_spares, maintain_next_spares, maintain_given_spares, maintain_called_spares, maintain_begun_spares, serving_begun_spares}
+use Rattle.fkv_keeper.specs.Keeping.{serves_alone, unless_flush_rests, turned}
+use Rattle.fkv_maintain.specs.Maintaining.{is_flush_resting}
 
 -- the machine of its step keeps to its bounds
 abbrev pub KeeperBounds : ℕ → KeeperState → Keeping → Type 0
@@ -162,11 +164,11 @@ module _ (count : ℕ) where
 
   phase_spares : (p : Places) (n : ℕ) (s : KeeperState) (found : Option Commit) (said : PhaseSaid) (granted : Bool) → s.finish.sessions ≡ count → IsKeeperSparing n count (phase_ledto p s found said granted)
   unfolding phase_ledto
-  phase_spares p n s None said granted counts = ended_spares n s _ counts
+  phase_spares p n s None said granted counts = either_spares (is_flush_resting s.maintain) n (turned (record s { is_granted = granted })) (turned s) (record { counts = counts; bounds = tt }) (ended_spares n s _ counts)
   phase_spares p n s (Some c) said granted counts =
-      either_spares s.rests n (writes_taken_up s granted) (part_begun p s c said granted)
+      either_spares s.rests n (writes_taken_up s granted) (unless_flush_rests s granted (part_begun p s c said granted))
       (either_spares granted n (record s { rests = false; is_granted = true; step = Writes }) (turned (record s { is_granted = false })) (record { counts = counts; bounds = tt }) (record { counts = counts; bounds = tt }))
-      (part_spares p n s c said granted counts)
+      (either_spares (is_flush_resting s.maintain) n (turned (record s { is_granted = granted })) (part_begun p s c said granted) (record { counts = counts; bounds = tt }) (part_spares p n s c said granted counts))
 
   entered_spares : (n : ℕ) (s : KeeperState) (ask : Ask EnterAnswer) → s.step ≡ Enters → s.finish.sessions ≡ count → IsEnterSparing s.enter → IsKeeperSparing n count (enter_ledto s ask)
   unfolding enter_ledto
@@ -254,8 +256,8 @@ module _ (count : ℕ) where
 
   turn_spares : (shape : Shape) (s : KeeperState) → s.finish.sessions ≡ count → IsKeeperSparing shape.sessions count (turn_asked s)
   turn_spares shape s counts =
-      either_spares s.is_broken shape.sessions (ended s (TurnRefused fault.Broken)) (record s { maintain = parts_begun s.rests s.maintain; is_drain_full = false; step = Maintains }) (ended_spares shape.sessions s _ counts)
-      (record { counts = counts; bounds = parts_spares shape s.rests s.maintain })
+      either_spares s.is_broken shape.sessions (ended s (TurnRefused fault.Broken)) (record s { maintain = parts_begun (serves_alone s) s.maintain; is_drain_full = false; step = Maintains }) (ended_spares shape.sessions s _ counts)
+      (record { counts = counts; bounds = parts_spares shape (serves_alone s) s.maintain })
 
   commit_spares : (n : ℕ) (s : KeeperState) (kind : CommitKind) → s.finish.sessions ≡ count → IsKeeperSparing n count (commit_asked s kind)
   commit_spares n s kind counts =

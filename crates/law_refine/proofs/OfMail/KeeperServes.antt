@@ -29,6 +29,7 @@ use Rattle.law_world.specs.Below.fkv_world.OwnEvents.{keeper_got, keeper_slots, 
 use Rattle.law_world.proofs.Below.fkv_world.Shown.{keeper_runs_on}
 use Rattle.law_refine.specs.Mail.Servers.{maintain_serving, keeper_serving, serving_of, begin_of}
 use Rattle.law_refine.proofs.OfMail.KeeperParts.{TurnsWith, happens_with}
+use Rattle.fkv_keeper.specs.Keeping.{serves_alone}
 
 -- it is at the last part of a turn
 abbrev is_last_part : Maintaining → Bool
@@ -117,7 +118,7 @@ parts_idle false m = tt
 keeper_idle : (shape : Shape) (p : Places) (s : KeeperState) (event : KeeperEvent) → is_at_serve s s.step ≡ false → IsIdle (serving_of (keeper_happens shape p s event))
 keeper_idle shape p s event other =
     let a : KeeperState = keeper_happens shape p s event in
-    turn_idle a a.step (happens_with PartIsIdle shape p s event (not_serving s s.step other) (parts_idle s.rests s.maintain)
+    turn_idle a a.step (happens_with PartIsIdle shape p s event (not_serving s s.step other) (parts_idle (serves_alone s) s.maintain)
     (λ at next. part_idle shape p s.maintain next (subst (λ (x : Keeping). is_at_serve s x ≡ false) at other)))
 
 no_run : (shape : Shape) (p : Places) (s : KeeperState) → keeper_run shape p s [] ≡ s

@@ -40,6 +40,7 @@ use Rattle.law_world.proofs.OfGuarded.Outer.{write_outer}
 use Rattle.law_refine.proofs.OfRecords.FrameEvents.{HasWord, IsNoFrame, Writes, onward_none, no_frame, session_frame, writes_none}
 use Rattle.law_refine.proofs.OfRecords.FrameWords.{FrameWord, sitting_word}
 use Rattle.law_refine.proofs.OfRecords.Writers.{IsFrameWork, frame_work, change_none}
+use Rattle.fkv_keeper.specs.Keeping.{serves_alone}
 
 -- ---- the first event of a step alone may write a word
 quiet_same : (w : GuardWorld) (event : GuardEvent) (place : ℕ) → IsQuiet event → word_at (guard_happens w event).now.words place ≡ word_at w.now.words place
@@ -174,7 +175,7 @@ called_none n w place number call (Some s) its = by_test (is_busy s.step) its
 asked_none : (w : GuardWorld) (place a : ℕ) (s : KeeperState) → Writes w place (turn_asked_events a s) → ⊥
 asked_none w place a s its = by_tests (is_in_hand s.step) s.is_broken its
   where
-    by_tests : (b c : Bool) → Writes w place (if b then [] else (if c then [] else Begins a (turn_task s.maintain.begin.0 s.rests) ∷ [])) → ⊥
+    by_tests : (b c : Bool) → Writes w place (if b then [] else (if c then [] else Begins a (turn_task s.maintain.begin.0 (serves_alone s)) ∷ [])) → ⊥
     by_tests true c its = its
     by_tests false true its = its
     by_tests false false (inl e) = writes_none place e

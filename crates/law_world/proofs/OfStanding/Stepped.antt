@@ -124,8 +124,8 @@ module _ (shape : Shape) (p : Places) (opened : List ℕ) where
     -- a flush may rest
     module _ (knows : RestKnows shape p opened s.last its calls s.maintain.flushing) where
       between : (after : KeeperState) (to : Keeping) → IsBetween shape p opened to → after.step ≡ to → IsAwake shape p opened after → after.last ≡ s.last → after.maintain ≡ s.maintain → CommitKnown shape p opened s.last after.commit → CopyKnown shape p opened after.copy → Goes after
-      between after to between e works same kept commit copy =
-          goes_between shape p opened s after was its w calls step to now (subst (λ (m : MaintainState). RestKnows shape p opened s.last its calls m.flushing) (sym kept) knows) between e works same commit copy
+      between after to is_between e works same kept commit copy =
+          goes_between shape p opened s after was its w calls step to now (subst (λ (m : MaintainState). RestKnows shape p opened s.last its calls m.flushing) (sym kept) knows) is_between e works same commit copy
 
       pub start_on : (x : StartState) (ask : Ask StartAnswer) → IsBetween shape p opened step → IsNumberInTurn s.last.number Starts (start_ledto (record s { start = x }) ask).step → Goes (start_ledto (record s { start = x }) ask)
       unfolding start_ledto
