@@ -27,10 +27,11 @@ use Rattle.law_world.specs.GuardKeeper.MaintainEvents.{claim_events, maintain_ev
 use Rattle.law_world.specs.GuardKeeper.MaintainShown.{maintain_machine, maintain_work}
 use Rattle.law_world.specs.GuardKeeper.Settled.{is_of_slot, maintain_gets}
 use Rattle.law_world.specs.GuardKeeper.Followed.{likeness}
+use Rattle.law_world.proofs.OfGuardKeeper.Flushed.{flush_slot}
 use Rattle.law_world.proofs.OfGuardKeeper.HandsOver.{claim_takes_up}
 use Rattle.law_world.proofs.OfGuardKeeper.Led.{Led, one_ask, then_begins}
 use Rattle.law_world.proofs.OfGuardKeeper.Slots.{passed_slot, emptied}
-use Rattle.law_world.proofs.OfGuardKeeper.TurnLed.{TurnLed, slotless_led}
+use Rattle.law_world.proofs.OfGuardKeeper.TurnLed.{TurnLed, device_slot, slotless_led}
 
 claim_busy : (step : Claiming) → is_done (claim_ask step) ≡ false → is_at_rest (Claims step) ≡ false
 unfolding claim_ask
@@ -108,7 +109,7 @@ claim_takes n a x seen s slot epoch safe words (Some (act.Phase phase version)) 
 
 claim_behind : (shape : Shape) (p : Places) (s : MaintainState) (next : Claiming) (ask : Ask (Unit {0})) → is_of_slot (claim_ask next) ≡ false → is_of_slot (maintain_ask shape p (claim_ledto (claim_at s next) ask)) ≡ false
 unfolding claim_ledto maintaining_ask device_asked flush_ask passed
-claim_behind shape p s next (Done its) e = refl
+claim_behind shape p s next (Done its) e = device_slot (flush_ask p (flush_begun s.flushing)) ∙ flush_slot p (flush_begun s.flushing)
 claim_behind shape p s next ask e = passed_slot (claim_ask next) answer.Through ∙ e
 
 -- by where the ask leads

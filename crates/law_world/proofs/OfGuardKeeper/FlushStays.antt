@@ -140,17 +140,19 @@ told_keeps shape p m next plain =
     let told : flush_told shape p next ≡ flush_ask p next = ap (λ (b : Bool). if b then Done device.Through else flush_ask p next) plain in
     subst (λ (ask : Ask DeviceAnswer). PartKeeps (at m maintain.Flushes) (flush_ledto (record m { flushing = next; step = maintain.Flushes }) ask)) (sym told) (flush_keeps p m next)
 
+failed_due : (page : ℕ) (step : Flushing) → is_sync_due (flush_done page step false) ≡ false
+unfolding flush_done
+failed_due page (flush.WritesPart part) = refl
+failed_due page (flush.Syncs end) = refl
+failed_due page step = refl
+
 part_called : (shape : Shape) (p : Places) (m : MaintainState) (step : Maintaining) (done : Bool) (bytes : List ℕ) → maintain_lets_rest shape m step done ≡ false → PartKeeps (at m step) (maintaining_called shape p (at m step) step done bytes)
 unfolding maintaining_called
 part_called shape p m maintain.Flushes true bytes plain = told_keeps shape p (record m { bytes = bytes_done m.flushing m.bytes }) (flush_done shape.page m.flushing true) plain
-part_called shape p m maintain.Flushes false bytes plain = failed_keeps m.flushing
-  where
-    failed_keeps : (step : Flushing) → (is_sync_due (flush_done shape.page step false) ≡ false)
-        × (work_by (is_sync_due (flush_done shape.page step false)) (record m { bytes = bytes_done step m.bytes; flushing = flush_done shape.page step false }) ≡ None)
-    unfolding flush_done
-    failed_keeps (flush.WritesPart part) = (refl, refl)
-    failed_keeps (flush.Syncs end) = (refl, refl)
-    failed_keeps step = (refl, refl)
+part_called shape p m maintain.Flushes false bytes plain =
+    let its : MaintainState = record m { bytes = bytes_done m.flushing m.bytes; flushing = flush_done shape.page m.flushing false; step = maintain.Broken } in
+    let due = failed_due shape.page m.flushing in
+    (due, ap (λ (b : Bool). work_by b its) due)
 part_called shape p m maintain.Serves true bytes plain = serve_rests (record m { serving = serve_read m.serving bytes }) (serve_ask (serve_read m.serving bytes))
 part_called shape p m maintain.Serves false bytes plain = (refl, refl)
 part_called shape p m step done bytes plain = (refl, refl)

@@ -116,7 +116,7 @@ pub flush_called_to : (n : GuardNow) (a : ℕ) (x : Actor) (seen : LastSeen) (s 
     → (let here : MaintainState = record s { step = maintain.Flushes } in
     TurnLed n a (maintain_called_events a n.shape n.places here maintain.Flushes done read) seen (maintain_called n.shape n.places here done read) n.words)
 unfolding maintaining_called maintain_called_events maintaining_ask
-flush_called_to n a x seen s true read got fits device plain =
+flush_called_to n a x seen s true read got fits its_call plain =
     let next : Flushing = flush_done n.shape.page s.flushing true in
     let bytes : List ℕ = bytes_done s.flushing s.bytes in
     let told : flush_told n.shape n.places next ≡ flush_ask n.places next = ap (λ (b : Bool). if b then Done device.Through else flush_ask n.places next) plain in
@@ -124,11 +124,11 @@ flush_called_to n a x seen s true read got fits device plain =
     (subst (λ (events : List GuardEvent). TurnLed n a events seen (flush_ledto (flush_at s next bytes) (flush_ask n.places next)) n.words) (sym (same_shifter n.places a next (Calls a true)))
     (flushes_on n a x seen s (Calls a true) next bytes n.words got fits.machine fits.seen fits.undecided
     (calls n a x got s.flushing s.bytes true fits.work)))
-flush_called_to n a x seen s false read got fits device plain = record {
+flush_called_to n a x seen s false read got fits its_call plain = record {
   follows = record {
     actor = record x { work = Flushes (flush_done n.shape.page s.flushing false) (bytes_done s.flushing s.bytes) };
     same = calls n a x got s.flushing s.bytes false fits.work;
-    fits = record { machine = fits.machine; work = flush_failed n.places n.shape.page s.flushing (bytes_done s.flushing s.bytes) device; seen = fits.seen; undecided = fits.undecided };
+    fits = record { machine = fits.machine; work = flush_failed n.places n.shape.page s.flushing (bytes_done s.flushing s.bytes) its_call; seen = fits.seen; undecided = fits.undecided };
   };
   busy = tt;
 }

@@ -1,5 +1,5 @@
 -- Where a step of the keeper leads its two actors: all goes on with the one that works, or goes from one to the other.
-use Rattle.std.proofs.Common.{◌≡◌, ℕ, suc, List, [], ◌∷◌, inl, inr, refl, ap, sym, subst, ◌∙◌, arith, Bool, true, false}
+use Rattle.std.proofs.Common.{◌≡◌, ℕ, zero, suc, List, [], ◌∷◌, inl, inr, refl, ap, sym, subst, ◌∙◌, arith, Bool, true, false}
 use Rattle.std.specs.Prelude.{◌&&◌, if◌then◌else◌, Option, Some, None, slice_get, slice_set}
 use Rattle.fkv_base.specs.declared.commits.CommitKind.{CommitKind}
 use Rattle.fkv_base.specs.declared.shapes.Shape.{Shape}
@@ -52,7 +52,7 @@ use Rattle.law_world.proofs.OfGuardKeeper.WorldKept.{keeper_follows}
 
 set_same : {X : Type 0} (xs : List X) (i : ℕ) (x : X) → slice_get xs i ≡ Some x → slice_set xs i x ≡ xs
 set_same [] i x got = refl
-set_same (y ∷ rest) 0 x got = let same : y ≡ x = cc in rw same refl
+set_same (y ∷ rest) zero x got = let same : y ≡ x = cc in rw same refl
 set_same (y ∷ rest) (suc i) x got = ap (λ ys. y ∷ ys) (set_same rest i x got)
 
 -- ---- the same actor goes on
