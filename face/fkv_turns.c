@@ -167,9 +167,10 @@ int32_t fkv_serve_turn(fkv_file *file, struct turn *turn, tell_turn_fn *tell, vo
 }
 
 void fkv_sync_ahead(fkv_file *file) {
-    /* Nobody writes meanwhile: whoever takes the turn only serves. */
+    if (!file->rests || file->stops || !fkv_has_turns(file)) return;
+    /* Nobody writes from here on: whoever has the turn, or takes it, only serves. */
     uint64_t writes = file->writes;
-    if (!file->rests || file->stops || !fkv_has_turns(file) || file->synced == writes || file->sync_why) return;
+    if (file->synced == writes || file->sync_why) return;
     file->is_syncing = true;
     if (file->waiting) pthread_cond_broadcast(&file->served);
     pthread_mutex_unlock(&file->lock);
