@@ -76,6 +76,7 @@ stays_goes n k events seen s its words actions y got fits keeps led =
 not_slot : (c : Claiming) (reply : ℕ) → is_done (claim_ask (claim_next c reply)) ≡ true → is_of_slot (claim_ask c) ≡ false
 unfolding claim_ask claim_next
 not_slot (claim.Receives slot epoch safe) reply e = cc
+not_slot (claim.Runs slot epoch safe action) reply e = cc
 not_slot c reply e = refl
 
 ended_led : (n : GuardNow) (a : ℕ) (x : Actor) (words : List ℕ) (next : Claiming) → is_done (claim_ask next) ≡ true
@@ -84,6 +85,9 @@ ended_led : (n : GuardNow) (a : ℕ) (x : Actor) (words : List ℕ) (next : Clai
     → runs_now n (Moves a ∷ []) ≡ put_near n a (near words n.actions (record x { machine = Claims next }))
 unfolding claim_ask
 ended_led n a x words claim.AtRest e led = led
+ended_led n a x words (claim.Runs slot epoch safe (act.SafeReadOnly addr)) e led = cc
+ended_led n a x words (claim.Runs slot epoch safe (act.Close addr)) e led = cc
+ended_led n a x words (claim.Runs slot epoch safe (act.Phase phase version)) e led = cc
 ended_led n a x words next e led = cc
 
 -- the words after the claims' last ask
@@ -239,8 +243,8 @@ resting_calls p page (flush.WritesPart part) is = refl
 resting_calls p page (flush.Syncs end) is = cc
 resting_calls p page step is = cc
 
-abbrev flushing : KeeperState → KeeperState
-flushing s = record s { maintain = record s.maintain { step = maintain.Flushes }; step = keeping.Maintains }
+abbrev in_flush : KeeperState → KeeperState
+in_flush s = record s { maintain = record s.maintain { step = maintain.Flushes }; step = keeping.Maintains }
 
 called_goes : (w : GuardWorld) (k : ℕ) (s : KeeperState) (granted done : Bool) (read : List ℕ) (ask : Ask KeeperTold) → ask ≡ Done told.Device
     → (let n : GuardNow = w.now in KeeperGoes n k (keeping_called_events (keeper_actor k s) n.shape n.places s s.step done read) (keeper_called n.shape n.places s done read) n.words n.actions)
@@ -250,12 +254,12 @@ unfolding keeper_asks keeper_events_at
 called_goes w k s granted done read (Done told.Device) e goes = goes
 called_goes w k s granted done read ask e goes = cc
 
-rested_goes : (w : GuardWorld) (k : ℕ) (x : Actor) (seen : LastSeen) (s : KeeperState) (granted : Bool) (read : List ℕ) → IsKeepers w k x seen (flushing s) → IsAside w k (flushing s)
-    → flush_rests w.now.shape (flush_done w.now.shape.page s.maintain.flushing true) ≡ true → Goal w k (flushing s) granted true read
+rested_goes : (w : GuardWorld) (k : ℕ) (x : Actor) (seen : LastSeen) (s : KeeperState) (granted : Bool) (read : List ℕ) → IsKeepers w k x seen (in_flush s) → IsAside w k (in_flush s)
+    → flush_rests w.now.shape (flush_done w.now.shape.page s.maintain.flushing true) ≡ true → Goal w k (in_flush s) granted true read
 unfolding keeping_ask maintaining_ask keeping_called maintaining_called keeping_called_events maintain_called_events device_passed
 rested_goes w k x seen s granted read keeps aside rests =
     let n : GuardNow = w.now in
-    let here : KeeperState = flushing s in
+    let here : KeeperState = in_flush s in
     let m : MaintainState = s.maintain in
     let next : Flushing = flush_done n.shape.page m.flushing true in
     let bytes : List ℕ = bytes_done m.flushing m.bytes in
