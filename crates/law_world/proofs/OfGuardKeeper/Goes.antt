@@ -41,6 +41,7 @@ use Rattle.law_world.specs.GuardKeeper.KeeperActors.{actor_by, aside_work, is_as
 use Rattle.law_world.specs.GuardKeeper.KeeperEvents.{keeper_events_at, keeper_move_events, keeping_called_events, keeping_events, turn_asked_events}
 use Rattle.law_world.specs.GuardKeeper.MaintainEvents.{claim_events, flush_events, maintain_called_events, maintain_events, shifter}
 use Rattle.law_world.specs.GuardKeeper.Settled.{is_of_slot}
+use Rattle.law_world.proofs.OfGuardSessions.Movers.{clash}
 use Rattle.law_world.proofs.OfGuardKeeper.Asked.{commit_asked_to, turn_asked_to}
 use Rattle.law_world.proofs.OfGuardKeeper.Claimed.{claim_ended}
 use Rattle.law_world.proofs.OfGuardKeeper.FlushStays.{Keeps, commit_asked_keeps, moved_keeps, turn_asked_keeps}
@@ -127,7 +128,7 @@ takes_by : (shape : Shape) (p : Places) (n : GuardNow) (k : ℕ) (s : KeeperStat
     → KeeperGoes n k (claim_events (suc k) (flush.Syncs end) ask) (claims_led shape p s end next ask) words n.actions
 unfolding claim_ledto maintain_ledto maintaining_ask device_asked flush_ask passed
 takes_by shape p n k s end next words (Done its) e goes = goes
-takes_by shape p n k s end next words ask e goes = cc
+takes_by shape p n k s end next words ask e goes = clash false e refl
 
 -- ---- the step, by what it asks
 abbrev Goal : GuardWorld → ℕ → KeeperState → Bool → Bool → List ℕ → Type 0
@@ -146,9 +147,9 @@ by_reply : (w : GuardWorld) (k : ℕ) (s : KeeperState) (granted done : Bool) (r
     → (let after : Near KeeperState = keeper_asks n.shape n.places granted done read (near_keeper n s) ask in
     KeeperGoes n k (keeper_events_at (keeper_actor k s) n.shape n.places granted done read s n.words ask) after.machine after.words after.actions))
 unfolding keeper_asks keeper_events_at
-by_reply w k s granted done read (Done its) busy none device goes = cc
-by_reply w k s granted done read (Put slot action) busy none device goes = cc
-by_reply w k s granted done read (Take slot) busy none device goes = cc
+by_reply w k s granted done read (Done its) busy none device goes = clash true refl busy
+by_reply w k s granted done read (Put slot action) busy none device goes = clash true refl none
+by_reply w k s granted done read (Take slot) busy none device goes = clash true refl none
 by_reply w k s granted done read ask busy none device goes =
     let n : GuardNow = w.now in
     let there : KeeperState = keeper_next n.shape n.places s (reply_to n.words ask) granted in
@@ -234,7 +235,7 @@ rests_by : (n : GuardNow) (k : ℕ) (x y : Actor) (s : KeeperState) (next : Flus
     → KeeperGoes n k (flush_events (shifter k next) done (Done device.Through)) (flush_told_to n.shape n.places s bytes next (Done device.Through)) n.words n.actions
 unfolding flush_ledto maintain_ledto maintaining_ask shifting_ask passed
 rests_by n k x y s (flush.Syncs end) bytes done is got beside rest none fits sessions led = rests_to n k x y s end bytes done got beside rest none fits sessions led
-rests_by n k x y s next bytes done is got beside rest none fits sessions led = cc
+rests_by n k x y s next bytes done is got beside rest none fits sessions led = clash false is refl
 
 -- a flush that comes to rest calls the device
 resting_calls : (p : Places) (page : ℕ) (step : Flushing) → is_sync_due (flush_done page step true) ≡ true → device_asked (flush_ask p step) ≡ Done answer.Device
@@ -251,8 +252,10 @@ called_goes : (w : GuardWorld) (k : ℕ) (s : KeeperState) (granted done : Bool)
     → (let n : GuardNow = w.now in let after : Near KeeperState = keeper_asks n.shape n.places granted done read (near_keeper n s) ask in
     KeeperGoes n k (keeper_events_at (keeper_actor k s) n.shape n.places granted done read s n.words ask) after.machine after.words after.actions)
 unfolding keeper_asks keeper_events_at
-called_goes w k s granted done read (Done told.Device) e goes = goes
-called_goes w k s granted done read ask e goes = cc
+called_goes w k s granted done read ask e goes =
+    let n : GuardNow = w.now in
+    subst (λ (its : Ask KeeperTold). (let after : Near KeeperState = keeper_asks n.shape n.places granted done read (near_keeper n s) its in
+    KeeperGoes n k (keeper_events_at (keeper_actor k s) n.shape n.places granted done read s n.words its) after.machine after.words after.actions)) (sym e) goes
 
 rested_goes : (w : GuardWorld) (k : ℕ) (x : Actor) (seen : LastSeen) (s : KeeperState) (granted : Bool) (read : List ℕ) → IsKeepers w k x seen (in_flush s) → IsAside w k (in_flush s)
     → flush_rests w.now.shape (flush_done w.now.shape.page s.maintain.flushing true) ≡ true → Goal w k (in_flush s) granted true read
