@@ -60,7 +60,7 @@ use Rattle.fkv_keeper.specs.declared.keepers.Keeping.{Keeping}
 use Rattle.fkv_keeper.specs.declared.keepers.Keeping.TheVariants as keeping
 use Rattle.fkv_keeper.specs.Keeping.{KeeperState, commit_asked, copies, copies_next, copy_driven, copy_ledto, copy_told, device_passed, enter_ledto, finish_ledto, finished, is_copy_resting, keeper_ask, keeper_called, keeper_next, keeping_ask, keeping_called, keeping_given, keeping_next, maintain_ledto, must_rest, part_begun, parts_begun, phase_ledto, seek_ledto, serves_alone, start_ledto, turn_asked, turn_over, turned, wait_ledto, write_ledto, writes_begun, writes_called}
 use Rattle.fkv_keeper.specs.KeeperRun.{is_in_hand}
-use Rattle.fkv_world.specs.Moves.{Near, keeper_asks, keeper_gets, keeper_settled}
+use Rattle.fkv_world.specs.Moves.{Near, keeper_asks, keeper_gets, keeper_replied, keeper_settled}
 use Rattle.fkv_world.specs.World.{keeper_asked}
 use Rattle.law_world.specs.GuardKeeper.KeeperActors.{aside_work, is_aside, keeping_aside, maintaining_aside, work_by}
 use Rattle.law_world.proofs.OfGuardKeeper.Ends.{is_device}
@@ -328,7 +328,7 @@ next_at shape p s keeping.Maintains calm reply granted is plain =
     let next : MaintainState = maintain_next shape p s.maintain reply in
     turn_keeps shape p s next (maintain_ask shape p next) refl (part_next shape p s.maintain s.maintain.step reply plain)
 next_at shape p s step true reply granted is plain = cc
-next_at shape p s step false reply granted is plain = still_keeps (record s { step = step }) _ is (reply_still s.maintain shape p (record s { step = step }) step reply granted is (refl, is))
+next_at shape p s step false reply granted is plain = still_keeps (record s { step = step }) (keeping_next shape p (record s { step = step }) step reply granted) is (reply_still s.maintain shape p (record s { step = step }) step reply granted is (refl, is))
 
 pub next_keeps : (shape : Shape) (p : Places) (s : KeeperState) (reply : ℕ) (granted : Bool) → takes_up s s.step reply ≡ false → Keeps s (keeper_next shape p s reply granted)
 next_keeps shape p s reply granted plain = next_at shape p s s.step (is_turning s.step) reply granted refl plain
@@ -339,7 +339,7 @@ unfolding keeping_called
 called_at shape p s keeping.Maintains done bytes plain =
     let next : MaintainState = maintain_called shape p s.maintain done bytes in
     turn_keeps shape p s next (maintain_ask shape p next) refl (part_called shape p s.maintain s.maintain.step done bytes plain)
-called_at shape p s keeping.Writes done bytes plain = still_keeps (record s { step = keeping.Writes }) _ refl (written_still s.maintain (record s { step = keeping.Writes }) done (refl, refl))
+called_at shape p s keeping.Writes done bytes plain = still_keeps (record s { step = keeping.Writes }) (writes_called (record s { step = keeping.Writes }) done) refl (written_still s.maintain (record s { step = keeping.Writes }) done (refl, refl))
 called_at shape p s step done bytes plain = (refl, refl)
 
 called_keeps : (shape : Shape) (p : Places) (s : KeeperState) (done : Bool) (bytes : List ℕ) → lets_rest shape s s.step done ≡ false → Keeps s (keeper_called shape p s done bytes)
@@ -408,7 +408,8 @@ moved_keeps shape p granted done read n (Done its) e up over = (refl, refl)
 moved_keeps shape p granted done read n (Put slot action) e up over = settled_keeps shape p granted n (Put slot action) e
 moved_keeps shape p granted done read n (Take slot) e up over = settled_keeps shape p granted n (Take slot) e
 moved_keeps shape p granted done read n ask e up over =
-    then_keeps n.machine _ _ (next_keeps shape p n.machine (reply_to n.words ask) granted up) (settled_keeps shape p granted _ (keeper_ask shape p (keeper_next shape p n.machine (reply_to n.words ask) granted)) refl)
+    let m : Near KeeperState = keeper_replied shape p granted n ask in
+    then_keeps n.machine m.machine (keeper_settled shape p granted m (keeper_ask shape p m.machine)).machine (next_keeps shape p n.machine (reply_to n.words ask) granted up) (settled_keeps shape p granted m (keeper_ask shape p m.machine) refl)
 
 -- a turn that begins, and a commit
 either_keeps : (b : Bool) (s x y : KeeperState) → Keeps s x → Keeps s y → Keeps s (if b then x else y)

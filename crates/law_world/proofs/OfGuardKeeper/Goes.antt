@@ -41,10 +41,11 @@ use Rattle.law_world.specs.GuardKeeper.KeeperActors.{actor_by, aside_work, is_as
 use Rattle.law_world.specs.GuardKeeper.KeeperEvents.{keeper_events_at, keeper_move_events, keeping_called_events, keeping_events, turn_asked_events}
 use Rattle.law_world.specs.GuardKeeper.MaintainEvents.{claim_events, flush_events, maintain_called_events, maintain_events, shifter}
 use Rattle.law_world.specs.GuardKeeper.Settled.{is_of_slot}
+use Rattle.law_world.proofs.OfGuardSessions.Movers.{clash}
 use Rattle.law_world.proofs.OfGuardKeeper.Asked.{commit_asked_to, turn_asked_to}
 use Rattle.law_world.proofs.OfGuardKeeper.Claimed.{claim_ended}
 use Rattle.law_world.proofs.OfGuardKeeper.FlushStays.{Keeps, commit_asked_keeps, moved_keeps, turn_asked_keeps}
-use Rattle.law_world.proofs.OfGuardKeeper.HandsOver.{flush_rests, lets_rest, taken_asks, takes_up, truth}
+use Rattle.law_world.proofs.OfGuardKeeper.HandsOver.{flush_rests, lets_rest, maintain_lets_rest, maintain_takes_up, taken_asks, takes_up, truth}
 use Rattle.law_world.proofs.OfGuardKeeper.Kept.{turn_step}
 use Rattle.law_world.proofs.OfGuardKeeper.Led.{one_ask}
 use Rattle.law_world.proofs.OfGuardKeeper.PartLed.{passed_step}
@@ -127,7 +128,7 @@ takes_by : (shape : Shape) (p : Places) (n : GuardNow) (k : ℕ) (s : KeeperStat
     → KeeperGoes n k (claim_events (suc k) (flush.Syncs end) ask) (claims_led shape p s end next ask) words n.actions
 unfolding claim_ledto maintain_ledto maintaining_ask device_asked flush_ask passed
 takes_by shape p n k s end next words (Done its) e goes = goes
-takes_by shape p n k s end next words ask e goes = cc
+takes_by shape p n k s end next words ask e goes = clash false e refl
 
 -- ---- the step, by what it asks
 abbrev Goal : GuardWorld → ℕ → KeeperState → Bool → Bool → List ℕ → Type 0
@@ -146,9 +147,9 @@ by_reply : (w : GuardWorld) (k : ℕ) (s : KeeperState) (granted done : Bool) (r
     → (let after : Near KeeperState = keeper_asks n.shape n.places granted done read (near_keeper n s) ask in
     KeeperGoes n k (keeper_events_at (keeper_actor k s) n.shape n.places granted done read s n.words ask) after.machine after.words after.actions))
 unfolding keeper_asks keeper_events_at
-by_reply w k s granted done read (Done its) busy none device goes = cc
-by_reply w k s granted done read (Put slot action) busy none device goes = cc
-by_reply w k s granted done read (Take slot) busy none device goes = cc
+by_reply w k s granted done read (Done its) busy none device goes = clash true refl busy
+by_reply w k s granted done read (Put slot action) busy none device goes = clash true refl none
+by_reply w k s granted done read (Take slot) busy none device goes = clash true refl none
 by_reply w k s granted done read ask busy none device goes =
     let n : GuardNow = w.now in
     let there : KeeperState = keeper_next n.shape n.places s (reply_to n.words ask) granted in
@@ -234,7 +235,7 @@ rests_by : (n : GuardNow) (k : ℕ) (x y : Actor) (s : KeeperState) (next : Flus
     → KeeperGoes n k (flush_events (shifter k next) done (Done device.Through)) (flush_told_to n.shape n.places s bytes next (Done device.Through)) n.words n.actions
 unfolding flush_ledto maintain_ledto maintaining_ask shifting_ask passed
 rests_by n k x y s (flush.Syncs end) bytes done is got beside rest none fits sessions led = rests_to n k x y s end bytes done got beside rest none fits sessions led
-rests_by n k x y s next bytes done is got beside rest none fits sessions led = cc
+rests_by n k x y s next bytes done is got beside rest none fits sessions led = clash false is refl
 
 -- a flush that comes to rest calls the device
 resting_calls : (p : Places) (page : ℕ) (step : Flushing) → is_sync_due (flush_done page step true) ≡ true → device_asked (flush_ask p step) ≡ Done answer.Device
@@ -251,8 +252,10 @@ called_goes : (w : GuardWorld) (k : ℕ) (s : KeeperState) (granted done : Bool)
     → (let n : GuardNow = w.now in let after : Near KeeperState = keeper_asks n.shape n.places granted done read (near_keeper n s) ask in
     KeeperGoes n k (keeper_events_at (keeper_actor k s) n.shape n.places granted done read s n.words ask) after.machine after.words after.actions)
 unfolding keeper_asks keeper_events_at
-called_goes w k s granted done read (Done told.Device) e goes = goes
-called_goes w k s granted done read ask e goes = cc
+called_goes w k s granted done read ask e goes =
+    let n : GuardNow = w.now in
+    subst (λ (its : Ask KeeperTold). (let after : Near KeeperState = keeper_asks n.shape n.places granted done read (near_keeper n s) its in
+    KeeperGoes n k (keeper_events_at (keeper_actor k s) n.shape n.places granted done read s n.words its) after.machine after.words after.actions)) (sym e) goes
 
 rested_goes : (w : GuardWorld) (k : ℕ) (x : Actor) (seen : LastSeen) (s : KeeperState) (granted : Bool) (read : List ℕ) → IsKeepers w k x seen (in_flush s) → IsAside w k (in_flush s)
     → flush_rests w.now.shape (flush_done w.now.shape.page s.maintain.flushing true) ≡ true → Goal w k (in_flush s) granted true read
@@ -270,21 +273,60 @@ rested_goes w k x seen s granted read keeps aside rests =
     (rests_by n k x aside.other s next bytes (Calls k true) is keeps.got aside.got keeps.fits.machine keeps.fits.undecided aside.fits keeps.knows.sessions (calls n k x keeps.got m.flushing m.bytes true keeps.fits.work)))
 
 -- ---- each step
-takes_at : (w : GuardWorld) (k : ℕ) (x : Actor) (seen : LastSeen) (s : KeeperState) (step : Keeping) (part : Maintaining) (its : Flushing) (granted done : Bool) (read : List ℕ)
-    → (let here : KeeperState = record s { maintain = record s.maintain { flushing = its; step = part }; step = step } in
-    IsKeepers w (keeper_actor k here) x seen here → IsAside w k here → takes_up here step (reply_to w.now.words (keeper_ask w.now.shape w.now.places here)) ≡ true → Goal w k here granted done read)
-takes_at w k x seen s keeping.Maintains maintain.Claims (flush.Syncs end) granted done read keeps aside up = taken_goes w k x seen s end granted done read keeps aside up
-takes_at w k x seen s keeping.Maintains maintain.Claims its granted done read keeps aside up = cc
-takes_at w k x seen s keeping.Maintains part its granted done read keeps aside up = cc
-takes_at w k x seen s step part its granted done read keeps aside up = cc
+-- where a flush is taken up, the claims are under way
+record IsDue (step : Keeping) (part : Maintaining) (its : Flushing) : Type 0 where
+  end : ℕ
+  turns : step ≡ keeping.Maintains
+  claims : part ≡ maintain.Claims
+  rests : its ≡ flush.Syncs end
 
-rests_at : (w : GuardWorld) (k : ℕ) (x : Actor) (seen : LastSeen) (s : KeeperState) (step : Keeping) (part : Maintaining) (granted done : Bool) (read : List ℕ)
-    → (let here : KeeperState = record s { maintain = record s.maintain { step = part }; step = step } in
-    IsKeepers w (keeper_actor k here) x seen here → IsAside w k here → lets_rest w.now.shape here step done ≡ true → Goal w k here granted done read)
-rests_at w k x seen s keeping.Maintains maintain.Flushes granted true read keeps aside rests = rested_goes w k x seen s granted read keeps aside rests
-rests_at w k x seen s keeping.Maintains maintain.Flushes granted false read keeps aside rests = cc
-rests_at w k x seen s keeping.Maintains part granted done read keeps aside rests = cc
-rests_at w k x seen s step part granted done read keeps aside rests = cc
+part_due : (m : MaintainState) (part : Maintaining) (its : Flushing) (reply : ℕ) → maintain_takes_up (record m { flushing = its }) part reply ≡ true → IsDue keeping.Maintains part its
+part_due m maintain.Claims (flush.Syncs end) reply up = record { end = end; turns = refl; claims = refl; rests = refl }
+part_due m maintain.Claims its reply up = cc
+part_due m part its reply up = cc
+
+is_due : (s : KeeperState) (step : Keeping) (reply : ℕ) → takes_up s step reply ≡ true → IsDue step s.maintain.step s.maintain.flushing
+is_due s keeping.Maintains reply up = part_due s.maintain s.maintain.step s.maintain.flushing reply up
+is_due s step reply up = cc
+
+due_is : (s : KeeperState) (its : IsDue s.step s.maintain.step s.maintain.flushing) → s ≡ due s its.end
+due_is s its =
+    ap (λ (step : Keeping). record s { step = step }) its.turns
+    ∙ ap (λ (part : Maintaining). record s { maintain = record s.maintain { step = part }; step = keeping.Maintains }) its.claims
+    ∙ ap (λ (flushing : Flushing). record s { maintain = record s.maintain { flushing = flushing; step = maintain.Claims }; step = keeping.Maintains }) its.rests
+
+abbrev Takes : GuardWorld → ℕ → Actor → LastSeen → Bool → Bool → List ℕ → KeeperState → Type 0
+Takes w k x seen granted done read s =
+    IsKeepers w (keeper_actor k s) x seen s → IsAside w k s → takes_up s s.step (reply_to w.now.words (keeper_ask w.now.shape w.now.places s)) ≡ true → Goal w k s granted done read
+
+takes_goes : (w : GuardWorld) (k : ℕ) (x : Actor) (seen : LastSeen) (s : KeeperState) (granted done : Bool) (read : List ℕ) (its : IsDue s.step s.maintain.step s.maintain.flushing) → Takes w k x seen granted done read s
+takes_goes w k x seen s granted done read its = subst (Takes w k x seen granted done read) (sym (due_is s its)) (taken_goes w k x seen s its.end granted done read)
+
+-- where one comes to rest, it is under way and its call succeeds
+record IsFlushing (step : Keeping) (part : Maintaining) (done : Bool) : Type 0 where
+  turns : step ≡ keeping.Maintains
+  flushes : part ≡ maintain.Flushes
+  succeeds : done ≡ true
+
+part_flushing : (shape : Shape) (m : MaintainState) (part : Maintaining) (done : Bool) → maintain_lets_rest shape m part done ≡ true → IsFlushing keeping.Maintains part done
+part_flushing shape m maintain.Flushes true rests = record { turns = refl; flushes = refl; succeeds = refl }
+part_flushing shape m maintain.Flushes false rests = cc
+part_flushing shape m part done rests = cc
+
+is_flushing : (shape : Shape) (s : KeeperState) (step : Keeping) (done : Bool) → lets_rest shape s step done ≡ true → IsFlushing step s.maintain.step done
+is_flushing shape s keeping.Maintains done rests = part_flushing shape s.maintain s.maintain.step done rests
+is_flushing shape s step done rests = cc
+
+flushing_is : (s : KeeperState) (done : Bool) (its : IsFlushing s.step s.maintain.step done) → s ≡ in_flush s
+flushing_is s done its =
+    ap (λ (step : Keeping). record s { step = step }) its.turns ∙ ap (λ (part : Maintaining). record s { maintain = record s.maintain { step = part }; step = keeping.Maintains }) its.flushes
+
+abbrev Rests : GuardWorld → ℕ → Actor → LastSeen → Bool → List ℕ → KeeperState → Bool → Type 0
+Rests w k x seen granted read s done = IsKeepers w (keeper_actor k s) x seen s → IsAside w k s → lets_rest w.now.shape s s.step done ≡ true → Goal w k s granted done read
+
+rests_goes : (w : GuardWorld) (k : ℕ) (x : Actor) (seen : LastSeen) (s : KeeperState) (granted done : Bool) (read : List ℕ) (its : IsFlushing s.step s.maintain.step done) → Rests w k x seen granted read s done
+rests_goes w k x seen s granted done read its =
+    subst (λ (t : KeeperState). Rests w k x seen granted read t done) (sym (flushing_is s done its)) (subst (Rests w k x seen granted read (in_flush s)) (sym its.succeeds) (rested_goes w k x seen s granted read))
 
 pub keeper_goes : (w : GuardWorld) (k : ℕ) (x : Actor) (seen : LastSeen) (s : KeeperState) (granted done : Bool) (read : List ℕ) → IsKeepers w (keeper_actor k s) x seen s → IsAside w k s
     → (let n : GuardNow = w.now in let there : Near KeeperState = keeper_moved n.shape n.places granted done read (near_keeper n s) in
@@ -292,9 +334,9 @@ pub keeper_goes : (w : GuardWorld) (k : ℕ) (x : Actor) (seen : LastSeen) (s : 
 keeper_goes w k x seen s granted done read keeps aside =
     let n : GuardNow = w.now in
     elim (truth (takes_up s s.step (reply_to n.words (keeper_ask n.shape n.places s)))) [
-      | inl up ↦ takes_at w k x seen s s.step s.maintain.step s.maintain.flushing granted done read keeps aside up
+      | inl up ↦ takes_goes w k x seen s granted done read (is_due s s.step _ up) keeps aside up
       | inr stays ↦ elim (truth (lets_rest n.shape s s.step done)) [
-        | inl rests ↦ rests_at w k x seen s s.step s.maintain.step granted done read keeps aside rests
+        | inl rests ↦ rests_goes w k x seen s granted done read (is_flushing n.shape s s.step done rests) keeps aside rests
         | inr goes_on ↦
             stays_goes n k _ seen s _ _ _ aside.other aside.got aside.fits (moved_keeps n.shape n.places granted done read (near_keeper n s) (keeper_ask n.shape n.places s) refl stays goes_on)
             (keeper_follows w (keeper_actor k s) x seen s granted done read keeps.sound keeps.got keeps.fits keeps.knows stays goes_on)
