@@ -21,14 +21,15 @@ use Rattle.fkv_flush.specs.GuardWorld.{Actor, Flushes, GuardNow, Moves, ToFlush,
 use Rattle.fkv_flush.proofs.Shown.{runs_now, Fits}
 use Rattle.fkv_maintain.specs.declared.maintaining.MaintainAnswer.TheVariants as answer
 use Rattle.fkv_maintain.specs.declared.maintaining.Maintaining.TheVariants as maintain
-use Rattle.fkv_maintain.specs.Maintaining.{MaintainState, device_asked, maintaining_ask, maintaining_next, maintaining_given, maintain_ask, maintain_next, claim_ledto}
+use Rattle.fkv_maintain.specs.Maintaining.{MaintainState, device_asked, maintaining_ask, maintaining_next, maintaining_given, maintain_ask, maintain_next, claim_ledto, flush_begun}
 use Rattle.law_world.specs.GuardKeeper.MaintainEvents.{claim_events, maintain_events}
 use Rattle.law_world.specs.GuardKeeper.MaintainShown.{maintain_machine, maintain_work}
 use Rattle.law_world.specs.GuardKeeper.Settled.{is_of_slot, maintain_gets}
 use Rattle.law_world.specs.GuardKeeper.Followed.{likeness}
 use Rattle.law_world.proofs.OfGuardKeeper.Led.{Led, one_ask, then_begins}
 use Rattle.law_world.proofs.OfGuardKeeper.Slots.{passed_slot, emptied}
-use Rattle.law_world.proofs.OfGuardKeeper.TurnLed.{TurnLed, slotless_led}
+use Rattle.law_world.proofs.OfGuardKeeper.TurnLed.{TurnLed, slotless_led, device_slot}
+use Rattle.law_world.proofs.OfGuardKeeper.Flushed.{flush_slot}
 
 claim_busy : (step : Claiming) → is_done (claim_ask step) ≡ false → is_at_rest (Claims step) ≡ false
 unfolding claim_ask
@@ -94,8 +95,8 @@ claim_takes n a x seen s slot epoch safe words (Some (act.Phase phase version)) 
 }
 
 claim_behind : (shape : Shape) (p : Places) (s : MaintainState) (next : Claiming) (ask : Ask (Unit {0})) → is_of_slot (claim_ask next) ≡ false → is_of_slot (maintain_ask shape p (claim_ledto (claim_at s next) ask)) ≡ false
-unfolding claim_ledto maintaining_ask device_asked flush_ask passed
-claim_behind shape p s next (Done its) e = refl
+unfolding claim_ledto maintaining_ask
+claim_behind shape p s next (Done its) e = device_slot (flush_ask p (flush_begun s.flushing)) ∙ flush_slot p (flush_begun s.flushing)
 claim_behind shape p s next ask e = passed_slot (claim_ask next) answer.Through ∙ e
 
 -- by where the ask leads

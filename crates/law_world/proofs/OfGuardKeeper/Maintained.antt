@@ -21,7 +21,7 @@ use Rattle.fkv_flush.proofs.Shown.{Fits, IsSound}
 use Rattle.fkv_maintain.specs.declared.maintaining.MaintainAnswer.TheVariants as answer
 use Rattle.fkv_maintain.specs.declared.maintaining.Maintaining.{Maintaining}
 use Rattle.fkv_maintain.specs.declared.maintaining.Maintaining.TheVariants as maintain
-use Rattle.fkv_maintain.specs.Maintaining.{MaintainState, device_asked, maintaining_ask, maintaining_called, maintain_ask, maintain_next, maintain_called}
+use Rattle.fkv_maintain.specs.Maintaining.{MaintainState, device_asked, maintaining_ask, maintaining_called, maintain_ask, maintain_next, maintain_called, flush_told}
 use Rattle.law_world.specs.GuardKeeper.MaintainEvents.{maintain_events, maintain_called_events}
 use Rattle.law_world.specs.GuardKeeper.MaintainShown.{maintaining_machine, maintaining_work, maintain_machine, maintain_work, IsUnderWay}
 use Rattle.law_world.specs.GuardKeeper.Settled.{is_of_slot}
@@ -121,7 +121,7 @@ called_slot_at shape p s maintain.Spent done read e = cc
 called_slot_at shape p s maintain.Broken done read e = cc
 called_slot_at shape p s maintain.Scans done read e = no_device (scan_ask s.scanning) e
 called_slot_at shape p s maintain.Claims done read e = no_device (claim_ask s.claiming) e
-called_slot_at shape p s maintain.Flushes true read e = flush_behind shape p s (flush_done shape.page s.flushing true) (bytes_done s.flushing s.bytes) (flush_ask p (flush_done shape.page s.flushing true))
+called_slot_at shape p s maintain.Flushes true read e = flush_behind shape p s (flush_done shape.page s.flushing true) (bytes_done s.flushing s.bytes) (flush_told shape p (flush_done shape.page s.flushing true))
 called_slot_at shape p s maintain.Flushes false read e = refl
 called_slot_at shape p s maintain.Shifts done read e = no_device (shift_ask s.shift) e
 called_slot_at shape p s maintain.Turns done read e = no_device (turn_ask shape s.turn) e
