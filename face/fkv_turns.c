@@ -167,9 +167,10 @@ int32_t fkv_serve_turn(fkv_file *file, struct turn *turn, tell_turn_fn *tell, vo
 }
 
 void fkv_sync_ahead(fkv_file *file) {
-    /* Nobody writes meanwhile: whoever takes the turn only serves. */
+    if (!file->rests || file->stops || !fkv_has_turns(file)) return;
+    /* Nobody writes from here on: whoever has the turn, or takes it, only serves. */
     uint64_t writes = file->writes;
-    if (!file->rests || file->stops || !fkv_has_turns(file) || file->synced == writes || file->sync_why) return;
+    if (file->synced == writes || file->sync_why) return;
     file->is_syncing = true;
     if (file->waiting) pthread_cond_broadcast(&file->served);
     pthread_mutex_unlock(&file->lock);
@@ -218,11 +219,11 @@ int32_t fkv_help(fkv_file *file) {
     int32_t why = fkv_unserved(file);
     bool is_free = why == 0 && !atomic_load(&file->turning) && !file->is_wanted;
     /*
-     * A commit's turns sync, and so do those behind a flush that rests: these are the keeper's thread's. It makes them one after the other as
-     * long as somebody waits. But while it is in a sync, turns only serve. No record leaves memory by these, so they needn't be left to it.
+     * A commit's turns sync: these are the keeper's thread's. It makes them one after the other as long as somebody waits. But while it is in
+     * a sync, turns only serve, and so they do where a flush rests. No record leaves memory by these, so they needn't be left to it.
      */
-    bool syncs = atomic_load(&file->in_hand) || file->rests;
-    bool is_own = is_free && (syncs ? file->is_syncing : !fkv_awaits_warmer(file));
+    bool commits = atomic_load(&file->in_hand);
+    bool is_own = is_free && (file->rests ? !commits || file->is_syncing : !commits && !fkv_awaits_warmer(file));
     if (is_own) atomic_store(&file->turning, true);
     else if (is_free && !file->nudged) {
         file->nudged = true;
