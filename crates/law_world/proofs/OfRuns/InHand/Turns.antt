@@ -1,5 +1,5 @@
 -- Behind an action that it has put, or been given, a turn of the keeper goes on.
-use Rattle.std.proofs.Common.{◌≡◌, ℕ, ◌∙◌, refl, ap, sym, subst, Bool, true, false}
+use Rattle.std.proofs.Common.{◌≡◌, ℕ, List, ◌∙◌, refl, ap, sym, subst, Bool, true, false}
 use Rattle.fkv_base.specs.declared.shapes.Shape.{Shape}
 use Rattle.fkv_plane.specs.declared.actions.Action.{Action}
 use Rattle.fkv_plane.specs.declared.asks.Ask.{Ask}
@@ -119,6 +119,7 @@ scanned shape p s ask at = off_now shape p s Scans at (passed_off (scan_ask s.sc
 
 -- a flush that begins, or is taken up
 flush_begins : (shape : Shape) (p : Places) (s : MaintainState) (step : Flushing) (bytes : List ℕ) → MaintainNow shape p (record s { bytes = bytes; flushing = flush_begun step; step = Flushes })
+unfolding maintaining_ask
 flush_begins shape p s step bytes = let begun : MaintainState = record s { bytes = bytes; flushing = flush_begun step; step = Flushes } in off_now shape p begun Flushes refl (device_off (flush_ask p (flush_begun step)) (flush_off p (flush_begun step)))
 
 claimed : (shape : Shape) (p : Places) (s : MaintainState) (ask : Ask (Unit {0})) → s.step ≡ Claims → MaintainNow shape p (claim_ledto s ask)
