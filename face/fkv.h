@@ -460,13 +460,17 @@ int32_t fkv_turn(fkv_keeper *keeper, fkv_turned *turned, uint64_t *points, size_
  * fkv_serve makes a turn that serves reads of the file, and leaves the writes at rest. It answers as fkv_turn does, and where nothing rests it is
  * fkv_turn. fkv_turn serves too, and then goes on with the writes: it posts the sync.
  *
+ * What is flushed of a living store's log rests before its sync, too. Where fkv_serve makes the turn that writes it, fkv_rests answers 1 from then on,
+ * and turns by fkv_serve only serve, up to one by fkv_turn: the turn behind that one posts the sync. Where fkv_turn makes the turn that writes it, the
+ * next turn posts the sync. A commit may begin meanwhile.
+ *
  * So a caller may sync the file by itself, in another thread, and serve meanwhile. If that sync has succeeded, and nothing was written since it
  * began, it answers the one that is posted. If it has failed, it isn't made again: the posted one has failed. Who calls fkv_turn alone makes a
  * few turns more for a commit.
  */
 int32_t fkv_serve(fkv_keeper *keeper, fkv_turned *turned, uint64_t *points, size_t room);
 
-/* 1 where writes of a commit rest behind the last turn, else 0. */
+/* 1 where writes of a commit or a flush rest behind the last turn, and weren't let go on: then fkv_serve only serves. Else 0. */
 int32_t fkv_rests(fkv_keeper *keeper);
 
 /*

@@ -36,7 +36,7 @@ struct turn {
     uint64_t copied;  /* entries of the index that were written, as a full commit writes all */
     int why;          /* errno of the call of the file that has failed */
     bool has_called;  /* it has called the file, so the next turn may have something to do */
-    bool rests;       /* the writes of the commit in hand rest behind it */
+    bool rests;       /* the writes of the commit in hand rest behind it, or a flush does */
 };
 
 /* How long a session waits already, with nothing of it finished. */
@@ -134,7 +134,7 @@ struct fkv_file {
     bool has_told_unwarmed; /* the hook `unwarmed` was called */
     bool nudged;       /* a turn is wanted at once */
     bool is_stirred;   /* something was asked or done since the keeper's last turn */
-    bool rests;        /* the writes of the commit in hand rest before a sync */
+    bool rests;        /* the writes of the commit in hand rest before a sync, or a flush does */
     bool is_syncing;   /* which the keeper's thread makes, without the turn: others serve meanwhile */
     uint64_t asked;    /* the last ticket that was given */
     uint64_t covers;   /* tickets up to this one are served by the commit in hand */
@@ -270,11 +270,11 @@ typedef void tell_turn_fn(void *user, const struct turn *turn);
 /* Makes a turn, which the caller has, with its calls of the file. `tell`, if it isn't NULL, hears of each. FKV_OVER or a refusal. */
 int32_t fkv_make_turn(fkv_file *file, struct turn *turn, tell_turn_fn *tell, void *user);
 
-/* The same of a turn that only serves, while the writes of a commit rest. */
-int32_t fkv_serve_turn(fkv_file *file, struct turn *turn);
+/* The same of a turn that goes on with nothing that rests: it only serves then. */
+int32_t fkv_serve_turn(fkv_file *file, struct turn *turn, tell_turn_fn *tell, void *user);
 
 /*
- * Makes the sync before which the writes of a commit rest, without the turn. Who waits meanwhile serves by himself. The lock is held, but
+ * Makes the sync before which the writes of a commit or a flush rest, without the turn. Who waits meanwhile serves by himself. The lock is held, but
  * while it is made.
  */
 void fkv_sync_ahead(fkv_file *file);

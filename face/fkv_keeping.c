@@ -206,7 +206,7 @@ static uint32_t rest_us(const struct run *run) {
 static void rest(const struct run *run) {
     fkv_file *file = run->file;
     const struct warmer *warmer = &file->warmer;
-    if (file->nudged || file->stops || (run->has_called && !run->is_helped)) return;
+    if (file->rests || file->nudged || file->stops || (run->has_called && !run->is_helped)) return;
     struct timespec until = fkv_later(fkv_now(), rest_us(run));
     if (warmer->has_more && fkv_is_before(warmer->rests_until, until)) until = warmer->rests_until;
     if (goes_by_clock(file) && !run->is_put_off && fkv_is_before(run->next, until)) until = run->next;
@@ -237,11 +237,14 @@ static void warm(const struct run *run) {
 static void go_on(struct run *run) {
     fkv_file *file = run->file;
     struct turn turn = {0};
+    fkv_sync_ahead(file);
     tend_abandoned(run);
     warm(run);
     fkv_take_turn(file);
     bool begins = begin_commit(run);
     bool commits = file->in_hand;
+    /* What rests goes on once it was synced ahead. What comes to rest in this turn wasn't yet. */
+    bool goes_on = file->rests && (file->sync_why || file->synced == file->writes);
     bool is_stirred = file->nudged || file->is_stirred || commits || file->abandoned;
     /* Who waits for a read makes its turns, and would only find this thread in the way. A commit goes on by this thread's turns alone. */
     run->is_helped = file->helped != run->helped && !commits;
@@ -250,16 +253,17 @@ static void go_on(struct run *run) {
     file->nudged = file->is_stirred = false;
     pthread_mutex_unlock(&file->lock);
     if (begins) tell_progress(run, &turn);
-    int32_t result = fkv_make_turn(file, &turn, commits ? tell_progress : NULL, run);
+    tell_turn_fn *tell = commits ? tell_progress : NULL;
+    int32_t result = goes_on ? fkv_make_turn(file, &turn, tell, run) : fkv_serve_turn(file, &turn, tell, run);
     run->written += turn.written;
     run->copied += turn.copied;
-    run->has_called = turn.has_called;
+    /* What was let go on does so in the next turn. */
+    run->has_called = turn.has_called || goes_on;
     pthread_mutex_lock(&file->lock);
     bool is_finished = result == FKV_OVER && turn.turned.finished;
     if (is_finished) file->in_hand = false;
     fkv_end_turn(file, &turn, result);
     if (is_finished) finish_commit(run, &turn);
-    fkv_sync_ahead(file);
 }
 
 /* Linux ends a short sleep of a thread up to 50 microseconds late, unless the thread says otherwise. */

@@ -13,8 +13,8 @@
  *
  * Threads. The calls that take an fkv_file may be called by any thread at any time, up to fkv_close_file or fkv_drop_file, which is the
  * last. One call at a time on one session. It may move to another thread, as a handle of fkv.h may. A session that waits makes turns of
- * the keeper in its own thread, with their calls of the file, while no commit is in hand. While the keeper's thread syncs what a commit has
- * written, it makes turns that only serve reads.
+ * the keeper in its own thread, with their calls of the file, while no commit is in hand. While the keeper's thread syncs what a commit or a flush
+ * has written, it makes turns that only serve reads.
  *
  * Results are those of fkv.h, and so is what it says of pointers. A call that waits may have done a part of its work before it is refused.
  * Where a result is -FKV_DEVICE, errno says what the system has refused: ENOENT no such file, EEXIST there is one already, EWOULDBLOCK

@@ -161,15 +161,16 @@ int32_t fkv_make_turn(fkv_file *file, struct turn *turn, tell_turn_fn *tell, voi
     return end_calls(file, turn, call, tell, user);
 }
 
-int32_t fkv_serve_turn(fkv_file *file, struct turn *turn) {
+int32_t fkv_serve_turn(fkv_file *file, struct turn *turn, tell_turn_fn *tell, void *user) {
     int32_t call = fkv_serve(&file->keeper, &turn->turned, turn->points, FKV_MOST_SESSIONS);
-    return end_calls(file, turn, call, NULL, NULL);
+    return end_calls(file, turn, call, tell, user);
 }
 
 void fkv_sync_ahead(fkv_file *file) {
-    /* Nobody writes meanwhile: whoever takes the turn only serves. */
+    if (!file->rests || file->stops || !fkv_has_turns(file)) return;
+    /* Nobody writes from here on: whoever has the turn, or takes it, only serves. */
     uint64_t writes = file->writes;
-    if (!file->rests || file->stops || !fkv_has_turns(file) || file->synced == writes) return;
+    if (file->synced == writes || file->sync_why) return;
     file->is_syncing = true;
     if (file->waiting) pthread_cond_broadcast(&file->served);
     pthread_mutex_unlock(&file->lock);
@@ -219,10 +220,10 @@ int32_t fkv_help(fkv_file *file) {
     bool is_free = why == 0 && !atomic_load(&file->turning) && !file->is_wanted;
     /*
      * A commit's turns sync: these are the keeper's thread's. It makes them one after the other as long as somebody waits. But while it is in
-     * a sync, turns only serve. No record leaves memory by these, so they needn't be left to it.
+     * a sync, turns only serve, and so they do where a flush rests. No record leaves memory by these, so they needn't be left to it.
      */
     bool commits = atomic_load(&file->in_hand);
-    bool is_own = is_free && (commits ? file->is_syncing : !fkv_awaits_warmer(file));
+    bool is_own = is_free && (file->rests ? !commits || file->is_syncing : !commits && !fkv_awaits_warmer(file));
     if (is_own) atomic_store(&file->turning, true);
     else if (is_free && !file->nudged) {
         file->nudged = true;
@@ -232,12 +233,14 @@ int32_t fkv_help(fkv_file *file) {
     if (!is_own) return fkv_with_errno(file, why);
     turn.written = turn.end = turn.reads = turn.copied = 0;
     turn.why = 0;
-    int32_t result = commits ? fkv_serve_turn(file, &turn) : fkv_make_turn(file, &turn, NULL, NULL);
+    /* What comes to rest in it is left to the keeper's thread. */
+    int32_t result = fkv_serve_turn(file, &turn, NULL, NULL);
     pthread_mutex_lock(&file->lock);
     file->helped++;
     fkv_end_turn(file, &turn, result);
-    /* A page was written, so others will soon leave memory. */
-    if (turn.written && atomic_load_explicit(&file->warmed, memory_order_relaxed) != UINT64_MAX) pthread_cond_signal(&file->work);
+    /* A sync is due, or a page was written, so that others will soon leave memory. */
+    bool is_warmed = turn.written && atomic_load_explicit(&file->warmed, memory_order_relaxed) != UINT64_MAX;
+    if (turn.rests || is_warmed) pthread_cond_signal(&file->work);
     pthread_mutex_unlock(&file->lock);
     return 1;
 }

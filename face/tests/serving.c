@@ -1,5 +1,6 @@
 /*
- * Reads beside the syncs of commits: serving FOLDER. While a sync is under way that a commit rests before, records are read of the file for who waits.
+ * Reads beside the syncs of commits and flushes: serving FOLDER. While a sync is under way that a commit or a flush rests before, records are read of
+ * the file for who waits.
  * If such a read fails, all are told with its errno: who reads, who waits for the commit, and who asks later. If such a sync fails, that is told with
  * its errno, it isn't made again, and the commit isn't finished.
  */
@@ -15,10 +16,10 @@
 #include <time.h>
 #include <unistd.h>
 
-enum { KEYS = 1200, SYNC_NS = 20000000, SERVED = 50, COMMITS = 6, MOST_READS = 1000000, MOST_SYNCS = 16, MOST_SECONDS = 120, PATH_ROOM = 500 };
+enum { KEYS = 1200, OTHERS = 800, SYNC_NS = 20000000, SERVED = 50, COMMITS = 6, MOST_READS = 1000000, MOST_SYNCS = 16, MOST_SECONDS = 120, PATH_ROOM = 500 };
 
 /* Small pages and little memory, so that most records lie in the file alone. */
-static const fkv_shape SHAPE = {10, 16, 8, 4, 2, 64, 16384};
+static const fkv_shape SHAPE = {10, 16, 8, 4, 3, 64, 16384};
 static fkv_file *file;
 static atomic_bool syncs_are_slow, reads_fail;
 static atomic_int syncing, served, syncs_left = -1, failed, failed_reads;
@@ -55,11 +56,13 @@ static uint64_t drawn(void) {
     return random_state >> 33;
 }
 
-static fkv_session *joined(void) {
+static fkv_session *joined_as(uint64_t number) {
     fkv_session *session;
-    WANTS("joining", fkv_join(file, 0, &session), 0);
+    WANTS("joining", fkv_join(file, number, &session), 0);
     return session;
 }
+
+static fkv_session *joined(void) { return joined_as(0); }
 
 static void open_and_start(const char *path, uint32_t commit_ms) {
     fkv_keeping keeping = {.commit_ms = commit_ms, .log_commits = 1};
@@ -104,6 +107,44 @@ static void serve_beside_syncs(const char *path) {
     atomic_store(&syncs_are_slow, false);
     WANTS("whether threads helped", stats.helped > 0, true);
     WANTS("leaving", fkv_leave(file, session), 0);
+    WANTS("closing", fkv_close_file(file), 0);
+}
+
+static atomic_bool ends_puts;
+
+/* Puts until it is told to end, so that pages are flushed one after the other. */
+static void *put_on(void *none) {
+    fkv_session *session = joined_as(1);
+    for (uint64_t i = 0; !atomic_load(&ends_puts); i++) {
+        WANTS("a put", fkv_put(file, session, KEYS + i % OTHERS, i, NULL), FKV_DONE);
+        WANTS("a tick", fkv_tick(file, session), 0);
+    }
+    WANTS("leaving", fkv_leave(file, session), 0);
+    return none;
+}
+
+/* No commit is made: all syncs are those of flushes, and slow. */
+static void serve_beside_flushes(const char *path) {
+    pthread_t other;
+    fkv_stats first, stats;
+    open_and_start(path, 0);
+    fkv_session *session = joined();
+    WANTS("how it fares", fkv_stats_of(file, &first), 0);
+    atomic_store(&syncs_are_slow, true);
+    atomic_store(&served, 0);
+    WANTS("a thread", pthread_create(&other, NULL, put_on, NULL), 0);
+    for (int reads = 0; atomic_load(&served) < SERVED; reads++) {
+        WANTS("whether reads are served beside flushes", reads < MOST_READS, true);
+        wants_value(session, drawn() % KEYS);
+        WANTS("a tick", fkv_tick(file, session), 0);
+    }
+    atomic_store(&syncs_are_slow, false);
+    /* (else it would hold up who puts) */
+    WANTS("leaving", fkv_leave(file, session), 0);
+    atomic_store(&ends_puts, true);
+    pthread_join(other, NULL);
+    WANTS("how it fares", fkv_stats_of(file, &stats), 0);
+    WANTS("how many commits were made", stats.commits, first.commits);
     WANTS("closing", fkv_close_file(file), 0);
 }
 
@@ -204,6 +245,7 @@ int main(int count, char **words) {
     snprintf(path, sizeof path, "%s/serving", words[1]);
     load(path);
     serve_beside_syncs(path);
+    serve_beside_flushes(path);
     tell_a_failed_read(path);
     tell_failures(path);
     return 0;

@@ -112,7 +112,7 @@ pub extern "C" fn fkv_turn(keeper: &mut HeldKeeper, turned: &mut Turned, points:
     next(keeper, ask, turned, points).number
 }
 
-/// As `fkv_turn`, but that writes of a commit that rest don't go on: the turn serves mailboxes alone then.
+/// As `fkv_turn`, but that writes of a commit that rest, or a flush, don't go on: the turn serves mailboxes alone then.
 #[unsafe(no_mangle)]
 pub extern "C" fn fkv_serve(keeper: &mut HeldKeeper, turned: &mut Turned, points: &mut [u64]) -> i32
     ensures { says.IsTurned ⟦<Posted<'static> as Device>⟧ keeper.old.value result turned.old turned.new points.old points.new keeper.new.value }
@@ -121,7 +121,7 @@ pub extern "C" fn fkv_serve(keeper: &mut HeldKeeper, turned: &mut Turned, points
     next(keeper, ask, turned, points).number
 }
 
-/// 1 where the writes of the commit in hand rest: the last turn came to a sync, which the next `fkv_turn` posts. (A hint: no clause speaks of it.)
+/// 1 where the writes of the commit in hand rest, or a flush does, and weren't let go on: `fkv_serve` only serves then. (A hint: no clause speaks of it.)
 #[unsafe(no_mangle)]
 pub extern "C" fn fkv_rests(keeper: &mut HeldKeeper) -> i32
     ensures same { keeper.new.value ≡ keeper.old.value }

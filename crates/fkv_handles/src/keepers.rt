@@ -16,7 +16,7 @@ pub struct Keeper {
 impl Keeper {
     /// Begins a turn, and carries it on up to its next call of the device or to its end. Where a call is posted that wasn't told yet nothing
     /// changes, and `Device` is answered again. It ends early as `KeeperSeat::turn` does; `Broken` once the handle is ended. Writes of a commit that rest go on
-    /// if the caller says so.
+    /// if the caller says so, and a flush that rests does in the next turn.
     pub fn turn(&mut self, goes_on: bool) -> TurnAsk
         ensures turned { said.IsTurnedBy ⟦<Posted<'static> as Device>⟧ (said.watch_of self.old) result (said.watch_of self.new) }
     {
@@ -26,7 +26,7 @@ impl Keeper {
         }
     }
 
-    /// Whether the writes of the commit in hand rest. (A hint: no clause speaks of it.)
+    /// Whether the next turn only serves: the writes of the commit in hand rest, or a flush does, and weren't let go on. (A hint: no clause speaks of it.)
     pub fn rests(&self) -> bool {
         match &self.seat {
             Some(seat) => seat.rests(),

@@ -32,13 +32,13 @@ use Rattle.fkv_maintain.specs.declared.maintaining.Maintaining.{Maintaining}
 use Rattle.fkv_maintain.specs.declared.maintaining.MaintainAnswer.{MaintainAnswer}
 use Rattle.fkv_maintain.specs.declared.maintaining.MaintainAnswer.TheVariants as maintain
 use Rattle.fkv_maintain.specs.Parts.{AboveAt, ReadsAbove}
-use Rattle.fkv_maintain.specs.Maintaining.{MaintainState, maintain_ask, maintain_called, maintain_given, maintain_next}
+use Rattle.fkv_maintain.specs.Maintaining.{is_flush_resting, MaintainState, maintain_ask, maintain_called, maintain_given, maintain_next}
 use Rattle.fkv_manifest.specs.declared.answers.WriteAnswer.{WriteAnswer}
 use Rattle.fkv_manifest.specs.declared.answers.WriteAnswer.TheVariants as write
 use Rattle.fkv_manifest.specs.Committing.{commit_answer, commit_next}
 use Rattle.fkv_keeper.specs.declared.keepers.Keeping.{Keeping}
 use Rattle.fkv_keeper.specs.declared.keepers.Keeping.TheVariants.{Ended, Starts, Maintains, LoadsPhase, Enters, Copies, Seeks, Waits, Writes, Finishes}
-use Rattle.fkv_keeper.specs.Keeping.{KeeperState, must_rest, commit_asked, turn_asked, parts_begun, copied, points_known, copies, copies_next, copy_driven, copy_ledto, copy_told, enter_ledto, finish_ledto, finished, is_copy_resting, keeping_called, keeping_given, keeping_next, maintain_ledto, part_begun, phase_ledto, seek_ledto, start_ledto, turned, wait_ledto, write_ledto, writes_begun, writes_called}
+use Rattle.fkv_keeper.specs.Keeping.{KeeperState, must_rest, commit_asked, turn_asked, parts_begun, copied, points_known, copies, copies_next, copy_driven, copy_ledto, copy_told, enter_ledto, finish_ledto, finished, is_copy_resting, keeping_called, keeping_given, keeping_next, maintain_ledto, part_begun, phase_ledto, seek_ledto, start_ledto, turned, wait_ledto, write_ledto, writes_begun, writes_called, serves_alone}
 use Rattle.fkv_keeper.specs.KeeperRun.{BeginsCommit, BeginsTurn, Calls, Gets, IsOpened, KeeperEvent, Replies, begins, is_in_hand, keeper_happens, keeper_run}
 use Rattle.fkv_keeper.specs.SlotLaws.{BeginsAt}
 
@@ -105,8 +105,8 @@ module _ (begin : Addr) where
 
   phase_same : (p : Places) (s : KeeperState) (found : Option Commit) (said : PhaseSaid) (granted : Bool) → Same s → Same (phase_ledto p s found said granted)
   unfolding phase_ledto
-  phase_same p s None said granted was = was
-  phase_same p s (Some c) said granted was = either s.rests _ _ (either granted _ _ was was) (part_same p s c said granted was)
+  phase_same p s None said granted was = either (is_flush_resting s.maintain) _ _ was was
+  phase_same p s (Some c) said granted was = either s.rests _ _ (either granted _ _ was was) (either (is_flush_resting s.maintain) _ _ was (part_same p s c said granted was))
 
   enter_same : (s : KeeperState) (ask : Ask EnterAnswer) → Same s → Same (enter_ledto s ask)
   unfolding enter_ledto
@@ -197,7 +197,7 @@ module _ (begin : Addr) where
 
   happens_same : (shape : Shape) (p : Places) (s : KeeperState) (event : KeeperEvent) → Same s → Same (keeper_happens shape p s event)
   unfolding keeper_happens
-  happens_same shape p s BeginsTurn was = begins_same s (turn_asked s) (is_in_hand s.step) was (either s.is_broken _ _ was (was.0, parts_same s.rests s.maintain was.1.0, was.2))
+  happens_same shape p s BeginsTurn was = begins_same s (turn_asked s) (is_in_hand s.step) was (either s.is_broken _ _ was (was.0, parts_same (serves_alone s) s.maintain was.1.0, was.2))
   happens_same shape p s (BeginsCommit kind) was = begins_same s (commit_asked s kind) (is_in_hand s.step) was (either s.is_broken _ _ was (either s.rests _ _ was was))
   happens_same shape p s (Replies reply granted) was = reply_same shape p s s.step reply granted was
   happens_same shape p s (Gets action) was = given_same shape p s s.step action was

@@ -34,12 +34,12 @@ use Rattle.fkv_manifest.specs.declared.answers.WriteAnswer.TheVariants as write
 use Rattle.fkv_manifest.specs.Committing.{commit_next, commit_answer}
 use Rattle.fkv_maintain.specs.declared.maintaining.MaintainAnswer.{MaintainAnswer}
 use Rattle.fkv_maintain.specs.declared.maintaining.MaintainAnswer.TheVariants as maintain
-use Rattle.fkv_maintain.specs.Maintaining.{maintain_ask, maintain_next, maintain_given, maintain_called}
+use Rattle.fkv_maintain.specs.Maintaining.{is_flush_resting, maintain_ask, maintain_next, maintain_given, maintain_called}
 use Rattle.fkv_keeper.specs.declared.answers.KeeperTold.{KeeperTold}
 use Rattle.fkv_keeper.specs.declared.answers.KeeperTold.TheVariants.{TurnRefused}
 use Rattle.fkv_keeper.specs.declared.keepers.Keeping.{Keeping}
 use Rattle.fkv_keeper.specs.declared.keepers.Keeping.TheVariants.{Ended, Starts, Maintains, LoadsPhase, Enters, Copies, Seeks, Waits, Writes, Finishes}
-use Rattle.fkv_keeper.specs.Keeping.{KeeperState, is_copy_resting, copy_driven, copy_told, copied, points_known, ended, turned, turn_asked, commit_asked, start_ledto, maintain_ledto, copies, part_begun, must_rest, writes_taken_up, phase_ledto, enter_ledto, copy_ledto, seek_ledto, writes_begun, wait_ledto, finished, finish_ledto, keeping_next, keeping_given, write_ledto, writes_called, keeping_called}
+use Rattle.fkv_keeper.specs.Keeping.{KeeperState, is_copy_resting, copy_driven, copy_told, copied, points_known, ended, turned, turn_asked, commit_asked, start_ledto, maintain_ledto, copies, part_begun, must_rest, writes_taken_up, phase_ledto, enter_ledto, copy_ledto, seek_ledto, writes_begun, wait_ledto, finished, finish_ledto, keeping_next, keeping_given, write_ledto, writes_called, keeping_called, unless_flush_rests}
 use Rattle.fkv_keeper.specs.KeeperRun.{KeeperEvent, BeginsTurn, BeginsCommit, Replies, Gets, Calls, begins, keeper_happens}
 use Rattle.fkv_keeper.specs.CheckpointLaws.{IsCopyPhase, IsCopyTakenUp, IsCopyBegun, IsBegun, IsFinished, IsCommitAfter, CopiesOnce, KeepsLists, MayFollow, MayStep, IsPhaseLoaded, DoesOneThing}
 use Rattle.fkv_keeper.proofs.Happens.{happens_at, happens_so}
@@ -198,19 +198,24 @@ part_move p s c reply (Says phase.WaitFlush version) granted says e in_hand =
     (over p s reply granted e)
 part_move p s c reply said granted says e in_hand = over p s reply granted e
 
+-- a flush that rests is let go on, or rests still
+lets_move : (p : Places) (s : KeeperState) (reply : ℕ) (granted : Bool) (its : KeeperState) → s.step ≡ LoadsPhase → IsMoved p s (Replies reply granted) its → IsMoved p s (Replies reply granted) (unless_flush_rests s granted its)
+lets_move p s reply granted its e moved = either_move (is_flush_resting s.maintain) p s (Replies reply granted) _ _
+    (ends p s LoadsPhase (Replies reply granted) (record s { is_granted = granted }) _ e (record { commit = refl; copy = refl; last = refl; lost = refl; used = refl; points = λ other. refl })) moved
+
 phase_move : (p : Places) (s : KeeperState) (found : Option Commit) (reply : ℕ) (granted : Bool) → s.step ≡ LoadsPhase → s.commit ≡ found → IsMoved p s (Replies reply granted) (phase_ledto p s found (phase_said reply) granted)
 unfolding phase_ledto
-phase_move p s None reply granted e in_hand = over p s reply granted e
+phase_move p s None reply granted e in_hand = lets_move p s reply granted _ e (over p s reply granted e)
 phase_move p s (Some c) reply granted e in_hand = by s.rests refl granted
   where
-    by : (rests : Bool) → s.rests ≡ rests → (granted : Bool) → IsMoved p s (Replies reply granted) (if rests then writes_taken_up s granted else part_begun p s c (phase_said reply) granted)
+    by : (rests : Bool) → s.rests ≡ rests → (granted : Bool) → IsMoved p s (Replies reply granted) (if rests then writes_taken_up s granted else unless_flush_rests s granted (part_begun p s c (phase_said reply) granted))
     by true rests true = record {
       copies = record { begins = λ copies. cc; copy = inl refl; commit = same_commit s _ s.commit refl };
       lists = record { lists = inl (refl, refl); used = λ other. refl; points = λ other next. refl };
       one = record { follows = rw (rests, e) tt; once = λ loads phase. cc };
     }
     by true rests false = ends p s LoadsPhase (Replies reply false) (record s { is_granted = false }) _ e (record { commit = refl; copy = refl; last = refl; lost = refl; used = refl; points = λ other. refl })
-    by false awake granted = part_move p s c reply (phase_said reply) granted refl e in_hand
+    by false awake granted = lets_move p s reply granted _ e (part_move p s c reply (phase_said reply) granted refl e in_hand)
 
 enter_move : (p : Places) (s : KeeperState) (reply : ℕ) (granted : Bool) (t : KeeperState) (ask : Ask EnterAnswer) → s.step ≡ Enters → t.step ≡ Enters → IsQuiet Enters s t → IsMoved p s (Replies reply granted) (enter_ledto t ask)
 unfolding enter_ledto

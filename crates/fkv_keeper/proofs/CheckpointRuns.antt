@@ -39,12 +39,12 @@ use Rattle.fkv_manifest.specs.declared.answers.WriteAnswer.TheVariants as write
 use Rattle.fkv_manifest.specs.Committing.{commit_next, commit_answer}
 use Rattle.fkv_maintain.specs.declared.maintaining.MaintainAnswer.{MaintainAnswer}
 use Rattle.fkv_maintain.specs.declared.maintaining.MaintainAnswer.TheVariants as maintain
-use Rattle.fkv_maintain.specs.Maintaining.{maintain_ask, maintain_next, maintain_given, maintain_called}
+use Rattle.fkv_maintain.specs.Maintaining.{is_flush_resting, maintain_ask, maintain_next, maintain_given, maintain_called}
 use Rattle.fkv_keeper.specs.declared.answers.KeeperTold.{KeeperTold}
 use Rattle.fkv_keeper.specs.declared.answers.KeeperTold.TheVariants.{TurnRefused, CommitRefused}
 use Rattle.fkv_keeper.specs.declared.keepers.Keeping.{Keeping}
 use Rattle.fkv_keeper.specs.declared.keepers.Keeping.TheVariants.{Ended, Starts, Maintains, LoadsPhase, Enters, Copies, Seeks, Waits, Writes, Finishes}
-use Rattle.fkv_keeper.specs.Keeping.{asked_for, KeeperState, is_copy_resting, copy_asked, copy_told, copy_driven, copied, points_known, ended, turned, turn_asked, commit_asked, start_ledto, maintain_ledto, copies, part_begun, parts_begun, must_rest, writes_taken_up, phase_ledto, enter_ledto, copy_ledto, seek_ledto, writes_begun, wait_ledto, finished, finish_ledto, keeping_next, keeping_given, write_ledto, writes_called, keeping_called}
+use Rattle.fkv_keeper.specs.Keeping.{asked_for, KeeperState, is_copy_resting, copy_asked, copy_told, copy_driven, copied, points_known, ended, turned, turn_asked, commit_asked, start_ledto, maintain_ledto, copies, part_begun, parts_begun, must_rest, writes_taken_up, phase_ledto, enter_ledto, copy_ledto, seek_ledto, writes_begun, wait_ledto, finished, finish_ledto, keeping_next, keeping_given, write_ledto, writes_called, keeping_called, unless_flush_rests, serves_alone}
 use Rattle.fkv_keeper.specs.KeeperRun.{KeeperEvent, BeginsTurn, BeginsCommit, Replies, Gets, Calls, is_in_hand, begins, keeper_run, IsOpened}
 use Rattle.fkv_keeper.specs.CheckpointLaws.{replies_after, copy_replies, LastBegin, begun_of, begun_by, last_begin_after, last_begin, copy_by, HasCopied, IsBeforeWrites}
 use Rattle.fkv_keeper.proofs.Happens.{happens_at, happens_so}
@@ -201,15 +201,21 @@ part_sound p replies told s c (Says phase.WaitFlush version) reply granted in_ha
     (over p replies told s LoadsPhase _ tt sound)
 part_sound p replies told s c said reply granted in_hand sound = over p replies told s LoadsPhase _ tt sound
 
+-- where a flush rests the turn is over
+lets_sound : (p : Places) (replies : List ℕ) (told : LastBegin) (s its : KeeperState) (reply : ℕ) (granted : Bool) → IsSound p replies told s LoadsPhase → from_phase p replies told (is_copy_resting s.copy) reply granted its
+    → from_phase p replies told (is_copy_resting s.copy) reply granted (unless_flush_rests s granted its)
+lets_sound p replies told s its reply granted sound led =
+    either_sound (is_flush_resting s.maintain) p replies told (is_copy_resting s.copy) reply granted _ _ (λ rests. keeps p replies told s _ LoadsPhase (Ended _) refl refl refl (λ works. works) (λ so. tt) sound tt) led
+
 phase_sound : (p : Places) (replies : List ℕ) (told : LastBegin) (s : KeeperState) (found : Option Commit) (said : PhaseSaid) (reply : ℕ) (granted : Bool) → s.commit ≡ found → IsSound p replies told s LoadsPhase → from_phase p replies told (is_copy_resting s.copy) reply granted (phase_ledto p s found said granted)
 unfolding phase_ledto
-phase_sound p replies told s None said reply granted in_hand sound = over p replies told s LoadsPhase _ tt sound
+phase_sound p replies told s None said reply granted in_hand sound = lets_sound p replies told s _ reply granted sound (over p replies told s LoadsPhase _ tt sound)
 phase_sound p replies told s (Some c) said reply granted in_hand sound = by s.rests granted
   where
-    by : (rests granted : Bool) → from_phase p replies told (is_copy_resting s.copy) reply granted (if rests then writes_taken_up s granted else part_begun p s c said granted)
+    by : (rests granted : Bool) → from_phase p replies told (is_copy_resting s.copy) reply granted (if rests then writes_taken_up s granted else unless_flush_rests s granted (part_begun p s c said granted))
     by true true = record { copied = λ its found full is_copied working early. absurd early; points = sound.points; begun = sound.begun; rests = sound.rests; here = tt }
     by true false = keeps p replies told s _ LoadsPhase (Ended _) refl refl refl (λ works. works) (λ so. tt) sound tt
-    by false granted = part_sound p replies told s c said reply granted in_hand sound
+    by false granted = lets_sound p replies told s _ reply granted sound (part_sound p replies told s c said reply granted in_hand sound)
 
 enter_sound : (p : Places) (replies : List ℕ) (told : LastBegin) (t : KeeperState) (ask : Ask EnterAnswer) → t.step ≡ Enters → IsSound p replies told t Enters → IsSound p replies told (enter_ledto t ask) (enter_ledto t ask).step
 unfolding enter_ledto
@@ -374,7 +380,7 @@ called_sound shape p replies told s step done bytes e sound = at_step p replies 
 
 -- where a turn or a commit is begun
 turn_sound : (p : Places) (replies : List ℕ) (told : LastBegin) (s : KeeperState) (its : KeeperTold) (broken : Bool) → IsSound p replies told s (Ended its)
-    → let a = if broken then ended s (TurnRefused fault.Broken) else record s { maintain = parts_begun s.rests s.maintain; is_drain_full = false; step = Maintains } in IsSound p replies told a a.step
+    → let a = if broken then ended s (TurnRefused fault.Broken) else record s { maintain = parts_begun (serves_alone s) s.maintain; is_drain_full = false; step = Maintains } in IsSound p replies told a a.step
 turn_sound p replies told s its true sound = over p replies told s (Ended its) _ tt sound
 turn_sound p replies told s its false sound = keeps p replies told s _ (Ended its) Maintains refl refl refl (λ works. works) (λ so. tt) sound tt
 

@@ -45,10 +45,10 @@ use Rattle.fkv_maintain.specs.declared.maintaining.MaintainAnswer.{MaintainAnswe
 use Rattle.fkv_maintain.specs.declared.maintaining.MaintainAnswer.TheVariants as maintain
 use Rattle.fkv_maintain.specs.declared.maintaining.Maintaining.{Maintaining}
 use Rattle.fkv_maintain.specs.declared.maintaining.Maintaining.TheVariants as part
-use Rattle.fkv_maintain.specs.Maintaining.{MaintainState, maintain_ask, maintain_next, maintain_given, maintain_called, scan_ledto, claim_ledto, flush_ledto, shift_ledto, serve_ledto, turn_ledto, maintaining_next, maintaining_given, maintaining_called}
+use Rattle.fkv_maintain.specs.Maintaining.{is_flush_resting, MaintainState, maintain_ask, maintain_next, maintain_given, maintain_called, scan_ledto, claim_ledto, flush_ledto, shift_ledto, serve_ledto, turn_ledto, maintaining_next, maintaining_given, maintaining_called, flush_told}
 use Rattle.fkv_keeper.specs.declared.keepers.Keeping.{Keeping}
 use Rattle.fkv_keeper.specs.declared.keepers.Keeping.TheVariants.{Ended, Starts, Maintains, LoadsPhase, Enters, Copies, Seeks, Waits, Writes, Finishes}
-use Rattle.fkv_keeper.specs.Keeping.{KeeperState, must_rest, parts_begun, is_copy_resting, copy_driven, copy_told, turn_asked, commit_asked, start_ledto, maintain_ledto, part_begun, phase_ledto, enter_ledto, copy_ledto, seek_ledto, writes_begun, wait_ledto, finished, finish_ledto, keeping_next, keeping_given, write_ledto, writes_called, keeping_called}
+use Rattle.fkv_keeper.specs.Keeping.{KeeperState, must_rest, parts_begun, is_copy_resting, copy_driven, copy_told, turn_asked, commit_asked, start_ledto, maintain_ledto, part_begun, phase_ledto, enter_ledto, copy_ledto, seek_ledto, writes_begun, wait_ledto, finished, finish_ledto, keeping_next, keeping_given, write_ledto, writes_called, keeping_called, serves_alone}
 use Rattle.fkv_keeper.specs.KeeperRun.{KeeperEvent, BeginsTurn, BeginsCommit, Replies, Gets, Calls, is_in_hand, begins, keeper_run, IsOpened}
 use Rattle.fkv_keeper.proofs.CheckpointRanges.{IsShiftedIn, IsTurnedIn, shift_in, turn_in, claim_in, given_in}
 use Rattle.fkv_keeper.proofs.CheckpointParts.{IsStartIn, start_in, IsEnterIn, enter_in, IsSeekIn, seek_begun_in, seek_in}
@@ -119,7 +119,7 @@ maintain_given_in s step action e fits = maintain_at step s e fits
 
 maintain_called_in : (shape : Shape) (p : Places) (s : MaintainState) (step : Maintaining) (done : Bool) (bytes : List ℕ) → s.step ≡ step → IsMaintainAt step s → IsMaintainIn (maintaining_called shape p s step done bytes)
 unfolding maintaining_called
-maintain_called_in shape p s part.Flushes true bytes e fits = flush_led_in (record s { bytes = bytes_done s.flushing s.bytes; flushing = flush_done shape.page s.flushing true }) (flush_ask p (flush_done shape.page s.flushing true)) e
+maintain_called_in shape p s part.Flushes true bytes e fits = flush_led_in (record s { bytes = bytes_done s.flushing s.bytes; flushing = flush_done shape.page s.flushing true }) (flush_told shape p (flush_done shape.page s.flushing true)) e
 maintain_called_in shape p s part.Flushes false bytes e fits = tt
 maintain_called_in shape p s part.Serves true bytes e fits = serve_led_in (record s { serving = serve_read s.serving bytes }) (serve_ask (serve_read s.serving bytes)) e
 maintain_called_in shape p s part.Serves false bytes e fits = tt
@@ -169,8 +169,8 @@ part_in p s c said granted = tt
 
 phase_in : (p : Places) (s : KeeperState) (found : Option Commit) (said : PhaseSaid) (granted : Bool) → IsKeeperIn (phase_ledto p s found said granted)
 unfolding phase_ledto
-phase_in p s None said granted = tt
-phase_in p s (Some c) said granted = either_keeper s.rests _ _ (either_keeper granted _ _ tt tt) (part_in p s c said granted)
+phase_in p s None said granted = either_keeper (is_flush_resting s.maintain) _ _ tt tt
+phase_in p s (Some c) said granted = either_keeper s.rests _ _ (either_keeper granted _ _ tt tt) (either_keeper (is_flush_resting s.maintain) _ _ tt (part_in p s c said granted))
 
 enter_led_in : (s : KeeperState) (ask : Ask EnterAnswer) → s.step ≡ Enters → IsEnterIn s.enter → IsKeeperIn (enter_ledto s ask)
 unfolding enter_ledto
@@ -256,7 +256,7 @@ begins_in s begun (Ended its) e fits its_begun = its_begun
 begins_in s begun step e fits its_begun = keeping_at step s e fits
 
 happens_in : (shape : Shape) (p : Places) (s : KeeperState) (step : Keeping) (event : KeeperEvent) → s.step ≡ step → IsKeepingIn step s → IsKeeperIn (happens_at shape p s step event)
-happens_in shape p s step BeginsTurn e fits = begins_in s (turn_asked s) step e fits (either_keeper s.is_broken _ _ tt (begun_parts_in s.rests s.maintain))
+happens_in shape p s step BeginsTurn e fits = begins_in s (turn_asked s) step e fits (either_keeper s.is_broken _ _ tt (begun_parts_in (serves_alone s) s.maintain))
 happens_in shape p s step (BeginsCommit kind) e fits = begins_in s (commit_asked s kind) step e fits (either_keeper s.is_broken _ _ tt (either_keeper s.rests _ _ tt tt))
 happens_in shape p s step (Replies reply granted) e fits = reply_in shape p s step reply granted e fits
 happens_in shape p s step (Gets action) e fits = keeper_given_in shape p s step action e fits

@@ -30,7 +30,7 @@ use Rattle.fkv_commit.specs.Waiting.{wait_ask, wait_next}
 use Rattle.fkv_commit.proofs.Shown.{start_asked}
 use Rattle.fkv_maintain.specs.declared.maintaining.MaintainAnswer.{MaintainAnswer}
 use Rattle.fkv_maintain.specs.declared.maintaining.MaintainAnswer.TheVariants as maintain
-use Rattle.fkv_maintain.specs.Maintaining.{maintain_ask, maintain_called, maintain_given, maintain_next}
+use Rattle.fkv_maintain.specs.Maintaining.{is_flush_resting, maintain_ask, maintain_called, maintain_given, maintain_next}
 use Rattle.fkv_manifest.specs.declared.answers.WriteAnswer.{WriteAnswer}
 use Rattle.fkv_manifest.specs.declared.answers.WriteAnswer.TheVariants as write
 use Rattle.fkv_manifest.specs.Committing.{commit_answer, commit_next}
@@ -78,8 +78,8 @@ module _ (class : StoreClass) where
 
   phase_same : (p : Places) (s : KeeperState) (found : Option Commit) (said : PhaseSaid) (granted : Bool) → Same s → Same (phase_ledto p s found said granted)
   unfolding phase_ledto
-  phase_same p s None said granted was = was
-  phase_same p s (Some c) said granted was = either s.rests _ _ (either granted _ _ was was) (part_same p s c said granted was)
+  phase_same p s None said granted was = either (is_flush_resting s.maintain) _ _ was was
+  phase_same p s (Some c) said granted was = either s.rests _ _ (either granted _ _ was was) (either (is_flush_resting s.maintain) _ _ was (part_same p s c said granted was))
 
   enter_same : (s : KeeperState) (ask : Ask EnterAnswer) → Same s → Same (enter_ledto s ask)
   unfolding enter_ledto

@@ -21,7 +21,7 @@ use Rattle.fkv_flush.specs.Serving.{serve_ask, serve_next, serve_read, mailbox_f
 use Rattle.fkv_maintain.specs.declared.maintaining.MaintainAnswer.TheVariants as answer
 use Rattle.fkv_maintain.specs.declared.maintaining.Maintaining.{Maintaining}
 use Rattle.fkv_maintain.specs.declared.maintaining.Maintaining.TheVariants.{Through, Spent, Broken, Scans, Claims, Flushes, Shifts, Turns, Serves}
-use Rattle.fkv_maintain.specs.Maintaining.{MaintainState, maintaining_ask, maintain_ask, scan_ledto, claim_ledto, flush_ledto, shift_ledto, serve_ledto, serve_begun, turn_ledto, maintaining_next, maintain_next, maintaining_given, maintain_given, maintaining_called, maintain_called}
+use Rattle.fkv_maintain.specs.Maintaining.{MaintainState, maintaining_ask, maintain_ask, scan_ledto, claim_ledto, flush_ledto, shift_ledto, serve_ledto, serve_begun, turn_ledto, maintaining_next, maintain_next, maintaining_given, maintain_given, maintaining_called, maintain_called, flush_told}
 use Rattle.fkv_commit.specs.Exchanges.{Exchange, exchanged}
 use Rattle.fkv_keeper.specs.DrainLaws.{HasSoughtAll}
 use Rattle.fkv_keeper.proofs.DrainSought.{passed_told, still_sought, now_sought}
@@ -107,7 +107,7 @@ maintain_got s told action its = given_at s s.step told action refl its
 
 called_at : (shape : Shape) (p : Places) (s : MaintainState) (step : Maintaining) (told : List Exchange) (done : Bool) (bytes : List ℕ) → s.step ≡ step → IsLeftOut s told → IsLeftOut (maintaining_called shape p s step done bytes) told
 unfolding maintaining_called
-called_at shape p s Flushes told true bytes e its = flush_led _ (flush_ask p (flush_done shape.page s.flushing true)) told e its.full
+called_at shape p s Flushes told true bytes e its = flush_led _ (flush_told shape p (flush_done shape.page s.flushing true)) told e its.full
 called_at shape p s Flushes told false bytes e its = record { knows = tt; full = its.full }
 called_at shape p s Serves told true bytes e its = serve_led _ (serve_ask (serve_read s.serving bytes)) told e its.full
 called_at shape p s Serves told false bytes e its = record { knows = tt; full = its.full }

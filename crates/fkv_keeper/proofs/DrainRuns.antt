@@ -34,12 +34,12 @@ use Rattle.fkv_manifest.specs.declared.answers.WriteAnswer.TheVariants as write
 use Rattle.fkv_manifest.specs.Committing.{commit_next, commit_answer}
 use Rattle.fkv_maintain.specs.declared.maintaining.MaintainAnswer.{MaintainAnswer}
 use Rattle.fkv_maintain.specs.declared.maintaining.MaintainAnswer.TheVariants as maintain
-use Rattle.fkv_maintain.specs.Maintaining.{MaintainState, maintain_ask, maintain_next, maintain_given, maintain_called}
+use Rattle.fkv_maintain.specs.Maintaining.{is_flush_resting, MaintainState, maintain_ask, maintain_next, maintain_given, maintain_called}
 use Rattle.fkv_keeper.specs.declared.answers.KeeperTold.{KeeperTold}
 use Rattle.fkv_keeper.specs.declared.answers.KeeperTold.TheVariants.{Turned, CommitRefused}
 use Rattle.fkv_keeper.specs.declared.keepers.Keeping.{Keeping}
 use Rattle.fkv_keeper.specs.declared.keepers.Keeping.TheVariants.{Ended, Starts, Maintains, LoadsPhase, Enters, Copies, Seeks, Waits, Writes, Finishes}
-use Rattle.fkv_keeper.specs.Keeping.{asked_for, KeeperState, must_rest, parts_begun, is_copy_resting, copy_driven, copy_told, device_passed, end_told, keeping_ask, ended, turned, turn_over, turn_asked, commit_asked, start_ledto, maintain_ledto, copies, part_begun, phase_ledto, enter_ledto, copy_ledto, seek_ledto, writes_begun, wait_ledto, finished, finish_ledto, keeping_next, keeping_given, write_ledto, writes_called, keeping_called}
+use Rattle.fkv_keeper.specs.Keeping.{asked_for, KeeperState, must_rest, parts_begun, is_copy_resting, copy_driven, copy_told, device_passed, end_told, keeping_ask, ended, turned, turn_over, turn_asked, commit_asked, start_ledto, maintain_ledto, copies, part_begun, phase_ledto, enter_ledto, copy_ledto, seek_ledto, writes_begun, wait_ledto, finished, finish_ledto, keeping_next, keeping_given, write_ledto, writes_called, keeping_called, serves_alone}
 use Rattle.fkv_keeper.specs.KeeperRun.{KeeperEvent, BeginsTurn, BeginsCommit, Replies, Gets, Calls, is_in_hand, is_calling, keeper_happens, keeper_run, IsOpened}
 use Rattle.fkv_keeper.specs.DrainLaws.{HasSoughtAll, told_anew, told_after, call_told}
 use Rattle.fkv_keeper.proofs.DrainSought.{passed_told, still_sought, now_sought}
@@ -112,8 +112,9 @@ part_led p s c said granted told full = over s told full
 
 phase_led : (p : Places) (s : KeeperState) (found : Option Commit) (said : PhaseSaid) (granted : Bool) (told : List Exchange) → Full s told → Knows (phase_ledto p s found said granted) told
 unfolding phase_ledto
-phase_led p s None said granted told full = over s told full
-phase_led p s (Some c) said granted told full = either s.rests _ _ told (either granted _ _ told full (over (record s { is_granted = false }) told full)) (part_led p s c said granted told full)
+phase_led p s None said granted told full = either (is_flush_resting s.maintain) _ _ told (over (record s { is_granted = granted }) told full) (over s told full)
+phase_led p s (Some c) said granted told full = either s.rests _ _ told (either granted _ _ told full (over (record s { is_granted = false }) told full))
+    (either (is_flush_resting s.maintain) _ _ told (over (record s { is_granted = granted }) told full) (part_led p s c said granted told full))
 
 enter_led : (t : KeeperState) (ask : Ask EnterAnswer) (told : List Exchange) → t.step ≡ Enters → enter_ask t.enter ≡ ask → EnterKnows t.enter t.enter.step told → Full t told → Knows (enter_ledto t ask) told
 unfolding enter_ledto
@@ -220,7 +221,7 @@ parts_begin true m told = record { knows = tt; full = λ e. cc }
 parts_begin false m told = record { knows = tt; full = λ e. cc }
 
 turn_begins : (s : KeeperState) (told : List Exchange) → Knows (turn_asked s) told
-turn_begins s told = either s.is_broken _ _ told tt (parts_begin s.rests s.maintain told)
+turn_begins s told = either s.is_broken _ _ told tt (parts_begin (serves_alone s) s.maintain told)
 
 commit_begins : (s : KeeperState) (kind : CommitKind) (told : List Exchange) → Knows (commit_asked s kind) told
 commit_begins s kind told = either s.is_broken _ _ told tt (either s.rests _ (record s { start = start_begun s.start (asked_for s kind); step = Starts }) told tt tt)

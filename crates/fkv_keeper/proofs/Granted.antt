@@ -1,4 +1,4 @@
--- What was granted counts only where a copy begins or is refused, or writes rest, and there the state says it.
+-- What was granted counts only where a copy begins or is refused, or writes or a flush rest, and there the state says it.
 use Rattle.std.proofs.Common.{◌≡◌, ℕ, Bool, true, false, refl}
 use Rattle.std.specs.Prelude.{◌||◌, Option, Some, None, if◌then◌else◌}
 use Rattle.fkv_base.specs.declared.faults.Fault.TheVariants as fault
@@ -15,7 +15,8 @@ use Rattle.fkv_commit.specs.Seeking.{seek_begun}
 use Rattle.fkv_keeper.specs.declared.answers.KeeperTold.TheVariants.{TurnRefused}
 use Rattle.fkv_keeper.specs.declared.keepers.Keeping.{Keeping}
 use Rattle.fkv_keeper.specs.declared.keepers.Keeping.TheVariants.{LoadsPhase, Enters, Copies, Seeks}
-use Rattle.fkv_keeper.specs.Keeping.{KeeperState, is_copy_resting, ended, turned, copies, part_begun, writes_taken_up, phase_ledto, keeping_next, keeper_next}
+use Rattle.fkv_maintain.specs.Maintaining.{is_flush_resting}
+use Rattle.fkv_keeper.specs.Keeping.{KeeperState, is_copy_resting, ended, turned, copies, part_begun, writes_taken_up, phase_ledto, keeping_next, keeper_next, unless_flush_rests}
 
 -- a step that goes by the grant leads where its state says
 abbrev SaysGranted : (Bool → KeeperState) → Bool → Type 0
@@ -49,15 +50,19 @@ part_says p s c (Says phase.Rest version) granted = refl
 part_says p s c (Says phase.Prepare version) granted = refl
 part_says p s c Spoiled granted = refl
 
+lets_says : (s : KeeperState) (its : Bool → KeeperState) (granted rests : Bool) → SaysGranted its granted → SaysGranted (λ g. if rests then turned (record s { is_granted = g }) else its g) granted
+lets_says s its granted true says = refl
+lets_says s its granted false says = says
+
 phase_says : (p : Places) (s : KeeperState) (commit : Option Commit) (said : PhaseSaid) (granted : Bool) → SaysGranted (phase_ledto p s commit said) granted
 unfolding phase_ledto
-phase_says p s None said granted = refl
+phase_says p s None said granted = lets_says s (λ g. turned s) granted (is_flush_resting s.maintain) refl
 phase_says p s (Some c) said granted = by s.rests granted
   where
-    by : (rests granted : Bool) → SaysGranted (λ g. if rests then writes_taken_up s g else part_begun p s c said g) granted
+    by : (rests granted : Bool) → SaysGranted (λ g. if rests then writes_taken_up s g else unless_flush_rests s g (part_begun p s c said g)) granted
     by true true = refl
     by true false = refl
-    by false granted = part_says p s c said granted
+    by false granted = lets_says s (part_begun p s c said) granted (is_flush_resting s.maintain) (part_says p s c said granted)
 
 step_says : (shape : Shape) (p : Places) (s : KeeperState) (step : Keeping) (reply : ℕ) (granted : Bool) → SaysGranted (keeping_next shape p s step reply) granted
 unfolding keeping_next

@@ -51,7 +51,7 @@ use Rattle.fkv_maintain.specs.declared.maintaining.MaintainAnswer.{MaintainAnswe
 use Rattle.fkv_maintain.specs.declared.maintaining.MaintainAnswer.TheVariants as maintain
 use Rattle.fkv_flush.specs.Serving.{serve_ask}
 use Rattle.fkv_maintain.specs.Parts.{IsServing}
-use Rattle.fkv_maintain.specs.Maintaining.{maintain_ask, device_asked, maintaining_ask, maintain_next, maintain_given, maintain_called}
+use Rattle.fkv_maintain.specs.Maintaining.{is_flush_resting, maintain_ask, device_asked, maintaining_ask, maintain_next, maintain_given, maintain_called}
 use Rattle.fkv_keeper.specs.declared.answers.KeeperTold.TheVariants.{Turned, TurnRefused, CommitRefused}
 use Rattle.fkv_keeper.specs.declared.keepers.Keeping.{Keeping}
 use Rattle.fkv_keeper.specs.declared.keepers.Keeping.TheVariants.{Ended, Starts, Maintains, LoadsPhase, Enters, Copies, Seeks, Waits, Writes, Finishes}
@@ -59,7 +59,7 @@ use Rattle.fkv_keeper.specs.Answers.{is_busy}
 use Rattle.fkv_keeper.specs.LastCommits.{is_gate_open}
 use Rattle.fkv_keeper.specs.KeeperAsks.{keeper_asks_left}
 use Rattle.fkv_keeper.specs.KeeperRun.{KeeperEvent, BeginsTurn, BeginsCommit, Replies, Gets, Calls, is_in_hand, begins, keeper_happens, keeper_run}
-use Rattle.fkv_keeper.specs.Keeping.{KeeperState, device_passed, write_asked, turn_over, is_copy_resting, copy_asked, copy_told, copy_driven, keeping_ask, ended, turned, commit_asked, turn_asked, start_ledto, maintain_ledto, copies, copies_next, part_begun, writes_taken_up, parts_begun, must_rest, phase_ledto, enter_ledto, copy_ledto, seek_ledto, checkpoint_used, writes_of, writes_begun, wait_ledto, finished, finish_ledto, keeping_next, keeping_given, write_ledto, keeping_called}
+use Rattle.fkv_keeper.specs.Keeping.{KeeperState, device_passed, write_asked, turn_over, is_copy_resting, copy_asked, copy_told, copy_driven, keeping_ask, ended, turned, commit_asked, turn_asked, start_ledto, maintain_ledto, copies, copies_next, part_begun, writes_taken_up, parts_begun, must_rest, phase_ledto, enter_ledto, copy_ledto, seek_ledto, checkpoint_used, writes_of, writes_begun, wait_ledto, finished, finish_ledto, keeping_next, keeping_given, write_ledto, keeping_called, unless_flush_rests, serves_alone}
 use Rattle.fkv_keeper.specs.KeeperLaws.{MayRest}
 use Rattle.fkv_keeper.proofs.KeeperLeft.{keeper_left, never, nor}
 use Rattle.fkv_keeper.proofs.Rests.{begins_rest, rests_still}
@@ -93,7 +93,7 @@ commit_busy shape p s kind = either_busy s.is_broken shape p _ _ tt (either_busy
 
 turn_busy : (shape : Shape) (p : Places) (s : KeeperState) → IsBusyNow shape p (turn_asked s)
 unfolding keeping_ask maintaining_ask scan_ask serve_ask device_asked device_passed passed
-turn_busy shape p s = either_busy s.is_broken shape p _ _ tt (parts s.rests)
+turn_busy shape p s = either_busy s.is_broken shape p _ _ tt (parts (serves_alone s))
   where
     parts : (rests : Bool) → is_busy (device_passed (maintain_ask shape p (parts_begun rests s.maintain)) (Turned false false)) ≡ true
     parts true = refl
@@ -200,12 +200,12 @@ part_busy shape p s c said granted some = tt
 
 phased : (shape : Shape) (p : Places) (s : KeeperState) (c : Option Commit) (said : PhaseSaid) (granted : Bool) → 0 < p.buckets → GoesOnThere s → IsBusyNow shape p (phase_ledto p s c said granted)
 unfolding phase_ledto
-phased shape p s None said granted some there = tt
+phased shape p s None said granted some there = either_busy (is_flush_resting s.maintain) shape p (turned (record s { is_granted = granted })) (turned s) tt tt
 phased shape p s (Some c) said granted some there = by s.rests refl
   where
-    by : (rests : Bool) → s.rests ≡ rests → IsBusyNow shape p (if rests then writes_taken_up s granted else part_begun p s c said granted)
+    by : (rests : Bool) → s.rests ≡ rests → IsBusyNow shape p (if rests then writes_taken_up s granted else unless_flush_rests s granted (part_begun p s c said granted))
     by true rests = either_busy granted shape p _ _ (there rests).2 tt
-    by false awake = part_busy shape p s c said granted some
+    by false awake = either_busy (is_flush_resting s.maintain) shape p (turned (record s { is_granted = granted })) (part_begun p s c said granted) tt (part_busy shape p s c said granted some)
 
 entered : (shape : Shape) (p : Places) (s : KeeperState) (ask : Ask EnterAnswer) → s.step ≡ Enters → enter_ask s.enter ≡ ask → IsBusyNow shape p (enter_ledto s ask)
 unfolding enter_ledto keeping_ask passed

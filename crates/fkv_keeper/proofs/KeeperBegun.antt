@@ -7,7 +7,7 @@ use Rattle.fkv_base.specs.declared.commits.CommitKind.{CommitKind}
 use Rattle.fkv_commit.specs.AsksLeft.{starting_asks_left}
 use Rattle.fkv_maintain.specs.AsksLeft.{maintain_asks_left, most_maintain_asks}
 use Rattle.fkv_keeper.specs.KeeperAsks.{most_part_asks, most_begin_asks, most_turn_asks, keeping_asks_left, keeper_asks_left}
-use Rattle.fkv_keeper.specs.Keeping.{KeeperState, commit_asked, parts_begun, turn_asked}
+use Rattle.fkv_keeper.specs.Keeping.{KeeperState, commit_asked, parts_begun, turn_asked, serves_alone}
 use Rattle.fkv_maintain.specs.Maintaining.{MaintainState, maintain_begun}
 use Rattle.fkv_plane.proofs.Shown.{sum_most}
 use Rattle.fkv_maintain.proofs.Shown.{maintain_begun_left, maintain_serving_left}
@@ -27,6 +27,6 @@ parts_begun_left shape false m = maintain_begun_left shape (maintain_begun m) re
 pub turn_bounded : (shape : Shape) (p : Places) (s : KeeperState) → s.seek.sessions ≡ shape.sessions → s.finish.sessions ≡ shape.sessions → keeper_asks_left shape p (turn_asked s) ≤ most_turn_asks shape
 unfolding keeping_asks_left
 turn_bounded shape p s seeks finishes =
-    let begun = parts_begun_left shape s.rests s.maintain in
-    let most = sum_most (maintain_asks_left shape (parts_begun s.rests s.maintain)) (most_part_asks s.seek.sessions s.finish.sessions + 1) in
+    let begun = parts_begun_left shape (serves_alone s) s.maintain in
+    let most = sum_most (maintain_asks_left shape (parts_begun (serves_alone s) s.maintain)) (most_part_asks s.seek.sessions s.finish.sessions + 1) in
     either shape p s.is_broken _ _ _ (omega arith) (omega (arith, begun, most, seeks, finishes))

@@ -51,7 +51,7 @@ use Rattle.fkv_maintain.specs.AsksLeft.{maintain_asks_left}
 use Rattle.fkv_keeper.specs.KeeperAsks.{committing_calls_left, writes_left, copy_left, most_copy_asks, most_write_asks, most_part_asks, keeping_asks_left, keeper_asks_left, keeping_made, keeper_calls_asked}
 use Rattle.fkv_keeper.specs.Keeping.{KeeperState, device_passed, write_asked, turn_over, is_copy_resting, copy_asked, copy_told, copy_driven, keeping_ask, keeper_ask, ended, start_ledto, maintain_ledto, copies, part_begun, phase_ledto, enter_ledto, copy_ledto, seek_ledto, writes_begun, wait_ledto, finished, finish_ledto, keeping_next, keeper_next, keeping_given, keeper_given, must_rest, turned, write_ledto, keeping_called, keeper_called, writes_of, checkpoint_used}
 use Rattle.fkv_maintain.specs.declared.maintaining.Maintaining.TheVariants.{Broken}
-use Rattle.fkv_maintain.specs.Maintaining.{MaintainState, maintaining_ask, maintain_ask, maintain_next, maintain_given, maintain_called}
+use Rattle.fkv_maintain.specs.Maintaining.{is_flush_resting, MaintainState, maintaining_ask, maintain_ask, maintain_next, maintain_given, maintain_called}
 use Rattle.fkv_keeper.proofs.KeeperDevice.{keeper_asked_calls}
 use Rattle.fkv_keeper.proofs.KeeperLeft.{never, nor, copy_where, write_busy}
 use Rattle.fkv_keeper.proofs.KeeperTakes.{starting_takes, entering_takes, copy_takes, seeking_takes, waiting_takes, finishing_takes}
@@ -210,8 +210,9 @@ takes_up_led shape p s =
 phase_led : (shape : Shape) (p : Places) (s : KeeperState) (commit : Option Commit) (said : PhaseSaid) (granted : Bool)
     → keeper_asks_left shape p (phase_ledto p s commit said granted) < most_part_asks s.seek.sessions s.finish.sessions + 1
 unfolding phase_ledto
-phase_led shape p s None said granted = over shape p s (turn_over s) _ (omega arith)
-phase_led shape p s (Some c) said granted = either shape p s.rests _ _ _ (either shape p granted _ _ _ (takes_up_led shape p s) (over shape p (record s { is_granted = false }) (turn_over s) _ (omega arith))) (part_led shape p s c said granted)
+phase_led shape p s None said granted = either shape p (is_flush_resting s.maintain) _ _ _ (over shape p (record s { is_granted = granted }) (turn_over s) _ (omega arith)) (over shape p s (turn_over s) _ (omega arith))
+phase_led shape p s (Some c) said granted = either shape p s.rests _ _ _ (either shape p granted _ _ _ (takes_up_led shape p s) (over shape p (record s { is_granted = false }) (turn_over s) _ (omega arith)))
+    (either shape p (is_flush_resting s.maintain) _ _ _ (over shape p (record s { is_granted = granted }) (turn_over s) _ (omega arith)) (part_led shape p s c said granted))
 
 inside_enter : (shape : Shape) (p : Places) (s : KeeperState) (old : ℕ) → s.step ≡ Enters → enter_asks_left s.enter < old → keeper_asks_left shape p s < old
 unfolding keeping_asks_left

@@ -21,11 +21,11 @@ use Rattle.fkv_maintain.specs.declared.maintaining.Maintaining.{Maintaining}
 use Rattle.fkv_maintain.specs.declared.maintaining.Maintaining.TheVariants as part
 use Rattle.fkv_maintain.specs.declared.maintaining.MaintainAnswer.{MaintainAnswer}
 use Rattle.fkv_maintain.specs.declared.maintaining.MaintainAnswer.TheVariants as maintain
-use Rattle.fkv_maintain.specs.Maintaining.{MaintainState, maintain_next, maintain_given, maintain_ask, maintaining_ask, maintain_called, maintaining_called, maintaining_made}
+use Rattle.fkv_maintain.specs.Maintaining.{is_flush_resting, MaintainState, maintain_next, maintain_given, maintain_ask, maintaining_ask, maintain_called, maintaining_called, maintaining_made}
 use Rattle.fkv_checkpoint.specs.Copying.{copy_begun}
 use Rattle.fkv_commit.specs.declared.commits.Commit.{Commit}
 use Rattle.fkv_commit.specs.Seeking.{seek_begun}
-use Rattle.fkv_keeper.specs.Keeping.{KeeperState, is_copy_resting, ended, copies, part_begun, phase_ledto, writes_taken_up, keeper_ask, keeping_ask, is_sync, turned, commit_asked, turn_asked, maintain_ledto, keeping_next, keeping_given, keeping_called}
+use Rattle.fkv_keeper.specs.Keeping.{KeeperState, is_copy_resting, ended, copies, part_begun, phase_ledto, writes_taken_up, keeper_ask, keeping_ask, is_sync, turned, commit_asked, turn_asked, maintain_ledto, keeping_next, keeping_given, keeping_called, unless_flush_rests, is_resting}
 use Rattle.fkv_keeper.specs.KeeperRun.{KeeperEvent, BeginsTurn, BeginsCommit, Replies, Gets, Calls, is_in_hand, begins, keeper_happens, keeper_run, IsOpened, is_failure, has_failed, Writing, writing_after, writing, is_calling, open_after, open_told, number_open}
 use Rattle.fkv_keeper.specs.KeeperAsks.{keeping_made, keeper_made, keeper_calls_asked}
 use Rattle.fkv_base.specs.Limits.{is_specified}
@@ -371,13 +371,19 @@ copies_either : (b : Bool) (p : Places) (s other : KeeperState) (granted : Bool)
 copies_either true p s other granted e = cc
 copies_either false p s other granted e = refl
 
+or_false : (a b : Bool) → (a || b) ≡ false → (a ≡ false) × (b ≡ false)
+or_false true b e = cc
+or_false false b e = (refl, e)
+
 copies_found : (p : Places) (s : KeeperState) (found : Option Commit) (c : Commit) (said : PhaseSaid) (version : Version) (granted : Bool) → found ≡ Some c → c.is_copied ≡ false → said ≡ Says phase.WaitPending version
-    → s.rests ≡ false → phase_ledto p s found said granted ≡ copies p s granted
+    → is_resting s ≡ false → phase_ledto p s found said granted ≡ copies p s granted
 unfolding phase_ledto
 copies_found p s None c said version granted e not_copied says awake = cc
 copies_found p s (Some its) c said version granted e not_copied says awake =
     let same : its ≡ c = cc in
-    ap (λ (x : Bool). if x then writes_taken_up s granted else part_begun p s its said granted) awake
+    let apart = or_false s.rests (is_flush_resting s.maintain) awake in
+    ap (λ (x : Bool). if x then writes_taken_up s granted else unless_flush_rests s granted (part_begun p s its said granted)) apart.0
+    ∙ ap (λ (x : Bool). if x then turned (record s { is_granted = granted }) else part_begun p s its said granted) apart.1
     ∙ ap (λ (x : PhaseSaid). part_begun p s its x granted) says
     ∙ copies_either its.is_copied p s (record s { seek = seek_begun s.seek its.number s.last.points; has_points = false; step = Seeks }) granted (ap (λ (x : Commit). x.is_copied) same ∙ not_copied)
 

@@ -39,8 +39,8 @@ use Rattle.fkv_keeper.specs.declared.keepers.Keeping.{Keeping}
 use Rattle.fkv_keeper.specs.declared.keepers.Keeping.TheVariants.{Ended, Starts, Maintains, LoadsPhase, Enters, Copies, Seeks, Waits, Writes, Finishes}
 use Rattle.fkv_maintain.specs.declared.maintaining.MaintainAnswer.{MaintainAnswer}
 use Rattle.fkv_maintain.specs.declared.maintaining.MaintainAnswer.TheVariants as maintain
-use Rattle.fkv_maintain.specs.Maintaining.{maintain_ask, maintain_next, maintain_given, maintain_called}
-use Rattle.fkv_keeper.specs.Keeping.{KeeperState, is_copy_resting, copy_taken, copy_driven, copy_told, copied, points_known, ended, turned, start_ledto, maintain_ledto, copies, part_begun, parts_begun, writes_taken_up, phase_ledto, enter_ledto, copy_ledto, seek_ledto, writes_begun, wait_ledto, finished, finish_ledto, keeping_next, keeping_given, must_rest, write_ledto, writes_called, keeping_called, asked_for}
+use Rattle.fkv_maintain.specs.Maintaining.{is_flush_resting, maintain_ask, maintain_next, maintain_given, maintain_called}
+use Rattle.fkv_keeper.specs.Keeping.{KeeperState, is_copy_resting, copy_taken, copy_driven, copy_told, copied, points_known, ended, turned, start_ledto, maintain_ledto, copies, part_begun, parts_begun, writes_taken_up, phase_ledto, enter_ledto, copy_ledto, seek_ledto, writes_begun, wait_ledto, finished, finish_ledto, keeping_next, keeping_given, must_rest, write_ledto, writes_called, keeping_called, asked_for, unless_flush_rests, serves_alone}
 use Rattle.fkv_record.specs.Places.{area_place}
 use Rattle.fkv_keeper.specs.declared.last_commits.Checkpoint.{Checkpoint}
 use Rattle.fkv_keeper.specs.LastCommits.{area_number}
@@ -167,14 +167,19 @@ take_up_step shape w s true works known =
     a = record s { rests = false; is_granted = true; step = Writes }
 take_up_step shape w s false works known = turns shape w s (record s { is_granted = false }) s.is_drain_full works refl
 
+-- where a flush rests the turn is over
+lets_step : (shape : Shape) (w : Writing) (s its : KeeperState) (granted rests : Bool) → s.is_broken ≡ false → IsStep shape w s its → IsStep shape w s (if rests then turned (record s { is_granted = granted }) else its)
+lets_step shape w s its granted true works led = turns shape w s (record s { is_granted = granted }) s.is_drain_full works refl
+lets_step shape w s its granted false works led = led
+
 phase_step : (shape : Shape) (p : Places) (w : Writing) (s : KeeperState) (found : Option Commit) (said : PhaseSaid) (granted : Bool) → s.is_broken ≡ false → s.commit ≡ found → (s.rests ≡ true → KnowsWrites shape s w) → IsStep shape w s (phase_ledto p s found said granted)
 unfolding phase_ledto
-phase_step shape p w s None said granted works in_hand resting = turns shape w s s s.is_drain_full works refl
+phase_step shape p w s None said granted works in_hand resting = lets_step shape w s _ granted (is_flush_resting s.maintain) works (turns shape w s s s.is_drain_full works refl)
 phase_step shape p w s (Some c) said granted works in_hand resting = by s.rests refl
   where
-    by : (rests : Bool) → s.rests ≡ rests → IsStep shape w s (if rests then writes_taken_up s granted else part_begun p s c said granted)
+    by : (rests : Bool) → s.rests ≡ rests → IsStep shape w s (if rests then writes_taken_up s granted else unless_flush_rests s granted (part_begun p s c said granted))
     by true rests = take_up_step shape w s granted works (resting rests)
-    by false awake = part_step shape p w s c said granted works in_hand
+    by false awake = lets_step shape w s _ granted (is_flush_resting s.maintain) works (part_step shape p w s c said granted works in_hand)
 
 enter_step : (shape : Shape) (w : Writing) (s t : KeeperState) (ask : Ask EnterAnswer) → t.step ≡ Enters → t.is_broken ≡ false → t.commit ≡ s.commit → IsStep shape w s (enter_ledto t ask)
 unfolding enter_ledto
@@ -341,7 +346,7 @@ called_step shape p w s Writes done bytes goes e known = call_step shape w s don
 called_step shape p w s step done bytes goes e known = stays shape w s step goes e known
 
 -- where a turn or a commit is begun
-pub turn_step : (shape : Shape) (w : Writing) (s : KeeperState) (broken : Bool) → s.is_broken ≡ broken → IsStep shape w s (if broken then ended s (TurnRefused fault.Broken) else record s { maintain = parts_begun s.rests s.maintain; is_drain_full = false; step = Maintains })
+pub turn_step : (shape : Shape) (w : Writing) (s : KeeperState) (broken : Bool) → s.is_broken ≡ broken → IsStep shape w s (if broken then ended s (TurnRefused fault.Broken) else record s { maintain = parts_begun (serves_alone s) s.maintain; is_drain_full = false; step = Maintains })
 turn_step shape w s true e = record { broken = λ broken. tt; knows = tt; number = refl; memory = λ ends. cc; told = λ full ends. cc }
 turn_step shape w s false e = going shape w s _ Maintains tt refl e refl e
 

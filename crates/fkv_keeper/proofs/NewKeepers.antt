@@ -7,4 +7,4 @@ use Rattle.fkv_keeper.specs.KeeperRun.{IsOpened, is_in_hand}
 use Rattle.fkv_keeper.specs.NewKeepers.{IsNewKeeper}
 
 pub new_is_opened : (shape : Shape) (last : Finality) (lost : List LostRange) (k : KeeperModel) → IsNewKeeper shape last lost k → IsOpened k.state
-new_is_opened shape last lost k its = record { none_in_hand = ap is_in_hand its.no_call; no_commit = its.no_commit; none_rest = its.none_rest; works = its.works; turns_rest = its.turns_rest; serves_from = its.serves_from ∙ sym (ap (λ (l : Finality). l.begin) its.newest) }
+new_is_opened shape last lost k its = record { none_in_hand = ap is_in_hand its.no_call; no_commit = its.no_commit; none_rest = its.none_rest; none_flushed = its.none_flushed; works = its.works; turns_rest = its.turns_rest; serves_from = its.serves_from ∙ sym (ap (λ (l : Finality). l.begin) its.newest) }

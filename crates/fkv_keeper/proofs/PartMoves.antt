@@ -31,11 +31,11 @@ use Rattle.fkv_manifest.specs.declared.answers.WriteAnswer.TheVariants as write
 use Rattle.fkv_manifest.specs.Committing.{commit_next, commit_answer}
 use Rattle.fkv_maintain.specs.declared.maintaining.MaintainAnswer.{MaintainAnswer}
 use Rattle.fkv_maintain.specs.declared.maintaining.MaintainAnswer.TheVariants as maintain
-use Rattle.fkv_maintain.specs.Maintaining.{maintain_ask, maintain_next, maintain_given, maintain_called}
+use Rattle.fkv_maintain.specs.Maintaining.{is_flush_resting, maintain_ask, maintain_next, maintain_given, maintain_called}
 use Rattle.fkv_keeper.specs.declared.answers.KeeperTold.{KeeperTold}
 use Rattle.fkv_keeper.specs.declared.keepers.Keeping.{Keeping}
 use Rattle.fkv_keeper.specs.declared.keepers.Keeping.TheVariants.{Ended, Starts, Maintains, LoadsPhase, Enters, Copies, Seeks, Waits, Writes, Finishes}
-use Rattle.fkv_keeper.specs.Keeping.{KeeperState, is_copy_resting, copy_driven, copy_told, copied, points_known, ended, turned, turn_asked, commit_asked, start_ledto, maintain_ledto, copies, part_begun, must_rest, writes_taken_up, phase_ledto, enter_ledto, copy_ledto, seek_ledto, writes_begun, wait_ledto, finished, finish_ledto, keeping_next, keeping_given, write_ledto, writes_called, keeping_called}
+use Rattle.fkv_keeper.specs.Keeping.{KeeperState, is_copy_resting, copy_driven, copy_told, copied, points_known, ended, turned, turn_asked, commit_asked, start_ledto, maintain_ledto, copies, part_begun, must_rest, writes_taken_up, phase_ledto, enter_ledto, copy_ledto, seek_ledto, writes_begun, wait_ledto, finished, finish_ledto, keeping_next, keeping_given, write_ledto, writes_called, keeping_called, unless_flush_rests}
 use Rattle.fkv_keeper.specs.KeeperRun.{KeeperEvent, BeginsTurn, BeginsCommit, Replies, Gets, Calls, keeper_happens}
 use Rattle.fkv_keeper.specs.PartLaws.{IsPartBegun, end_of, entered_after, taken_after, end_after, seek_after, KnowsParts}
 use Rattle.fkv_keeper.proofs.Happens.{happens_at, happens_so}
@@ -139,19 +139,24 @@ part_part p s c reply (Says phase.WaitFlush version) granted says e in_hand =
     (λ not. over s reply granted)
 part_part p s c reply said granted says e in_hand = over s reply granted
 
+-- where a flush rests the turn is over
+lets_part : (s its : KeeperState) (reply : ℕ) (granted : Bool) → IsPart (Replies reply granted) LoadsPhase s its → IsPart (Replies reply granted) LoadsPhase s (unless_flush_rests s granted its)
+lets_part s its reply granted led = either (is_flush_resting s.maintain) (Replies reply granted) LoadsPhase s _ _
+    (λ rests. ends (Replies reply granted) LoadsPhase s (record s { is_granted = granted }) _ (record { entered = refl; taken = refl; end = λ was is before after. same_end s s refl was is before after; seek = refl })) (λ awake. led)
+
 phase_part : (p : Places) (s : KeeperState) (found : Option Commit) (reply : ℕ) (granted : Bool) → s.step ≡ LoadsPhase → s.commit ≡ found → IsPart (Replies reply granted) LoadsPhase s (phase_ledto p s found (phase_said reply) granted)
 unfolding phase_ledto
-phase_part p s None reply granted e in_hand = over s reply granted
+phase_part p s None reply granted e in_hand = lets_part s _ reply granted (over s reply granted)
 phase_part p s (Some c) reply granted e in_hand = by s.rests refl granted
   where
-    by : (rests : Bool) → s.rests ≡ rests → (granted : Bool) → IsPart (Replies reply granted) LoadsPhase s (if rests then writes_taken_up s granted else part_begun p s c (phase_said reply) granted)
+    by : (rests : Bool) → s.rests ≡ rests → (granted : Bool) → IsPart (Replies reply granted) LoadsPhase s (if rests then writes_taken_up s granted else unless_flush_rests s granted (part_begun p s c (phase_said reply) granted))
     by true rests true = record {
       begins = inr (inr (record { loads = e; rests = rests; reply = reply; let_on = refl; awake = refl; same = refl }));
       knows = record { entered = refl; taken = λ other. refl; end = λ was is before after. same_end s s refl was is before after; seek = λ other. refl };
     }
     by true rests false =
         ends (Replies reply false) LoadsPhase s (record s { is_granted = false }) _ (record { entered = refl; taken = refl; end = λ was is before after. same_end s s refl was is before after; seek = refl })
-    by false awake granted = part_part p s c reply (phase_said reply) granted refl e in_hand
+    by false awake granted = lets_part s _ reply granted (part_part p s c reply (phase_said reply) granted refl e in_hand)
 
 enter_part : (s : KeeperState) (reply : ℕ) (granted : Bool) (t : KeeperState) (ask : Ask EnterAnswer) → s.step ≡ Enters → t.step ≡ Enters → enter_ask (enter_next s.enter reply) ≡ ask
     → t.commit ≡ s.commit → t.has_entered ≡ s.has_entered → t.has_points ≡ s.has_points → t.seek ≡ s.seek → IsPart (Replies reply granted) Enters s (enter_ledto t ask)

@@ -1,6 +1,6 @@
 -- Where writes begin to rest and cease to, and what an event leaves of them while they rest.
 use Rattle.std.proofs.Common.{◌≡◌, ℕ, ◌∙◌, ◌⊎◌, inl, inr, List, refl, ap, sym, subst, Bool, true, false}
-use Rattle.std.specs.Prelude.{◌||◌, Option, Some, None, ⊤, if◌then◌else◌}
+use Rattle.std.specs.Prelude.{◌||◌, ◌&&◌, not, Option, Some, None, ⊤, if◌then◌else◌}
 use Rattle.fkv_base.specs.declared.faults.Fault.TheVariants as fault
 use Rattle.fkv_base.specs.declared.phases.Phase.TheVariants as phase
 use Rattle.fkv_base.specs.declared.shapes.Shape.{Shape}
@@ -32,7 +32,7 @@ use Rattle.fkv_manifest.specs.declared.answers.WriteAnswer.TheVariants as write
 use Rattle.fkv_manifest.specs.Committing.{commit_next, commit_answer}
 use Rattle.fkv_maintain.specs.declared.maintaining.MaintainAnswer.{MaintainAnswer}
 use Rattle.fkv_maintain.specs.declared.maintaining.MaintainAnswer.TheVariants as maintain
-use Rattle.fkv_maintain.specs.Maintaining.{MaintainState, maintain_ask, maintain_next, maintain_given, maintain_called}
+use Rattle.fkv_maintain.specs.Maintaining.{is_flush_resting, MaintainState, maintain_ask, maintain_next, maintain_given, maintain_called}
 use Rattle.fkv_maintain.specs.MaintainRun.{maintain_happens}
 use Rattle.fkv_maintain.specs.MaintainRun as turn
 use Rattle.fkv_maintain.specs.Parts.{IsServing}
@@ -41,7 +41,7 @@ use Rattle.fkv_keeper.specs.declared.answers.KeeperTold.{KeeperTold}
 use Rattle.fkv_keeper.specs.declared.answers.KeeperTold.TheVariants.{TurnRefused, CommitRefused}
 use Rattle.fkv_keeper.specs.declared.keepers.Keeping.{Keeping}
 use Rattle.fkv_keeper.specs.declared.keepers.Keeping.TheVariants.{Ended, Starts, Maintains, LoadsPhase, Enters, Copies, Seeks, Waits, Writes, Finishes}
-use Rattle.fkv_keeper.specs.Keeping.{KeeperState, come_to, is_copy_resting, copy_driven, copy_told, asked_for, ended, turned, parts_begun, turn_asked, commit_asked, start_ledto, maintain_ledto, copies, copies_next, part_begun, writes_taken_up, phase_ledto, enter_ledto, copy_ledto, seek_ledto, writes_begun, wait_ledto, finished, finish_ledto, keeping_next, keeping_given, must_rest, rested, write_ledto, writes_called, keeping_called}
+use Rattle.fkv_keeper.specs.Keeping.{KeeperState, come_to, is_copy_resting, copy_driven, copy_told, asked_for, ended, turned, parts_begun, turn_asked, commit_asked, start_ledto, maintain_ledto, copies, copies_next, part_begun, writes_taken_up, phase_ledto, enter_ledto, copy_ledto, seek_ledto, writes_begun, wait_ledto, finished, finish_ledto, keeping_next, keeping_given, must_rest, rested, write_ledto, writes_called, keeping_called, unless_flush_rests, serves_alone}
 use Rattle.fkv_keeper.specs.KeeperRun.{KeeperEvent, BeginsTurn, BeginsCommit, Replies, Gets, Calls, keeper_happens}
 use Rattle.fkv_keeper.specs.KeeperLaws.{MayRest}
 use Rattle.fkv_keeper.specs.CheckpointLaws.{MayFollow, MayStep}
@@ -98,8 +98,9 @@ either_as false s x y one other = other
 
 phase_rests : (p : Places) (s : KeeperState) (found : Option Commit) (said : PhaseSaid) (granted : Bool) → RestsAs s (phase_ledto p s found said granted)
 unfolding phase_ledto
-phase_rests p s None said granted = inl refl
-phase_rests p s (Some c) said granted = either_as s.rests s (writes_taken_up s granted) (part_begun p s c said granted) (either_as granted s _ _ (inr (refl, tt)) (inl refl)) (inl (part_rests p s c said granted))
+phase_rests p s None said granted = inl (either_same (is_flush_resting s.maintain) s _ _ refl refl)
+phase_rests p s (Some c) said granted = either_as s.rests s (writes_taken_up s granted) (unless_flush_rests s granted (part_begun p s c said granted)) (either_as granted s _ _ (inr (refl, tt)) (inl refl))
+    (inl (either_same (is_flush_resting s.maintain) s _ _ refl (part_rests p s c said granted)))
 
 enter_rests : (t : KeeperState) (ask : Ask EnterAnswer) → (enter_ledto t ask).rests ≡ t.rests
 unfolding enter_ledto
@@ -306,10 +307,15 @@ maintain_still s m ask e serving is = record { rests = rw e tt; works = refl; se
 
 phase_still : (p : Places) (s : KeeperState) (found : Option Commit) (said : PhaseSaid) (granted : Bool) → s.rests ≡ true → (phase_ledto p s found said granted).rests ≡ true → RestsStill s (phase_ledto p s found said granted)
 unfolding phase_ledto
-phase_still p s None said granted was is = record { rests = tt; works = refl; serves = λ at. cc; commit = refl; copy = refl; writes = refl; used = refl; seek = refl; last = refl; lost = refl }
+phase_still p s None said granted was is = by (is_flush_resting s.maintain)
+  where
+    by : (b : Bool) → RestsStill s (if b then turned (record s { is_granted = granted }) else turned s)
+    by true = record { rests = tt; works = refl; serves = λ at. cc; commit = refl; copy = refl; writes = refl; used = refl; seek = refl; last = refl; lost = refl }
+    by false = record { rests = tt; works = refl; serves = λ at. cc; commit = refl; copy = refl; writes = refl; used = refl; seek = refl; last = refl; lost = refl }
 phase_still p s (Some c) said granted was is = by s.rests was granted is
   where
-    by : (rests : Bool) → rests ≡ true → (granted : Bool) → (if rests then writes_taken_up s granted else part_begun p s c said granted).rests ≡ true → RestsStill s (if rests then writes_taken_up s granted else part_begun p s c said granted)
+    by : (rests : Bool) → rests ≡ true → (granted : Bool) → (if rests then writes_taken_up s granted else unless_flush_rests s granted (part_begun p s c said granted)).rests ≡ true
+        → RestsStill s (if rests then writes_taken_up s granted else unless_flush_rests s granted (part_begun p s c said granted))
     by true so true is = cc
     by true so false is = record { rests = tt; works = refl; serves = λ at. cc; commit = refl; copy = refl; writes = refl; used = refl; seek = refl; last = refl; lost = refl }
     by false so granted is = cc
@@ -331,7 +337,7 @@ turn_still : (s : KeeperState) (its : KeeperTold) → s.step ≡ Ended its → s
 turn_still s its e was = by s.is_broken
   where
     begun : KeeperState
-    begun = record s { maintain = parts_begun s.rests s.maintain; is_drain_full = false; step = Maintains }
+    begun = record s { maintain = parts_begun (serves_alone s) s.maintain; is_drain_full = false; step = Maintains }
 
     serving : (rests : Bool) → rests ≡ true → IsServing (parts_begun rests s.maintain).step
     serving true so = tt
@@ -339,7 +345,7 @@ turn_still s its e was = by s.is_broken
 
     by : (broken : Bool) → RestsStill s (if broken then ended s (TurnRefused fault.Broken) else begun)
     by true = record { rests = tt; works = refl; serves = λ at. cc; commit = refl; copy = refl; writes = refl; used = refl; seek = refl; last = refl; lost = refl }
-    by false = record { rests = tt; works = refl; serves = λ at. serving s.rests was; commit = refl; copy = refl; writes = refl; used = refl; seek = refl; last = refl; lost = refl }
+    by false = record { rests = tt; works = refl; serves = λ at. serving (serves_alone s) (ap (λ (x : Bool). x || (is_flush_resting s.maintain && not s.is_granted)) was); commit = refl; copy = refl; writes = refl; used = refl; seek = refl; last = refl; lost = refl }
 
 commit_still : (s : KeeperState) (kind : CommitKind) → s.rests ≡ true → RestsStill s (commit_asked s kind)
 commit_still s kind was = by s.is_broken s.rests was
@@ -402,10 +408,11 @@ maintain_ended s event m ask was is = not_both s.rests is was
 
 phase_ended : (p : Places) (s : KeeperState) (event : KeeperEvent) (found : Option Commit) (said : PhaseSaid) (granted : Bool) → s.rests ≡ true → (phase_ledto p s found said granted).rests ≡ false → EndsRest s event (phase_ledto p s found said granted)
 unfolding phase_ledto
-phase_ended p s event None said granted was is = not_both s.rests is was
+phase_ended p s event None said granted was is = not_both s.rests (sym (either_same (is_flush_resting s.maintain) s (turned (record s { is_granted = granted })) (turned s) refl refl) ∙ is) was
 phase_ended p s event (Some c) said granted was is = by s.rests was granted is
   where
-    by : (rests : Bool) → rests ≡ true → (granted : Bool) → (if rests then writes_taken_up s granted else part_begun p s c said granted).rests ≡ false → EndsRest s event (if rests then writes_taken_up s granted else part_begun p s c said granted)
+    by : (rests : Bool) → rests ≡ true → (granted : Bool) → (if rests then writes_taken_up s granted else unless_flush_rests s granted (part_begun p s c said granted)).rests ≡ false
+        → EndsRest s event (if rests then writes_taken_up s granted else unless_flush_rests s granted (part_begun p s c said granted))
     by true so true is = inl refl
     by true so false is = not_both s.rests is was
     by false so granted is = cc

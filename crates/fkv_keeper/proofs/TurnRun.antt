@@ -37,8 +37,8 @@ use Rattle.fkv_keeper.specs.declared.keepers.Keeping.{Keeping}
 use Rattle.fkv_keeper.specs.declared.keepers.Keeping.TheVariants.{Ended, Starts, Maintains, LoadsPhase, Enters, Copies, Seeks, Waits, Writes, Finishes}
 use Rattle.fkv_maintain.specs.declared.maintaining.MaintainAnswer.{MaintainAnswer}
 use Rattle.fkv_maintain.specs.declared.maintaining.MaintainAnswer.TheVariants as maintain
-use Rattle.fkv_keeper.specs.Keeping.{KeeperState, device_passed, write_asked, is_copy_resting, copy_asked, copy_driven, keeping_ask, keeper_ask, ended, maintain_ledto, copies, part_begun, phase_ledto, enter_ledto, copy_ledto, seek_ledto, writes_begun, wait_ledto, finished, finish_ledto, keeping_next, keeper_next, keeping_given, keeper_given, must_rest, parts_begun, write_ledto, copied, points_known, turn_asked, Finality, keeping_called, keeper_called}
-use Rattle.fkv_maintain.specs.Maintaining.{maintain_ask, maintain_next, maintain_given, maintain_called}
+use Rattle.fkv_keeper.specs.Keeping.{KeeperState, device_passed, write_asked, is_copy_resting, copy_asked, copy_driven, keeping_ask, keeper_ask, ended, maintain_ledto, copies, part_begun, phase_ledto, enter_ledto, copy_ledto, seek_ledto, writes_begun, wait_ledto, finished, finish_ledto, keeping_next, keeper_next, keeping_given, keeper_given, must_rest, parts_begun, write_ledto, copied, points_known, turn_asked, Finality, keeping_called, keeper_called, serves_alone}
+use Rattle.fkv_maintain.specs.Maintaining.{is_flush_resting, maintain_ask, maintain_next, maintain_given, maintain_called}
 use Rattle.fkv_keeper.proofs.KeeperLeft.{never, nor}
 
 abbrev pub TurnRuns : KeeperState → KeeperState → Keeping → Type 0
@@ -51,7 +51,7 @@ pub turn_first : (s : KeeperState) → TurnRuns s (turn_asked s) (turn_asked s).
 turn_first s = cases s.is_broken
   where
     first : KeeperState
-    first = record s { maintain = parts_begun s.rests s.maintain; is_drain_full = false; step = Maintains }
+    first = record s { maintain = parts_begun (serves_alone s) s.maintain; is_drain_full = false; step = Maintains }
 
     cases : (b : Bool) → TurnRuns s (if b then ended s (TurnRefused fault.Broken) else first) (if b then ended s (TurnRefused fault.Broken) else first).step
     cases true = (refl, refl)
@@ -80,8 +80,8 @@ part_led before s p c said granted kept = kept
 
 phase_led : (before s : KeeperState) (p : Places) (commit : Option Commit) (said : PhaseSaid) (granted : Bool) → IsCommitKept before s → TurnRuns before (phase_ledto p s commit said granted) (phase_ledto p s commit said granted).step
 unfolding phase_ledto
-phase_led before s p None said granted kept = kept
-phase_led before s p (Some c) said granted kept = either before s.rests _ _ (either before granted _ _ kept kept) (part_led before s p c said granted kept)
+phase_led before s p None said granted kept = either before (is_flush_resting s.maintain) _ _ kept kept
+phase_led before s p (Some c) said granted kept = either before s.rests _ _ (either before granted _ _ kept kept) (either before (is_flush_resting s.maintain) _ _ kept (part_led before s p c said granted kept))
 
 enter_led : (before s : KeeperState) (ask : Ask EnterAnswer) → s.step ≡ Enters → IsCommitKept before s → TurnRuns before (enter_ledto s ask) (enter_ledto s ask).step
 unfolding enter_ledto

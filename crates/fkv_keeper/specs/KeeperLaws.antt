@@ -22,7 +22,7 @@ use Rattle.fkv_keeper.specs.declared.keepers.Keeping.{Keeping}
 use Rattle.fkv_keeper.specs.declared.keepers.Keeping.TheVariants.{Ended, Starts, Maintains, LoadsPhase, Copies, Finishes}
 use Rattle.fkv_base.specs.declared.numbers.Version.{Version}
 use Rattle.fkv_keeper.specs.LastCommits.{area_number}
-use Rattle.fkv_keeper.specs.Keeping.{KeeperState, is_sync, is_copy_resting, gate_writes_of, ended, turn_asked, commit_asked, keeper_ask, keeper_next}
+use Rattle.fkv_keeper.specs.Keeping.{KeeperState, is_sync, is_resting, is_copy_resting, gate_writes_of, ended, turn_asked, commit_asked, keeper_ask, keeper_next}
 use Rattle.fkv_keeper.specs.KeeperRun.{KeeperEvent, Writing, keeper_happens}
 
 -- a refusal of a turn, or of a commit
@@ -99,13 +99,13 @@ IsBeforePhase (Ended its) = ⊤
 IsBeforePhase Maintains = ⊤
 IsBeforePhase step = ⊥
 
--- A turn keeps the commit up to its part for it. There, where no writes rest and the commit isn't copied in wait-pending, a copy that rests is taken up as it is,
+-- A turn keeps the commit up to its part for it. There, where no writes and no flush rest and the commit isn't copied in wait-pending, a copy that rests is taken up as it is,
 -- whether or not memory is granted. Where none rests, one begins from its first slot where memory is granted.
 pub record CopiesAgain (shape : Shape) (p : Places) (s : KeeperState) : Type 0 where
   pub kept : (event : KeeperEvent) → IsBeforePhase s.step → (keeper_happens shape p s event).commit ≡ s.commit
-  pub begins : (c : Commit) (reply : ℕ) (version : Version) → s.rests ≡ false → s.step ≡ LoadsPhase → s.commit ≡ Some c → c.is_copied ≡ false
+  pub begins : (c : Commit) (reply : ℕ) (version : Version) → is_resting s ≡ false → s.step ≡ LoadsPhase → s.commit ≡ Some c → c.is_copied ≡ false
       → phase_said reply ≡ Says phase.WaitPending version → is_copy_resting s.copy ≡ false
       → keeper_next shape p s reply true ≡ record s { copy = Some (copy_begun p); is_granted = true; step = Copies }
-  pub taken_up : (c : Commit) (reply : ℕ) (version : Version) (granted : Bool) → s.rests ≡ false → s.step ≡ LoadsPhase → s.commit ≡ Some c → c.is_copied ≡ false
+  pub taken_up : (c : Commit) (reply : ℕ) (version : Version) (granted : Bool) → is_resting s ≡ false → s.step ≡ LoadsPhase → s.commit ≡ Some c → c.is_copied ≡ false
       → phase_said reply ≡ Says phase.WaitPending version → is_copy_resting s.copy ≡ true
       → keeper_next shape p s reply granted ≡ record s { is_granted = true; step = Copies }

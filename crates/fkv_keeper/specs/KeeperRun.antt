@@ -9,6 +9,7 @@ use Rattle.fkv_plane.specs.declared.places.Places.{Places}
 use Rattle.fkv_base.specs.declared.commits.CommitKind.{CommitKind}
 use Rattle.fkv_manifest.specs.Committing.{CommitWriter}
 use Rattle.fkv_maintain.specs.declared.maintaining.Maintaining.TheVariants.{Through}
+use Rattle.fkv_maintain.specs.Maintaining.{is_flush_resting}
 use Rattle.fkv_keeper.specs.declared.answers.KeeperTold.{KeeperTold}
 use Rattle.fkv_keeper.specs.declared.answers.KeeperTold.TheVariants.{Device, Turned, Begun}
 use Rattle.fkv_keeper.specs.declared.keepers.Keeping.{Keeping}
@@ -20,7 +21,7 @@ pub data KeeperEvent : Type 0 where
   -- a turn is begun, or a commit of a kind, where no call is in hand
   BeginsTurn : KeeperEvent
   BeginsCommit : CommitKind → KeeperEvent
-  -- its ask is replied to, and whether memory is granted where the reply leads to a copy, and going on where writes rest
+  -- its ask is replied to, and whether memory is granted where the reply leads to a copy, and going on where writes or a flush rest
   Replies : ℕ → Bool → KeeperEvent
   -- it gets the action of a drain slot
   Gets : Action → KeeperEvent
@@ -48,12 +49,13 @@ unfoldable pub keeper_run : Shape → Places → KeeperState → List KeeperEven
 keeper_run shape p opening [] = opening
 keeper_run shape p opening (event ∷ before) = keeper_happens shape p (keeper_run shape p opening before) event
 
--- The keeper of a store that was opened: no call and no commit is in hand, no writes rest, the device has not failed, and no part of a turn is under way.
+-- The keeper of a store that was opened: no call and no commit is in hand, no writes and no flush rest, the device has not failed, and no part of a turn is under way.
 -- Mailboxes are served of a log that begins where that of the newest finished commit does.
 pub record IsOpened (s : KeeperState) : Type 0 where
   pub none_in_hand : is_in_hand s.step ≡ false
   pub no_commit : s.commit ≡ None
   pub none_rest : s.rests ≡ false
+  pub none_flushed : is_flush_resting s.maintain ≡ false
   pub works : s.is_broken ≡ false
   pub turns_rest : s.maintain.step ≡ Through
   pub serves_from : s.maintain.begin ≡ s.last.begin

@@ -54,7 +54,7 @@ use Rattle.fkv_keeper.specs.declared.last_commits.Checkpoint.{Checkpoint}
 use Rattle.fkv_maintain.specs.declared.maintaining.MaintainAnswer.{MaintainAnswer}
 use Rattle.fkv_maintain.specs.declared.maintaining.MaintainAnswer.TheVariants as maintain
 use Rattle.fkv_keeper.specs.LastCommits.{other_area, area_number, is_gate_open, gate_opened, slot_place, slot_written}
-use Rattle.fkv_maintain.specs.Maintaining.{MaintainState, maintain_begun, maintain_serving, maintain_ask, maintain_next, maintain_given, maintain_called, maintain_word_due}
+use Rattle.fkv_maintain.specs.Maintaining.{MaintainState, is_flush_resting, maintain_begun, maintain_serving, maintain_ask, maintain_next, maintain_given, maintain_called, maintain_word_due}
 
 -- a finished commit
 pub record Finality : Type 0 where
@@ -81,7 +81,7 @@ pub record KeeperState : Type 0 where
   pub has_entered : Bool
   -- its points were taken
   pub has_points : Bool
-  -- what was asked for last was granted: memory for a copy, or that writes that rest go on
+  -- what was asked for last was granted: memory for a copy, or that what rests goes on
   pub is_granted : Bool
   -- the device has failed
   pub is_broken : Bool
@@ -178,12 +178,20 @@ commit_asked s kind =
     if s.is_broken then ended s (CommitRefused fault.Broken)
     else (if s.rests then ended s (CommitRefused fault.CommitRunning) else record s { start = start_begun s.start (asked_for s kind); step = Starts })
 
--- a turn begins, and where the writes of a commit rest it only serves
+-- whether the writes of a commit rest, or a flush does
+abbrev pub is_resting : KeeperState → Bool
+is_resting s = s.rests || is_flush_resting s.maintain
+
+-- A turn only serves where writes rest, and where a flush does that wasn't granted to go on.
+abbrev pub serves_alone : KeeperState → Bool
+serves_alone s = s.rests || (is_flush_resting s.maintain && not s.is_granted)
+
+-- so it begins
 abbrev pub parts_begun : Bool → MaintainState → MaintainState
-parts_begun rests s = if rests then maintain_serving s else maintain_begun s
+parts_begun alone s = if alone then maintain_serving s else maintain_begun s
 
 abbrev pub turn_asked : KeeperState → KeeperState
-turn_asked s = if s.is_broken then ended s (TurnRefused fault.Broken) else record s { maintain = parts_begun s.rests s.maintain; is_drain_full = false; step = Maintains }
+turn_asked s = if s.is_broken then ended s (TurnRefused fault.Broken) else record s { maintain = parts_begun (serves_alone s) s.maintain; is_drain_full = false; step = Maintains }
 
 -- By what the machines inside ask next. The log of a commit begins where that of the newest finished one does.
 unfoldable pub start_ledto : KeeperState → Ask StartAnswer → KeeperState
@@ -235,10 +243,14 @@ part_begun p s c said granted = turned s
 abbrev pub writes_taken_up : KeeperState → Bool → KeeperState
 writes_taken_up s granted = if granted then record s { rests = false; is_granted = true; step = Writes } else turned (record s { is_granted = false })
 
+-- Where a flush rests the turn is over, with no part of a commit. What is granted here counts for the next turn.
+abbrev pub unless_flush_rests : KeeperState → Bool → KeeperState → KeeperState
+unless_flush_rests s granted its = if is_flush_resting s.maintain then turned (record s { is_granted = granted }) else its
+
 -- where writes rest, they are next, whatever the phase is
 unfoldable pub phase_ledto : Places → KeeperState → Option Commit → PhaseSaid → Bool → KeeperState
-phase_ledto p s None said granted = turned s
-phase_ledto p s (Some c) said granted = if s.rests then writes_taken_up s granted else part_begun p s c said granted
+phase_ledto p s None said granted = unless_flush_rests s granted (turned s)
+phase_ledto p s (Some c) said granted = if s.rests then writes_taken_up s granted else unless_flush_rests s granted (part_begun p s c said granted)
 
 unfoldable pub enter_ledto : KeeperState → Ask EnterAnswer → KeeperState
 enter_ledto s (Done enter.Entered) = turned (record s { has_entered = true })
@@ -356,11 +368,11 @@ step_may_copy step commit has_entered rests = false
 abbrev pub may_copy : KeeperState → Bool
 may_copy s = step_may_copy s.step s.commit s.has_entered (is_copy_resting s.copy)
 
--- What a step is granted: where writes rest, that they go on, and elsewhere memory for a copy.
+-- What a step is granted: where writes or a flush rest, that they go on, and elsewhere memory for a copy.
 abbrev pub granted_for : KeeperState → Bool → Bool → Bool
-granted_for s has_room goes_on = if s.rests then goes_on else has_room
+granted_for s has_room goes_on = if is_resting s then goes_on else has_room
 
--- Where the reply leads. Where a copy begins, or writes rest, it goes by what was granted.
+-- Where the reply leads. Where a copy begins, or writes or a flush rest, it goes by what was granted.
 unfoldable pub keeping_next : Shape → Places → KeeperState → Keeping → ℕ → Bool → KeeperState
 keeping_next shape p s (Ended its) reply granted = s
 keeping_next shape p s Starts reply granted = start_ledto (record s { start = start_next s.start reply }) (start_ask (start_next s.start reply))

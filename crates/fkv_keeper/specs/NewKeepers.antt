@@ -4,6 +4,7 @@ use Rattle.fkv_base.specs.declared.shapes.Shape.{Shape}
 use Rattle.fkv_record.specs.declared.lost_ranges.LostRange.{LostRange}
 use Rattle.fkv_plane.specs.declared.places.Places.{Places}
 use Rattle.fkv_maintain.specs.declared.maintaining.Maintaining.TheVariants.{Through}
+use Rattle.fkv_maintain.specs.Maintaining.{is_flush_resting}
 use Rattle.fkv_keeper.specs.declared.answers.KeeperTold.TheVariants.{Turned}
 use Rattle.fkv_keeper.specs.declared.keepers.Keeping.TheVariants.{Ended}
 use Rattle.fkv_keeper.specs.Keeping.{Finality, KeeperModel}
@@ -38,3 +39,4 @@ pub record IsNewKeeper (shape : Shape) (last : Finality) (lost : List LostRange)
   pub works : k.state.is_broken ≡ false
   pub granted : k.state.is_granted ≡ true
   pub none_rest : k.state.rests ≡ false
+  pub none_flushed : is_flush_resting k.state.maintain ≡ false

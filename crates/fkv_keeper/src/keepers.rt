@@ -14,7 +14,7 @@ ghost use Rattle.fkv_keeper.specs.declared.answers.KeeperTold.TheVariants.{Devic
 ghost use Rattle.fkv_disk.specs.Device.{Elapses, HasCause, MakesCalls};
 ghost use Rattle.fkv_flush.specs.Devices.{Adds};
 ghost use Rattle.fkv_keeper.specs.KeeperAsks.{IsBusyWhereLeft, keeper_asks_left, most_begin_asks, most_turn_asks, keeper_calls, keeper_calls_asked, keeper_due, keeper_made, keeper_read};
-ghost use Rattle.fkv_keeper.specs.Keeping.{commit_asked, turn_asked, keeper_ask, keeper_next, keeper_given, keeper_called, granted_for, may_copy, turn_called, writes_called, keeper_word_due};
+ghost use Rattle.fkv_keeper.specs.Keeping.{commit_asked, turn_asked, keeper_ask, keeper_next, keeper_given, keeper_called, granted_for, is_resting, serves_alone, may_copy, turn_called, writes_called, keeper_word_due};
 ghost use Rattle.fkv_keeper.specs.KeeperRun.{IsOpened};
 ghost use Rattle.fkv_keeper.specs.NewKeepers.{IsNewKeeper};
 ghost use Rattle.fkv_keeper.specs.declared.keepers.Keeping.TheVariants.{Ended, Maintains};
@@ -176,7 +176,8 @@ impl Keeper {
         self.ask()
     }
 
-    /// Begins a turn and gives its first ask, or its refusal where there is none. While the writes of a commit rest it only serves.
+    /// Begins a turn and gives its first ask, or its refusal where there is none. While the writes of a commit rest, or a flush
+    /// that wasn't granted to go on, it only serves.
     #[tactic(auto, unfolding(crate::specs::Keeping::keeping_ask))]
     pub fn begin_turn(&mut self) -> Ask<KeeperTold>
         ensures next { self.new ≡ record self.old { state = turn_asked self.old.state } }
@@ -195,7 +196,7 @@ impl Keeper {
     }
 
     /// Goes on with the reply to its ask. At a call's end, and where it needs the device, it stays where it is. Memory for a copy that
-    /// the step may begin is asked for first. Writes that rest go on.
+    /// the step may begin is asked for first. What rests goes on.
     #[tactic(auto, using(crate::proofs::Granted::is_granted_so))]
     pub fn go_on(&mut self, reply: u64) -> Ask<KeeperTold>
         ensures next { self.new ≡ record self.old { state = keeper_next self.old.shape self.old.places self.old.state reply self.new.state.is_granted } }
@@ -242,7 +243,7 @@ impl Keeper {
 
     /// Goes on as `go_on` does, and a copy begins in this room, which `room` has given. Where none begins the room is kept; where one
     /// is to begin and there is no room, the turn ends with `Memory`. A copy that rests takes none. Writes that rest go on where the caller
-    /// says so.
+    /// says so, and a flush that rests does in the next turn.
     #[tactic(auto, using(fkv_commit::proofs::Shown::seek_keeps), unfolding(crate::specs::Keeping::keeping_next))]
     pub fn go_on_with(
         &mut self,
@@ -288,12 +289,18 @@ impl Keeper {
         self.ask()
     }
 
-    /// Whether the writes of the commit in hand rest: then the turn ended before a sync, and the next one only serves, up to where it
-    /// is let go on.
+    /// Whether the next turn only serves: the writes of the commit in hand rest before a sync, or a flush does, and weren't let go on.
     pub fn rests(&self) -> bool
-        ensures { result ≡ self.now.state.rests }
+        ensures { result ≡ serves_alone self.now.state }
     {
-        self.rests
+        self.rests || (self.maintain.is_flush_resting() && !self.is_granted)
+    }
+
+    /// Whether the writes of the commit in hand rest, or a flush does. There a step is granted that they go on, and no memory.
+    pub fn is_resting(&self) -> bool
+        ensures { result ≡ is_resting self.now.state }
+    {
+        self.rests || self.maintain.is_flush_resting()
     }
 
     /// Goes on with what every turn does. What that asks is passed on at once, and not asked for again.

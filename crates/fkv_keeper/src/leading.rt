@@ -5,7 +5,7 @@ ghost use Rattle.fkv_disk.specs.Asks.{asked_call, first_asked};
 ghost use Rattle.fkv_manifest.specs.Committing.{commit_answer};
 ghost use Rattle.fkv_manifest.specs.Devices.{next_made};
 ghost use Rattle.fkv_manifest.specs.Made.{with_call};
-ghost use Rattle.fkv_keeper.specs.Keeping.{device_passed, end_told, write_asked, copy_asked, copy_driven, copy_told, is_copy_resting, points_known, ended, turned, turned_full, start_ledto, maintain_ledto, broken, granted_for, must_rest, parts_begun, phase_ledto, part_begun, rested, writes_taken_up, copies_next, copies, enter_ledto, copy_ledto, seek_ledto, wait_ledto, writes_begun, gate_writes_of, write_ledto, finish_ledto, finished, no_writes, checkpoint_used, triples_written, lost_left};
+ghost use Rattle.fkv_keeper.specs.Keeping.{device_passed, end_told, write_asked, copy_asked, copy_driven, copy_told, is_copy_resting, points_known, ended, turned, turned_full, start_ledto, maintain_ledto, broken, granted_for, must_rest, parts_begun, serves_alone, phase_ledto, part_begun, rested, writes_taken_up, copies_next, copies, enter_ledto, copy_ledto, seek_ledto, wait_ledto, writes_begun, gate_writes_of, write_ledto, finish_ledto, finished, no_writes, checkpoint_used, triples_written, lost_left};
 
 use crate::answers::KeeperTold;
 use crate::keepers::{Keeper, Keeping};
@@ -164,9 +164,9 @@ impl Keeper {
 
     /// Begins the parts of a turn.
     pub(crate) fn begins_parts(&mut self)
-        ensures { self.new ≡ record self.old { state = record self.old.state { maintain = parts_begun self.old.state.rests self.old.state.maintain } } }
+        ensures { self.new ≡ record self.old { state = record self.old.state { maintain = parts_begun (serves_alone self.old.state) self.old.state.maintain } } }
     {
-        if self.rests {
+        if self.rests() {
             self.maintain.start_serving();
         } else {
             self.maintain.start();
@@ -190,7 +190,8 @@ impl Keeper {
         }
     }
 
-    /// Goes on by what the phase word says, or with the writes that rest. A copy takes the room; where none begins it is kept.
+    /// Goes on by what the phase word says, or with the writes that rest. Where a flush rests the turn is over. A copy takes the room;
+    /// where none begins it is kept.
     #[tactic(auto, unfolding(crate::specs::Keeping::phase_ledto))]
     pub(crate) fn after_phase(&mut self, said: PhaseSaid, room: Option<CopyRoom>, goes_on: bool)
         requires { IsRoomFor self.old.places room }
@@ -198,9 +199,10 @@ impl Keeper {
     {
         let mut room = room;
         match self.commit {
-            None => self.turns(),
             Some(_) if self.rests => self.takes_up(goes_on),
+            _ if self.maintain.is_flush_resting() => self.lets_flush(goes_on),
             Some(commit) => self.begins_part(commit, said, &mut room),
+            None => self.turns(),
         }
         self.keeps(room);
     }
@@ -216,6 +218,14 @@ impl Keeper {
         } else {
             self.turns();
         }
+    }
+
+    /// The turn is over. If the flush that rests is let go on, the next turn takes it up.
+    fn lets_flush(&mut self, goes_on: bool)
+        ensures { self.new ≡ record self.old { state = turned (record self.old.state { is_granted = goes_on }) } }
+    {
+        self.is_granted = goes_on;
+        self.turns();
     }
 
     /// Keeps room for a later copy, if there is some.

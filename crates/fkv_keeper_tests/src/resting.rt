@@ -1,4 +1,4 @@
-//! Turns that only serve: a living store's commit rests before each sync of its writes.
+//! Turns that only serve: a living store's commit rests before each sync of its writes, and so does its flush.
 use crate::commits::{
     FIRST_ENTRY, FIRST_HEADER, SECOND_CUT, SECOND_HEADER, SmallStore, append, begins, commit,
     created_disk, holds_first, holds_second, is_durable, is_in, living_store, new_store, phase,
@@ -7,7 +7,7 @@ use crate::commits::{
 use fkv_base::{CommitKind, Fault};
 use fkv_disk::{Device, MemDisk};
 use fkv_keeper::{KeeperAsk, KeeperTold};
-use fkv_plane::{Ask, SessionWord};
+use fkv_plane::{Ask, SessionWord, SharedWord};
 use std::process::Abort;
 use std::test::Fail;
 
@@ -82,21 +82,40 @@ fn goes_on(rt: &impl Abort, own: &mut SmallStore, disk: &mut MemDisk, calls: u8)
     only_serves(rt, own, disk);
 }
 
-/// The first commit flushes by a write and a sync, writes its triples, and rests before three syncs. The calls are those of a specified
+/// So far the log is flushed.
+fn is_flushed(rt: &impl Abort, own: &SmallStore, wanted: u64) {
+    assert_eq!(rt; own.plane.word(SharedWord::Flushed.place()), wanted);
+}
+
+/// A turn writes what is flushed, and ends before the sync. Turns that aren't let go on serve mailboxes, and tell nothing as flushed. Behind the
+/// one that is, a turn may sync.
+fn the_flush_rests(rt: &impl Abort, own: &mut SmallStore, disk: &mut MemDisk) {
+    rests_on(rt, own, disk, 1);
+    rests_on(rt, own, disk, 0);
+    a_read_is_served(rt, own, disk);
+    rests_on(rt, own, disk, 0);
+    turns_to(rt, own, disk, &turned(), 0);
+    assert!(rt; !own.keeper.rests());
+    is_flushed(rt, own, 1);
+}
+
+/// The first commit flushes by a write and a sync, writes its triples, and rests before four syncs. The calls are those of a specified
 /// store's one turn: eight.
 fn the_first_commit_rests(rt: &impl Abort, own: &mut SmallStore, disk: &mut MemDisk) {
     phases_pass(rt, own, disk);
     assert!(rt; !own.keeper.rests());
-    goes_on(rt, own, disk, 3);
-    goes_on(rt, own, disk, 2);
-    goes_on(rt, own, disk, 2);
+    the_flush_rests(rt, own, disk);
+    for _ in 0..3 {
+        goes_on(rt, own, disk, 2);
+    }
+    is_flushed(rt, own, 2);
     is_durable(rt, own, 0);
     turns_to(rt, own, disk, &turned_finished(1, 1), 1);
     is_durable(rt, own, 1);
     assert!(rt; !own.keeper.rests());
 }
 
-/// The gate of the second commit's slot stands open, so it rests four times, over ten calls.
+/// The gate of the second commit's slot stands open, so it rests four times, and once for the flush, over ten calls.
 fn the_second_commit_rests(rt: &impl Abort, own: &mut SmallStore, disk: &mut MemDisk) {
     append(&mut own.plane, SECOND_HEADER, 11);
     begins(rt, own, disk, CommitKind::Full, 2);
@@ -104,8 +123,9 @@ fn the_second_commit_rests(rt: &impl Abort, own: &mut SmallStore, disk: &mut Mem
     for _ in 0..3 {
         turns_to(rt, own, disk, &turned(), 0);
     }
-    for calls in [3, 2, 2, 2] {
-        goes_on(rt, own, disk, calls);
+    turns_to(rt, own, disk, &turned(), 1);
+    for _ in 0..4 {
+        goes_on(rt, own, disk, 2);
     }
     turns_to(rt, own, disk, &turned_finished(2, 2), 1);
     assert!(rt; !own.keeper.rests());
@@ -123,7 +143,8 @@ fn a_living_commit_rests(rt: HostRuntime) -> Result<(), Fail> {
     Ok(())
 }
 
-/// A log commit writes no triples, and its first sync needs no rest: it rests before the body's sync, and before the open gate's.
+/// A log commit writes no triples, and its first sync needs no rest: it rests before the body's sync, and before the open gate's. Before that the
+/// flush rests.
 #[test]
 fn a_log_commit_rests(rt: HostRuntime) -> Result<(), Fail> {
     let mut own = living_store(rt.alloc())?;
@@ -134,11 +155,36 @@ fn a_log_commit_rests(rt: HostRuntime) -> Result<(), Fail> {
     for _ in 0..2 {
         turns_to(&rt, &mut own, &mut disk, &turned(), 0);
     }
-    for calls in [4, 2] {
+    turns_to(&rt, &mut own, &mut disk, &turned(), 1);
+    for calls in [3, 2] {
         goes_on(&rt, &mut own, &mut disk, calls);
     }
     turns_to(&rt, &mut own, &mut disk, &turned_finished(1, 1), 1);
     assert!(&rt; !own.keeper.rests());
+    Ok(())
+}
+
+/// A commit may begin while a flush rests, and leaves it at rest. The turn behind the one that is let go on tells what is flushed.
+#[test]
+fn a_commit_begins_beside_a_flush(rt: HostRuntime) -> Result<(), Fail> {
+    let mut own = living_store(rt.alloc())?;
+    let mut disk = created_disk(rt.alloc())?;
+    for value in 10..17 {
+        append(&mut own.plane, FIRST_HEADER, value);
+    }
+    for _ in 0..8 {
+        if !own.keeper.rests() {
+            let _ = serves(&mut own, &mut disk);
+        }
+    }
+    rests_on(&rt, &mut own, &mut disk, 0);
+    begins(&rt, &mut own, &mut disk, CommitKind::Log, 1);
+    rests_on(&rt, &mut own, &mut disk, 0);
+    is_flushed(&rt, &own, 1);
+    turns_to(&rt, &mut own, &mut disk, &turned(), 0);
+    turns_to(&rt, &mut own, &mut disk, &turned(), 1);
+    assert!(&rt; !own.keeper.rests());
+    is_flushed(&rt, &own, 8);
     Ok(())
 }
 

@@ -1,4 +1,5 @@
 mod BeginKept
+mod FlushRests
 mod GoesOn
 mod MaintainLeft
 mod PartsDriven

@@ -32,16 +32,16 @@ use Rattle.fkv_flush.specs.declared.serving.Serving.{Serving}
 use Rattle.fkv_flush.specs.Devices.{calls_asked}
 use Rattle.fkv_flush.specs.Flushing.{flush_ask, flush_next, flush_done, bytes_next, bytes_done}
 use Rattle.fkv_flush.specs.Serving.{serve_ask, serve_next, serve_read, mailbox_from}
-use Rattle.fkv_flush.specs.AsksLeft.{is_through, flush_asks_left, serve_asks_left, most_serve_asks}
+use Rattle.fkv_flush.specs.AsksLeft.{is_through, flush_asks_left, most_flush_asks, serve_asks_left, most_serve_asks}
 use Rattle.fkv_flush.specs.AsksLeft.{GoesOnWhereLeft as LeftBelow}
 use Rattle.fkv_plane.specs.AsksLeft.{sum_left}
-use Rattle.fkv_flush.proofs.Shown.{flush_most, flush_left, flush_fewer, flush_done_fewer, serve_left, serve_begun_left, serve_fewer, serve_read_fewer}
+use Rattle.fkv_flush.proofs.Shown.{flush_left, flush_fewer, flush_done_fewer, serve_left, serve_begun_left, serve_fewer, serve_read_fewer}
 use Rattle.fkv_maintain.proofs.TakesNone.{passed_takes, taking_asks, scan_takes, shift_takes, turn_takes, flush_takes, serve_takes}
 use Rattle.fkv_maintain.specs.declared.maintaining.MaintainAnswer.{MaintainAnswer}
 use Rattle.fkv_maintain.specs.declared.maintaining.MaintainAnswer.TheVariants as answer
 use Rattle.fkv_maintain.specs.declared.maintaining.Maintaining.{Maintaining}
 use Rattle.fkv_maintain.specs.declared.maintaining.Maintaining.TheVariants.{Through, Spent, Broken, Scans, Claims, Flushes, Shifts, Turns, Serves}
-use Rattle.fkv_maintain.specs.Maintaining.{MaintainState, maintain_serving, device_asked, maintaining_made, maintain_made, maintain_calls_asked, maintaining_ask, maintain_ask, scan_ledto, claim_ledto, flush_ledto, turn_form, shift_ledto, serve_ledto, serve_begun, turn_ledto, maintaining_next, maintain_next, maintaining_given, maintain_given, maintaining_called, maintain_called}
+use Rattle.fkv_maintain.specs.Maintaining.{MaintainState, maintain_serving, device_asked, maintaining_made, maintain_made, maintain_calls_asked, maintaining_ask, maintain_ask, flush_told, flush_begun, bytes_begun, scan_ledto, claim_ledto, flush_ledto, turn_form, shift_ledto, serve_ledto, serve_begun, turn_ledto, maintaining_next, maintain_next, maintaining_given, maintain_given, maintaining_called, maintain_called}
 use Rattle.fkv_maintain.specs.AsksLeft.{is_ended, GoesOnWhereLeft, from_mailboxes, from_page, from_shift, from_flush, from_claims, most_maintain_asks, unless_done, maintaining_asks_left, maintain_asks_left}
 
 if_most : (b : Bool) (n : ℕ) → (if b then 0 else n) ≤ n
@@ -186,9 +186,19 @@ claims_left : (shape : Shape) (s : MaintainState) → maintain_asks_left shape (
 unfolding maintaining_asks_left claim_asks_left
 claims_left shape s = if_most (is_done (claim_ask (claim.MeetsSlot 0 None))) (5 * (drain_slots - 0) + 1 + from_flush shape)
 
-flush_begun_left : (shape : Shape) (s : MaintainState) (bytes : List ℕ) → maintain_asks_left shape (record s { bytes = bytes; flushing = flush.LoadsFlushed; step = Flushes }) ≤ from_flush shape
+begun_most : (step : Flushing) → flush_asks_left (flush_begun step) ≤ most_flush_asks
+unfolding flush_asks_left
+begun_most (flush.Syncs end) = omega arith
+begun_most flush.AtRest = omega arith
+begun_most flush.LoadsFlushed = omega arith
+begun_most (flush.LoadsEnd flushed) = omega arith
+begun_most (flush.LoadsWord part addr word) = omega arith
+begun_most (flush.WritesPart part) = omega arith
+begun_most (flush.RaisesFlushed end) = omega arith
+
+flush_begun_left : (shape : Shape) (s : MaintainState) (bytes : List ℕ) → maintain_asks_left shape (record s { bytes = bytes; flushing = flush_begun s.flushing; step = Flushes }) ≤ from_flush shape
 unfolding maintaining_asks_left
-flush_begun_left shape s bytes = let most = flush_most in let sum = sum_most (flush_asks_left flush.LoadsFlushed) (from_shift shape) in omega (arith, most, sum)
+flush_begun_left shape s bytes = let most = begun_most s.flushing in let sum = sum_most (flush_asks_left (flush_begun s.flushing)) (from_shift shape) in omega (arith, most, sum)
 
 shifts_left : (shape : Shape) (s : MaintainState) → maintain_asks_left shape (record s { shift = shift_begun; step = Shifts }) ≤ from_shift shape
 unfolding maintaining_asks_left
@@ -275,7 +285,7 @@ inside_claim shape s old at fewer =
 
 claim_led : (shape : Shape) (s : MaintainState) (old : ℕ) (ask : Ask (Unit {0})) → s.step ≡ Claims → claim_asks_left s.claiming < old → maintain_asks_left shape (claim_ledto s ask) < old + from_flush shape
 unfolding claim_ledto
-claim_led shape s old (Done its) at fewer = let begun = flush_begun_left shape s [] in omega (arith, begun, fewer)
+claim_led shape s old (Done its) at fewer = let begun = flush_begun_left shape s (bytes_begun s.flushing s.bytes) in omega (arith, begun, fewer)
 claim_led shape s old ask at fewer = inside_claim shape s old at fewer
 
 inside_scan : (shape : Shape) (s : MaintainState) (old : ℕ) → s.step ≡ Scans → scan_asks_left shape.sessions s.scanning < old → maintain_asks_left shape s < old + from_claims shape
@@ -393,14 +403,14 @@ maintain_given_fewer shape p s action takes = maintaining_given_fewer shape p s 
 
 -- and each call of the device. One that failed ends the turn
 flush_called : (shape : Shape) (p : Places) (s : MaintainState) (bytes : List ℕ) (step : Flushing) → s.step ≡ Flushes → device_asked (flush_ask p step) ≡ Done answer.Device
-    → maintain_asks_left shape (flush_ledto (record s { bytes = bytes; flushing = flush_done shape.page step true }) (flush_ask p (flush_done shape.page step true))) < sum_left (flush_asks_left step) (from_shift shape)
+    → maintain_asks_left shape (flush_ledto (record s { bytes = bytes; flushing = flush_done shape.page step true }) (flush_told shape p (flush_done shape.page step true))) < sum_left (flush_asks_left step) (from_shift shape)
 flush_called shape p s bytes step at asks =
     let one : calls_asked (flush_ask p step) ≡ 1 = device_calls (flush_ask p step) ∙ ap maintain_calls_asked asks in
     let left = (flush_left p step).0 (sym (device_ended (flush_ask p step)) ∙ ap is_ended asks) in
     let fewer = flush_done_fewer p shape.page step true (some_page shape) in
     let whole = sum_whole (flush_asks_left step) (from_shift shape) left in
     let next = flush_done shape.page step true in
-    let led = flush_led shape (record s { bytes = bytes; flushing = next }) (flush_asks_left step) (flush_ask p next) at (omega (arith, one, left, fewer)) in
+    let led = flush_led shape (record s { bytes = bytes; flushing = next }) (flush_asks_left step) (flush_told shape p next) at (omega (arith, one, left, fewer)) in
     omega (arith, whole, led)
 
 serve_called : (shape : Shape) (s : MaintainState) (bytes : List ℕ) (step : Serving) → s.step ≡ Serves → device_asked (serve_ask step) ≡ Done answer.Device

@@ -19,7 +19,7 @@ use Rattle.fkv_flush.specs.Flushing.{flush_ask, flush_next, flush_done, bytes_ne
 use Rattle.fkv_flush.specs.Serving.{serve_ask, serve_next, serve_read, mailbox_from}
 use Rattle.fkv_maintain.specs.declared.maintaining.Maintaining.{Maintaining}
 use Rattle.fkv_maintain.specs.declared.maintaining.Maintaining.TheVariants.{Through, Spent, Broken, Scans, Claims, Flushes, Shifts, Turns, Serves}
-use Rattle.fkv_maintain.specs.Maintaining.{MaintainState, scan_ledto, claim_ledto, flush_ledto, shift_ledto, turn_ledto, serve_ledto, maintaining_next, maintaining_given, maintaining_called}
+use Rattle.fkv_maintain.specs.Maintaining.{MaintainState, flush_told, scan_ledto, claim_ledto, flush_ledto, shift_ledto, turn_ledto, serve_ledto, maintaining_next, maintaining_given, maintaining_called}
 use Rattle.fkv_maintain.specs.MaintainRun.{Replies, Gets, Calls, maintain_happens}
 use Rattle.fkv_maintain.specs.Parts.{Drives, DrivesItsParts}
 
@@ -83,7 +83,7 @@ called_drives : (shape : Shape) (p : Places) (s : MaintainState) (step : Maintai
 unfolding maintaining_called
 called_drives shape p s Flushes true bytes =
     let next = flush_done shape.page s.flushing true in
-    flush_kept (record s { bytes = bytes_done s.flushing s.bytes; flushing = next }) (flush_ask p next)
+    flush_kept (record s { bytes = bytes_done s.flushing s.bytes; flushing = next }) (flush_told shape p next)
 called_drives shape p s Flushes false bytes = (refl, refl)
 called_drives shape p s Serves true bytes =
     let next = serve_read s.serving bytes in

@@ -1,6 +1,8 @@
 -- A part is left only at its end, and the next one follows.
 use Rattle.std.proofs.Common.{◌≡◌, ℕ, zero, suc, ◌∙◌, ◌⊎◌, ◌<◌, arith, inl, inr, List, refl, ap, sym, Bool, true, false}
 use Rattle.std.proofs.lemmas.Bool.{lt-ltb}
+use Rattle.std.specs.Prelude.{not, ◌&&◌, if◌then◌else◌}
+use Rattle.fkv_base.specs.Limits.{is_specified}
 use Rattle.fkv_base.specs.declared.shapes.Shape.{Shape}
 use Rattle.fkv_plane.specs.declared.actions.Action.{Action}
 use Rattle.fkv_plane.specs.declared.asks.Ask.{Ask}
@@ -8,6 +10,7 @@ use Rattle.fkv_plane.specs.declared.asks.Ask.TheVariants.{Done}
 use Rattle.fkv_plane.specs.declared.places.Places.{Places}
 use Rattle.fkv_plane.specs.Passing.{is_done}
 use Rattle.fkv_epoch.specs.Scanning.{scan_ask, scan_next}
+use Rattle.fkv_epoch.specs.declared.claiming.Claiming.{Claiming}
 use Rattle.fkv_epoch.specs.Claiming.{claim_ask, claim_next, claim_given}
 use Rattle.fkv_log.specs.declared.moving.MoveAnswer.{MoveAnswer}
 use Rattle.fkv_log.specs.declared.moving.MoveAnswer.TheVariants as moved
@@ -17,13 +20,14 @@ use Rattle.fkv_log.specs.Shifting.{shift_next, shift_next_ask}
 use Rattle.fkv_log.specs.Turning.{turn_next, turn_next_ask}
 use Rattle.fkv_flush.specs.declared.answers.DeviceAnswer.{DeviceAnswer}
 use Rattle.fkv_flush.specs.declared.answers.DeviceAnswer.TheVariants as device
+use Rattle.fkv_flush.specs.declared.flushing.Flushing.{Flushing}
 use Rattle.fkv_flush.specs.declared.serving.Serving.{Serving}
 use Rattle.fkv_flush.specs.declared.serving.Serving.TheVariants as serving
 use Rattle.fkv_flush.specs.Flushing.{flush_ask, flush_next, flush_done, bytes_next, bytes_done}
 use Rattle.fkv_flush.specs.Serving.{serve_ask, serve_next, serve_read, mailbox_from}
 use Rattle.fkv_maintain.specs.declared.maintaining.Maintaining.{Maintaining}
 use Rattle.fkv_maintain.specs.declared.maintaining.Maintaining.TheVariants.{Through, Spent, Broken, Scans, Claims, Flushes, Shifts, Turns, Serves}
-use Rattle.fkv_maintain.specs.Maintaining.{MaintainState, scan_ledto, claim_ledto, flush_ledto, shift_ledto, turn_ledto, serve_ledto, serve_begun, maintaining_next, maintaining_given, maintaining_called}
+use Rattle.fkv_maintain.specs.Maintaining.{MaintainState, is_sync_due, flush_told, scan_ledto, claim_ledto, flush_ledto, shift_ledto, turn_ledto, serve_ledto, serve_begun, maintaining_next, maintaining_given, maintaining_called}
 use Rattle.fkv_maintain.specs.MaintainRun.{MaintainEvent, Replies, Gets, Calls, maintain_happens}
 use Rattle.fkv_maintain.specs.Parts.{IsClaimBegun, IsFlushBegun, IsShiftBegun, IsPageBegun, IsServeBegun, IsServed, IsShiftSpent, IsPageSpent, IsBreak, MayFollow, FollowsInOrder}
 
@@ -32,16 +36,25 @@ unfolding scan_ledto
 scan_led m (Done its) at e = inr (record { comes = refl; scanned = ap is_done e; first = refl })
 scan_led m ask at e = inl at
 
-claim_led : (m : MaintainState) (ask : Ask (Unit {0})) → m.step ≡ Claims → claim_ask m.claiming ≡ ask → ((claim_ledto m ask).step ≡ Claims) ⊎ IsFlushBegun (claim_ledto m ask)
+claim_led : (s : MaintainState) (next : Claiming) (ask : Ask (Unit {0})) → s.step ≡ Claims → claim_ask next ≡ ask
+    → ((claim_ledto (record s { claiming = next }) ask).step ≡ Claims) ⊎ IsFlushBegun s (claim_ledto (record s { claiming = next }) ask)
 unfolding claim_ledto
-claim_led m (Done its) at e = inr (record { comes = refl; claimed = ap is_done e; first = refl; none_in_hand = refl })
-claim_led m ask at e = inl at
+claim_led s next (Done its) at e = inr (record { comes = refl; claimed = ap is_done e; first = refl; in_hand = refl })
+claim_led s next ask at e = inl at
 
-flush_led : (p : Places) (event : MaintainEvent) (m : MaintainState) (ask : Ask DeviceAnswer) → m.step ≡ Flushes → flush_ask p m.flushing ≡ ask
-    → ((flush_ledto m ask).step ≡ Flushes) ⊎ (IsShiftBegun p (flush_ledto m ask) ⊎ IsBreak event (flush_ledto m ask))
+-- a flush that is through asks for nothing more, whether or not it may rest
+either_through : (b : Bool) (ask : Ask DeviceAnswer) → ask ≡ Done device.Through → (if b then Done device.Through else ask) ≡ Done device.Through
+either_through true ask e = refl
+either_through false ask e = e
+
+through_told : (shape : Shape) (p : Places) (step : Flushing) → flush_ask p step ≡ Done device.Through → flush_told shape p step ≡ Done device.Through
+through_told shape p step e = either_through (not (is_specified shape.class) && is_sync_due step) (flush_ask p step) e
+
+flush_led : (shape : Shape) (p : Places) (event : MaintainEvent) (m : MaintainState) (ask : Ask DeviceAnswer) → m.step ≡ Flushes → (ask ≡ Done device.Through → flush_told shape p m.flushing ≡ Done device.Through)
+    → ((flush_ledto m ask).step ≡ Flushes) ⊎ (IsShiftBegun shape p (flush_ledto m ask) ⊎ IsBreak event (flush_ledto m ask))
 unfolding flush_ledto
-flush_led p event m (Done device.Through) at e = inr (inl (record { comes = refl; flushed = e; first = refl }))
-flush_led p event m ask at e = inl at
+flush_led shape p event m (Done device.Through) at told = inr (inl (record { comes = refl; flushed = told refl; first = refl }))
+flush_led shape p event m ask at told = inl at
 
 shift_led : (shape : Shape) (s : MaintainState) (reply : ℕ) (m : MaintainState) (ask : Ask ShiftAnswer) → m.step ≡ Shifts → shift_next_ask shape s.shift reply ≡ ask
     → ((shift_ledto m ask).step ≡ Shifts) ⊎ (IsPageBegun shape s (Replies reply) (shift_ledto m ask) ⊎ IsShiftSpent shape s (Replies reply) (shift_ledto m ask))
@@ -109,10 +122,10 @@ replied shape p s Through reply at = refl
 replied shape p s Spent reply at = refl
 replied shape p s Broken reply at = refl
 replied shape p s Scans reply at = scan_led (record s { scanning = scan_next shape.sessions s.scanning reply }) (scan_ask (scan_next shape.sessions s.scanning reply)) at refl
-replied shape p s Claims reply at = claim_led (record s { claiming = claim_next s.claiming reply }) (claim_ask (claim_next s.claiming reply)) at refl
+replied shape p s Claims reply at = claim_led s (claim_next s.claiming reply) (claim_ask (claim_next s.claiming reply)) at refl
 replied shape p s Flushes reply at =
     let next = flush_next shape.page s.flushing reply in
-    flush_led p (Replies reply) (record s { bytes = bytes_next s.flushing s.bytes reply; flushing = next }) (flush_ask p next) at refl
+    flush_led shape p (Replies reply) (record s { bytes = bytes_next s.flushing s.bytes reply; flushing = next }) (flush_ask p next) at (through_told shape p next)
 replied shape p s Shifts reply at = shift_led shape s reply (record s { shift = shift_next shape s.shift reply }) (shift_next_ask shape s.shift reply) at refl
 replied shape p s Turns reply at = turn_led shape s reply (record s { turn = turn_next shape s.turn reply }) (turn_next_ask shape s.turn reply) at refl
 replied shape p s Serves reply at =
@@ -125,7 +138,7 @@ given shape p s Through action at = refl
 given shape p s Spent action at = refl
 given shape p s Broken action at = refl
 given shape p s Scans action at = inl at
-given shape p s Claims action at = claim_led (record s { claiming = claim_given s.claiming action }) (claim_ask (claim_given s.claiming action)) at refl
+given shape p s Claims action at = claim_led s (claim_given s.claiming action) (claim_ask (claim_given s.claiming action)) at refl
 given shape p s Flushes action at = inl at
 given shape p s Shifts action at = inl at
 given shape p s Turns action at = inl at
@@ -140,7 +153,7 @@ called shape p s Scans done bytes at = inl at
 called shape p s Claims done bytes at = inl at
 called shape p s Flushes true bytes at =
     let next = flush_done shape.page s.flushing true in
-    flush_led p (Calls true bytes) (record s { bytes = bytes_done s.flushing s.bytes; flushing = next }) (flush_ask p next) at refl
+    flush_led shape p (Calls true bytes) (record s { bytes = bytes_done s.flushing s.bytes; flushing = next }) (flush_told shape p next) at (λ e. e)
 called shape p s Flushes false bytes at = inr (inr (record { bytes = bytes; failed = refl; comes = refl }))
 called shape p s Shifts done bytes at = inl at
 called shape p s Turns done bytes at = inl at

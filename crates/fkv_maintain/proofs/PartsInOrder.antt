@@ -20,7 +20,7 @@ use Rattle.fkv_flush.specs.Flushing.{flush_ask, flush_next, flush_done, bytes_ne
 use Rattle.fkv_flush.specs.Serving.{serve_ask, serve_next, serve_read, mailbox_from}
 use Rattle.fkv_maintain.specs.declared.maintaining.Maintaining.{Maintaining}
 use Rattle.fkv_maintain.specs.declared.maintaining.Maintaining.TheVariants.{Through, Spent, Broken, Scans, Claims, Flushes, Shifts, Turns, Serves}
-use Rattle.fkv_maintain.specs.Maintaining.{MaintainState, maintain_serving, scan_ledto, claim_ledto, flush_ledto, shift_ledto, turn_ledto, serve_ledto, maintaining_next, maintaining_given, maintaining_called, maintaining_made, maintaining_calls}
+use Rattle.fkv_maintain.specs.Maintaining.{MaintainState, maintain_serving, flush_told, scan_ledto, claim_ledto, flush_ledto, shift_ledto, turn_ledto, serve_ledto, maintaining_next, maintaining_given, maintaining_called, maintaining_made, maintaining_calls}
 use Rattle.fkv_maintain.specs.MaintainRun.{MaintainEvent, Replies, Gets, Calls, maintain_happens, maintain_run, serving_run}
 use Rattle.fkv_maintain.specs.Parts.{MayFollow, entered, parts_of, AreInOrder, is_shift_slotless, is_page_slotless, lacks_slot, has_lacked_slot, IsServing, ServesAlone, CallsInItsParts}
 use Rattle.fkv_maintain.proofs.PartsFollow.{follows_in_order}
@@ -119,7 +119,7 @@ called_full : (shape : Shape) (p : Places) (s : MaintainState) (step : Maintaini
 unfolding maintaining_called
 called_full shape p s Flushes true bytes =
     let next = flush_done shape.page s.flushing true in
-    flush_full (record s { bytes = bytes_done s.flushing s.bytes; flushing = next }) (flush_ask p next)
+    flush_full (record s { bytes = bytes_done s.flushing s.bytes; flushing = next }) (flush_told shape p next)
 called_full shape p s Flushes false bytes = refl
 called_full shape p s Serves true bytes =
     let next = serve_read s.serving bytes in

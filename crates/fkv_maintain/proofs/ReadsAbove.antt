@@ -23,7 +23,7 @@ use Rattle.fkv_flush.specs.Flushing.{flush_ask, flush_next, flush_done, bytes_ne
 use Rattle.fkv_flush.specs.Serving.{asked_state, gone_mail, serve_ask, serve_next, serve_read, mailbox_from}
 use Rattle.fkv_maintain.specs.declared.maintaining.Maintaining.{Maintaining}
 use Rattle.fkv_maintain.specs.declared.maintaining.Maintaining.TheVariants.{Through, Spent, Broken, Scans, Claims, Flushes, Shifts, Turns, Serves}
-use Rattle.fkv_maintain.specs.Maintaining.{MaintainState, scan_ledto, claim_ledto, flush_ledto, shift_ledto, turn_ledto, serve_ledto, serve_begun, maintaining_next, maintain_next, maintaining_given, maintain_given, maintaining_called, maintain_called}
+use Rattle.fkv_maintain.specs.Maintaining.{MaintainState, flush_told, scan_ledto, claim_ledto, flush_ledto, shift_ledto, turn_ledto, serve_ledto, serve_begun, maintaining_next, maintain_next, maintaining_given, maintain_given, maintaining_called, maintain_called}
 use Rattle.fkv_maintain.specs.MaintainRun.{Replies, Gets, Calls, maintain_happens}
 use Rattle.fkv_maintain.specs.Parts.{ServesAbove, AboveAt, ReadsAbove, StaysAbove}
 
@@ -128,7 +128,7 @@ called_on : (shape : Shape) (p : Places) (s : MaintainState) (step : Maintaining
 unfolding maintaining_called
 called_on shape p s Flushes true bytes at above =
     let next = flush_done shape.page s.flushing true in
-    flush_on (record s { bytes = bytes_done s.flushing s.bytes; flushing = next }) (flush_ask p next) at
+    flush_on (record s { bytes = bytes_done s.flushing s.bytes; flushing = next }) (flush_told shape p next) at
 called_on shape p s Flushes false bytes at above = tt
 called_on shape p s Serves true bytes at above =
     let next = serve_read s.serving bytes in

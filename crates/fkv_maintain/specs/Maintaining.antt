@@ -1,10 +1,13 @@
 -- What a turn of the keeper does whether a commit is in hand or not: it scans, runs what is armed, flushes, shifts the read-only offset,
 -- opens a page or moves the head for it, and serves the mailboxes.
-use Rattle.std.specs.Prelude.{ℕ, List, [], Bool, true, false, Option, None}
+use Rattle.std.specs.Prelude.{ℕ, List, [], Bool, true, false, not, ◌&&◌, if◌then◌else◌, Option, Some, None}
 use Rattle.fkv_base.specs.declared.numbers.Addr.{Addr}
 use Rattle.fkv_base.specs.declared.shapes.Shape.{Shape}
+use Rattle.fkv_base.specs.Limits.{is_specified}
 use Rattle.fkv_disk.specs.Asks.{AskedCall, first_asked}
 use Rattle.fkv_disk.specs.Calls.{Call}
+use Rattle.fkv_disk.specs.declared.asks.DeviceAsk.{DeviceAsk}
+use Rattle.fkv_disk.specs.declared.asks.DeviceAsk.TheVariants as ask
 use Rattle.fkv_plane.specs.declared.actions.Action.{Action}
 use Rattle.fkv_plane.specs.declared.asks.Ask.{Ask}
 use Rattle.fkv_plane.specs.declared.asks.Ask.TheVariants.{Done}
@@ -26,7 +29,7 @@ use Rattle.fkv_log.specs.Turning.{TurnState, turn_begun, turn_ask, turn_next, tu
 use Rattle.fkv_flush.specs.declared.answers.DeviceAnswer.{DeviceAnswer}
 use Rattle.fkv_flush.specs.declared.answers.DeviceAnswer.TheVariants as device
 use Rattle.fkv_flush.specs.declared.flushing.Flushing.{Flushing}
-use Rattle.fkv_flush.specs.declared.flushing.Flushing.TheVariants.{LoadsFlushed}
+use Rattle.fkv_flush.specs.declared.flushing.Flushing.TheVariants.{LoadsFlushed, Syncs}
 use Rattle.fkv_flush.specs.declared.serving.Serving.{Serving}
 use Rattle.fkv_flush.specs.declared.serving.Serving.TheVariants as serving
 use Rattle.fkv_flush.specs.Devices.{calls_asked}
@@ -82,13 +85,40 @@ maintaining_ask shape p s Serves = device_asked (serve_ask s.serving)
 abbrev pub maintain_ask : Shape → Places → MaintainState → Ask MaintainAnswer
 maintain_ask shape p s = maintaining_ask shape p s s.step
 
+-- all of a flush is written, and its sync is due
+abbrev pub is_sync_due : Flushing → Bool
+is_sync_due (Syncs end) = true
+is_sync_due step = false
+
+-- then the call of the device that it makes next is a sync
+abbrev pub is_sync_asked : Option DeviceAsk → Bool
+is_sync_asked (Some ask.Sync) = true
+is_sync_asked asked = false
+
+-- where its sync is due as a turn begins, the flush rests
+abbrev pub is_flush_resting : MaintainState → Bool
+is_flush_resting s = is_sync_due s.flushing
+
+-- What a flush asks for next behind a call of the device: nothing more in this turn before the sync of a living store.
+abbrev pub flush_told : Shape → Places → Flushing → Ask DeviceAnswer
+flush_told shape p step = if not (is_specified shape.class) && is_sync_due step then Done device.Through else flush_ask p step
+
+-- one that rests is taken up where it is, with its bytes, and else one begins
+abbrev pub flush_begun : Flushing → Flushing
+flush_begun (Syncs end) = Syncs end
+flush_begun step = LoadsFlushed
+
+abbrev pub bytes_begun : Flushing → List ℕ → List ℕ
+bytes_begun (Syncs end) bytes = bytes
+bytes_begun step bytes = []
+
 -- by what the machines inside ask next
 unfoldable pub scan_ledto : MaintainState → Ask (Unit {0}) → MaintainState
 scan_ledto s (Done its) = record s { claiming = claim.MeetsSlot 0 None; step = Claims }
 scan_ledto s ask = s
 
 unfoldable pub claim_ledto : MaintainState → Ask (Unit {0}) → MaintainState
-claim_ledto s (Done its) = record s { bytes = []; flushing = LoadsFlushed; step = Flushes }
+claim_ledto s (Done its) = record s { bytes = bytes_begun s.flushing s.bytes; flushing = flush_begun s.flushing; step = Flushes }
 claim_ledto s ask = s
 
 -- the place of the record's word that the flush loads, if it loads one
@@ -152,7 +182,7 @@ maintain_given s action = maintaining_given s s.step action
 -- where a call of the device leads, whether it succeeded, and what it read
 unfoldable pub maintaining_called : Shape → Places → MaintainState → Maintaining → Bool → List ℕ → MaintainState
 maintaining_called shape p s Flushes true bytes =
-    flush_ledto (record s { bytes = bytes_done s.flushing s.bytes; flushing = flush_done shape.page s.flushing true }) (flush_ask p (flush_done shape.page s.flushing true))
+    flush_ledto (record s { bytes = bytes_done s.flushing s.bytes; flushing = flush_done shape.page s.flushing true }) (flush_told shape p (flush_done shape.page s.flushing true))
 maintaining_called shape p s Flushes false bytes = record s { bytes = bytes_done s.flushing s.bytes; flushing = flush_done shape.page s.flushing false; step = Broken }
 maintaining_called shape p s Serves true bytes = serve_ledto (record s { serving = serve_read s.serving bytes }) (serve_ask (serve_read s.serving bytes))
 maintaining_called shape p s Serves false bytes = record s { serving = serving.AtRest; step = Broken }

@@ -18,14 +18,13 @@ use Rattle.fkv_log.specs.declared.turning.TurnForm.TheVariants.{Whole}
 use Rattle.fkv_log.specs.Shifting.{shift_begun, shift_next, shift_next_ask}
 use Rattle.fkv_log.specs.Turning.{turn_begun, turn_next, turn_next_ask}
 use Rattle.fkv_flush.specs.declared.answers.DeviceAnswer.TheVariants as device
-use Rattle.fkv_flush.specs.declared.flushing.Flushing.TheVariants.{LoadsFlushed}
 use Rattle.fkv_flush.specs.declared.serving.Serving.{Serving}
 use Rattle.fkv_flush.specs.declared.serving.Serving.TheVariants as serving
 use Rattle.fkv_flush.specs.Flushing.{flush_ask, flush_next, flush_done, bytes_next, bytes_done}
 use Rattle.fkv_flush.specs.Serving.{serve_ask, serve_next, serve_read, mailbox_from}
 use Rattle.fkv_maintain.specs.declared.maintaining.Maintaining.{Maintaining}
 use Rattle.fkv_maintain.specs.declared.maintaining.Maintaining.TheVariants.{Through, Spent, Broken, Scans, Claims, Flushes, Shifts, Turns, Serves}
-use Rattle.fkv_maintain.specs.Maintaining.{MaintainState, maintain_calls, maintain_made}
+use Rattle.fkv_maintain.specs.Maintaining.{MaintainState, flush_told, flush_begun, bytes_begun, maintain_calls, maintain_made}
 use Rattle.fkv_maintain.specs.MaintainRun.{MaintainEvent, Replies, Gets, Calls, maintain_happens, maintain_run}
 
 -- the scan is at its end, and the claims begin with the first drain slot
@@ -34,17 +33,17 @@ pub record IsClaimBegun (next : MaintainState) : Type 0 where
   pub scanned : is_done (scan_ask next.scanning) ≡ true
   pub first : next.claiming ≡ MeetsSlot 0 None
 
--- the claims are at their end, and the flush begins, with no bytes in hand
-pub record IsFlushBegun (next : MaintainState) : Type 0 where
+-- the claims are at their end, and a flush that rests is taken up, or one begins
+pub record IsFlushBegun (s next : MaintainState) : Type 0 where
   pub comes : next.step ≡ Flushes
   pub claimed : is_done (claim_ask next.claiming) ≡ true
-  pub first : next.flushing ≡ LoadsFlushed
-  pub none_in_hand : next.bytes ≡ []
+  pub first : next.flushing ≡ flush_begun s.flushing
+  pub in_hand : next.bytes ≡ bytes_begun s.flushing s.bytes
 
--- the flush is through, and the shift begins
-pub record IsShiftBegun (p : Places) (next : MaintainState) : Type 0 where
+-- the flush is through or rests, and the shift begins
+pub record IsShiftBegun (shape : Shape) (p : Places) (next : MaintainState) : Type 0 where
   pub comes : next.step ≡ Shifts
-  pub flushed : flush_ask p next.flushing ≡ Done device.Through
+  pub flushed : flush_told shape p next.flushing ≡ Done device.Through
   pub first : next.shift ≡ shift_begun
 
 -- the reply ends the shift, with or without a drain slot, and the whole turn of a page begins with the tail that the shift told
@@ -90,12 +89,12 @@ pub record IsBreak (event : MaintainEvent) (next : MaintainState) : Type 0 where
   pub failed : event ≡ Calls false bytes
   pub comes : next.step ≡ Broken
 
--- Which part may follow which: a part is left only where its own machine is at its end, or the device failed, and what follows begins
--- with its machine's first step. At rest all stays as it is.
+-- Which part may follow which: a part is left only where its own machine is at its end, or the flush rests, or the device failed. What follows begins
+-- with its machine's first step, but a flush that rests goes on. At rest all stays as it is.
 abbrev pub MayFollow : Shape → Places → MaintainState → Maintaining → MaintainEvent → MaintainState → Type 0
 MayFollow shape p s Scans event next = (next.step ≡ Scans) ⊎ IsClaimBegun next
-MayFollow shape p s Claims event next = (next.step ≡ Claims) ⊎ IsFlushBegun next
-MayFollow shape p s Flushes event next = (next.step ≡ Flushes) ⊎ (IsShiftBegun p next ⊎ IsBreak event next)
+MayFollow shape p s Claims event next = (next.step ≡ Claims) ⊎ IsFlushBegun s next
+MayFollow shape p s Flushes event next = (next.step ≡ Flushes) ⊎ (IsShiftBegun shape p next ⊎ IsBreak event next)
 MayFollow shape p s Shifts event next = (next.step ≡ Shifts) ⊎ (IsPageBegun shape s event next ⊎ IsShiftSpent shape s event next)
 MayFollow shape p s Turns event next = (next.step ≡ Turns) ⊎ (IsServeBegun shape s event next ⊎ IsPageSpent shape s event next)
 MayFollow shape p s Serves event next = (next.step ≡ Serves) ⊎ (IsServed next ⊎ IsBreak event next)

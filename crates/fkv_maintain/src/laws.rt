@@ -6,11 +6,13 @@ ghost use Rattle.fkv_maintain.specs.Maintaining.{MaintainState};
 ghost use Rattle.fkv_maintain.specs.MaintainRun.{MaintainEvent, maintain_run, serving_run};
 ghost use Rattle.fkv_maintain.specs.Parts.{AreInOrder, CallsInItsParts, DrivesItsParts, FollowsInOrder, KeepsBegin, ServesAlone, StaysAbove, has_lacked_slot, parts_of};
 
-/// Whatever the state of a turn is, and whatever happens: a part is left only where its own machine is at its end, or where a call of
-/// the device failed, and the part that follows is the next one, from its machine's first step on; within a part its machine alone goes on, and the log's begin stays, with each read for a mailbox at or above it. So over every run, a turn that is
-/// through has scanned, run what is armed, flushed, shifted, turned a page and served the mailboxes, in this order and each once. It
-/// counts a part as left out just where the shift or the turn of a page ended without a drain slot. The device is called by the flush
-/// and for the mailboxes alone. A turn that only serves is never in another part, and writes and syncs nothing.
+/// Whatever the state of a turn is, and whatever happens: a part is left only where its own machine is at its end, where the flush
+/// rests before a living store's sync, or where a call of the device failed. The part that follows is the next one, from its machine's
+/// first step on, but that a flush that rests is taken up there. Within a part its machine alone goes on, and the log's begin stays,
+/// with each read for a mailbox at or above it. So over every run, a turn that is through has scanned, run what is armed, flushed up to
+/// the end or a rest, shifted, turned a page and served the mailboxes, in this order and each once. It counts a part as left out just
+/// where the shift or the turn of a page ended without a drain slot. The device is called by the flush and for the mailboxes alone. A
+/// turn that only serves is never in another part, and writes and syncs nothing.
 pub fn law_of_a_turn()
     ensures follows { FollowsInOrder }
     ensures drives { DrivesItsParts }

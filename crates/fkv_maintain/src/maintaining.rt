@@ -6,15 +6,16 @@ ghost use Rattle.fkv_disk.specs.Bytes.{bytes_at};
 ghost use Rattle.fkv_disk.specs.Device.{Elapses, HasCause, MakesCalls};
 ghost use Rattle.fkv_epoch.specs.Claiming.{takes_action};
 ghost use Rattle.fkv_flush.specs.Devices.{Adds};
+ghost use Rattle.fkv_flush.specs.Flushing.{flush_ask};
 ghost use Rattle.fkv_flush.specs.Serving.{mail_place};
 ghost use Rattle.fkv_maintain.specs.AsksLeft.{maintain_asks_left, most_maintain_asks, GoesOnWhereLeft};
 ghost use Rattle.fkv_maintain.specs.declared.maintaining.MaintainAnswer.TheVariants.{Device as AtDevice};
 ghost use Rattle.fkv_maintain.specs.declared.maintaining.Maintaining.TheVariants.{Through, Broken, Flushes};
 ghost use Rattle.fkv_plane.specs.Passing.{is_done};
 ghost use Rattle.fkv_plane.specs.declared.asks.Ask.TheVariants.{Done};
-ghost use Rattle.fkv_maintain.specs.Maintaining.{maintain_begun, maintain_serving, maintain_ask, maintain_next, maintain_given, maintain_called, maintain_asked, maintain_calls, maintain_calls_asked, maintain_made, device_asked, scan_ledto, claim_ledto, flush_ledto, shift_ledto, turn_ledto, serve_begun, serve_ledto, turn_form, maintain_word_due};
+ghost use Rattle.fkv_maintain.specs.Maintaining.{maintain_begun, maintain_serving, maintain_ask, maintain_next, maintain_given, maintain_called, maintain_asked, maintain_calls, maintain_calls_asked, maintain_made, device_asked, flush_told, is_flush_resting, is_sync_asked, scan_ledto, claim_ledto, flush_ledto, shift_ledto, turn_ledto, serve_begun, serve_ledto, turn_form, maintain_word_due};
 
-use fkv_base::{Addr, Fault, Shape};
+use fkv_base::{Addr, Fault, Shape, StoreClass};
 use fkv_disk::{Device, DeviceAsk};
 use fkv_epoch::{Claim, Scan};
 use fkv_flush::{DeviceAnswer, Flush, Serve};
@@ -89,6 +90,7 @@ impl Maintain {
         ensures places { IfOk result (λ made. made.places ≡ places) }
         ensures begin { IfOk result (λ made. made.state.begin ≡ begin) }
         ensures rest { IfOk result (λ made. made.state.step ≡ Through) }
+        ensures none_flushed { IfOk result (λ made. is_flush_resting made.state ≡ false) }
         ensures err { OnErr result (result ≡ Err Memory) }
     {
         let flush = Flush::new(alloc, shape, places)?;
@@ -239,7 +241,10 @@ impl Maintain {
     {
         match self.step {
             Maintaining::Flushes => match self.flush.device_step(d) {
-                Ok(ask) => self.after_flush(ask),
+                Ok(ask) => {
+                    let told = self.told_by_flush(ask);
+                    self.after_flush(told);
+                }
                 Err(fault) => return self.breaks(fault),
             },
             Maintaining::Serves => match self.serve.device_step(d) {
@@ -288,6 +293,28 @@ impl Maintain {
         self.is_drain_full
     }
 
+    /// Whether a flush has written all of its records, and its sync is due. Between two turns of a living store it rests there.
+    pub fn is_flush_resting(&self) -> bool
+        ensures { result ≡ is_flush_resting self.now.state }
+    {
+        match self.flush.device_ask() {
+            Some(ask) => is_sync(&ask),
+            None => false,
+        }
+    }
+
+    /// What the flush asks next, behind its call of the device. In a living store its part of the turn is over before the sync, so
+    /// that mailboxes are served while the bytes become durable. A later turn takes it up.
+    fn told_by_flush(&self, ask: Ask<DeviceAnswer>) -> Ask<DeviceAnswer>
+        requires { ask ≡ flush_ask self.now.places self.now.state.flushing }
+        ensures { result ≡ flush_told self.now.shape self.now.places self.now.state.flushing }
+    {
+        match self.shape.class {
+            StoreClass::Living if self.is_flush_resting() => Ask::Done(DeviceAnswer::Through),
+            _ => ask,
+        }
+    }
+
     fn breaks(&mut self, fault: Fault) -> Result<Ask<MaintainAnswer>, Fault>
         ensures next { self.new ≡ record self.old { state = record self.old.state { step = Broken } } }
         ensures told { result ≡ Err fault }
@@ -311,7 +338,9 @@ impl Maintain {
         ensures { self.new ≡ record self.old { state = claim_ledto self.old.state ask } }
     {
         if let Ask::Done(()) = ask {
-            self.flush.start();
+            if !self.is_flush_resting() {
+                self.flush.start();
+            }
             self.step = Maintaining::Flushes;
         }
     }
@@ -380,6 +409,16 @@ impl Maintain {
         if let Ask::Done(DeviceAnswer::Through) = ask {
             self.step = Maintaining::Through;
         }
+    }
+}
+
+// Whether the call of the device is a sync.
+fn is_sync(ask: &DeviceAsk<'_>) -> bool
+    ensures { result ≡ is_sync_asked (Some ask.now) }
+{
+    match ask {
+        DeviceAsk::Sync => true,
+        DeviceAsk::Read(_, _) | DeviceAsk::Write(_, _) => false,
     }
 }
 

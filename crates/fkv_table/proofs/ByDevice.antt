@@ -62,13 +62,14 @@ use Rattle.fkv_keeper.specs.declared.keepers.Keeping.{Keeping}
 use Rattle.fkv_keeper.specs.declared.keepers.Keeping.TheVariants.{Copies, Ended, Enters, Finishes, LoadsPhase, Maintains, Seeks, Starts, Waits, Writes}
 use Rattle.fkv_keeper.specs.KeeperAsks.{keeper_calls_asked}
 use Rattle.fkv_keeper.specs.KeeperRun.{is_in_hand}
-use Rattle.fkv_keeper.specs.Keeping.{Finality, KeeperModel, KeeperState, copies, copies_next, copy_driven, copy_ledto, copy_taken, copy_told, device_passed, ended, enter_ledto, finish_ledto, finished, is_copy_resting, keeper_ask, keeper_called, keeper_next, keeper_word_due, keeping_ask, keeping_called, keeping_given, keeping_next, maintain_ledto, must_rest, part_begun, phase_ledto, seek_ledto, start_ledto, turn_asked, turn_over, turned, wait_ledto, write_ledto, writes_begun, writes_taken_up}
+use Rattle.fkv_keeper.specs.Keeping.{Finality, KeeperModel, KeeperState, copies, copies_next, copy_driven, copy_ledto, copy_taken, copy_told, device_passed, ended, enter_ledto, finish_ledto, finished, is_copy_resting, keeper_ask, keeper_called, keeper_next, keeper_word_due, keeping_ask, keeping_called, keeping_given, keeping_next, maintain_ledto, must_rest, part_begun, phase_ledto, seek_ledto, start_ledto, turn_asked, turn_over, turned, wait_ledto, write_ledto, writes_begun, writes_taken_up, unless_flush_rests}
 use Rattle.fkv_keeper.proofs.Shown.{due_asks}
 use Rattle.fkv_keeper.specs.Running.{IsTurnTold}
 use Rattle.fkv_keeper.specs.WholeCalls.{calls_told}
 use Rattle.fkv_table.specs.Desks.{Slot, Knows}
 use Rattle.fkv_table.specs.Keeps.{KeeperReplied, KeeperSettled}
 use Rattle.fkv_table.specs.Turns.{IsCounted, ended_by_device, told_by_device}
+use Rattle.fkv_maintain.specs.Maintaining.{is_flush_resting, flush_told}
 
 -- ---- what every turn does
 -- the device has failed in none of its parts
@@ -136,7 +137,7 @@ given_at s step action e works = still s step e works
 
 called_at : (shape : Shape) (p : Places) (s : MaintainState) (step : Maintaining) (bytes : List ℕ) → s.step ≡ step → Works step → Works (maintaining_called shape p s step true bytes).step
 unfolding maintaining_called
-called_at shape p s Flushes bytes e works = flush_led (record s { bytes = bytes_done s.flushing s.bytes; flushing = flush_done shape.page s.flushing true }) (flush_ask p (flush_done shape.page s.flushing true)) e
+called_at shape p s Flushes bytes e works = flush_led (record s { bytes = bytes_done s.flushing s.bytes; flushing = flush_done shape.page s.flushing true }) (flush_told shape p (flush_done shape.page s.flushing true)) e
 called_at shape p s Serves bytes e works = serve_led (record s { serving = serve_read s.serving bytes }) (serve_ask (serve_read s.serving bytes)) e
 called_at shape p s step bytes e works = still s step e works
 
@@ -226,8 +227,9 @@ taken_up_led s granted = either granted (record s { rests = false; is_granted = 
 
 phase_led : (p : Places) (s : KeeperState) (found : Option Commit) (said : PhaseSaid) (granted : Bool) → ended_by_device (phase_ledto p s found said granted).step ≡ false
 unfolding phase_ledto
-phase_led p s None said granted = refl
-phase_led p s (Some c) said granted = either s.rests (writes_taken_up s granted) (part_begun p s c said granted) (taken_up_led s granted) (part_begins p s c said granted)
+phase_led p s None said granted = either (is_flush_resting s.maintain) (turned (record s { is_granted = granted })) (turned s) refl refl
+phase_led p s (Some c) said granted = either s.rests (writes_taken_up s granted) (unless_flush_rests s granted (part_begun p s c said granted)) (taken_up_led s granted)
+    (either (is_flush_resting s.maintain) (turned (record s { is_granted = granted })) (part_begun p s c said granted) refl (part_begins p s c said granted))
 
 enter_led : (t : KeeperState) (ask : Ask EnterAnswer) → t.step ≡ Enters → ended_by_device (enter_ledto t ask).step ≡ false
 unfolding enter_ledto

@@ -11,7 +11,7 @@ pub use Rattle.fkv_disk.specs.Device.{AtEachMoment}
 pub use Rattle.fkv_keeper.specs.Answers.{is_busy}
 pub use Rattle.fkv_keeper.specs.KeeperAsks.{keeper_asks_left, keeper_due}
 pub use Rattle.fkv_keeper.specs.KeeperRun.{is_in_hand}
-pub use Rattle.fkv_keeper.specs.Keeping.{granted_for, keeper_ask, keeper_word_due}
+pub use Rattle.fkv_keeper.specs.Keeping.{granted_for, serves_alone, keeper_ask, keeper_word_due}
 pub use Rattle.fkv_keeper.specs.Running.{IsBeginTold, IsTurnTold}
 pub use Rattle.fkv_keeper.specs.declared.answers.KeeperTold.TheVariants.{Device as AtDevice}
 pub use Rattle.fkv_map.specs.declared.operations.Call.{Call}

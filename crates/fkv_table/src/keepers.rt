@@ -178,18 +178,18 @@ fn ask_word<D: Device, E: OfKeeper>(
     machine.go_on_with(reply, room, goes_on)
 }
 
-/// Whether the step is granted what it may need: that writes that rest go on, and elsewhere memory for a copy.
+/// Whether the step is granted what it may need: that what rests goes on, and elsewhere memory for a copy.
 fn is_granted(machine: &fkv_keeper::Keeper, room: &Option<CopyRoom>, goes_on: bool) -> bool
     ensures { result ≡ said.granted_for machine.now.state (is_some room.now) goes_on }
 {
-    if machine.rests() {
+    if machine.is_resting() {
         goes_on
     } else {
         room.is_some()
     }
 }
 
-/// The same, where the event is by what is granted: memory that was got, or that writes that rest go on.
+/// The same, where the event is by what is granted: memory that was got, or that what rests goes on.
 fn ask_by_grant<D: Device>(
     words: &Words<D>,
     seat: &mut Place<D>,

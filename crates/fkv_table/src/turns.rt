@@ -33,7 +33,7 @@ impl Keeper {
     }
 
     /// Makes the turn's steps of words up to the next call of the device, or to the turn's end, and tells which. The device isn't called.
-    /// Where the writes of a commit rest they go on only if the caller says so.
+    /// Where the writes of a commit rest, or a flush does, they go on only if the caller says so.
     pub fn drive<D: Device>(
         &mut self,
         table: &Table<D>,
@@ -62,9 +62,9 @@ impl Keeper {
         }
     }
 
-    /// Whether the writes of the commit in hand rest, before a sync.
+    /// Whether the next turn only serves: the writes of the commit in hand rest before a sync, or a flush does, and weren't let go on.
     pub fn rests(&self) -> bool
-        ensures { result ≡ self.now.machine.state.rests }
+        ensures { result ≡ said.serves_alone self.now.machine.state }
     {
         self.machine.rests()
     }

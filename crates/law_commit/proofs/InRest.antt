@@ -13,13 +13,13 @@ use Rattle.law_refine.specs.Below.fkv_commit.Commit.{Commit}
 use Rattle.law_refine.specs.Below.fkv_commit.Starting.{start_begun}
 use Rattle.law_refine.specs.Below.fkv_maintain.MaintainAnswer.{MaintainAnswer}
 use Rattle.law_refine.specs.Below.fkv_maintain.MaintainAnswer.TheVariants as maintain
-use Rattle.law_refine.specs.Below.fkv_maintain.Maintaining.{MaintainState, maintain_ask, maintain_called, maintain_given, maintain_next}
+use Rattle.law_refine.specs.Below.fkv_maintain.Maintaining.{MaintainState, is_flush_resting, maintain_ask, maintain_called, maintain_given, maintain_next}
 use Rattle.law_refine.specs.Below.fkv_keeper.KeeperTold.{KeeperTold}
 use Rattle.law_refine.specs.Below.fkv_keeper.KeeperTold.TheVariants.{CommitRefused, TurnRefused}
 use Rattle.law_refine.specs.Below.fkv_keeper.TheKeeping.{Keeping}
 use Rattle.law_refine.specs.Below.fkv_keeper.TheKeeping.TheVariants.{Ended, Starts, Maintains, LoadsPhase, Writes, Finishes}
 use Rattle.law_refine.specs.Below.fkv_keeper.CheckpointLaws.{MayFollow, MayStep}
-use Rattle.law_refine.specs.Below.fkv_keeper.Keeping.{KeeperState, asked_for, come_to, commit_asked, ended, keeping_called, keeping_given, keeping_next, maintain_ledto, part_begun, parts_begun, phase_ledto, turn_asked, writes_taken_up}
+use Rattle.law_refine.specs.Below.fkv_keeper.Keeping.{KeeperState, asked_for, come_to, commit_asked, ended, keeping_called, keeping_given, keeping_next, maintain_ledto, part_begun, parts_begun, phase_ledto, serves_alone, turn_asked, turned, unless_flush_rests, writes_taken_up}
 use Rattle.law_refine.specs.Below.fkv_keeper.KeeperLaws.{MayRest}
 use Rattle.law_refine.specs.Below.fkv_keeper.KeeperRun.{BeginsCommit, BeginsTurn, Calls, Gets, IsOpened, KeeperEvent, Replies, keeper_happens, keeper_run}
 use Rattle.law_refine.proofs.Below.fkv_keeper.Shown.{BeginsRest, each_rests, run_rests}
@@ -103,12 +103,19 @@ maintain_after s m (Done maintain.Broken) rests = record {
 }
 maintain_after s m ask rests = record { kept = record { commit = refl; writes = refl; points = refl; taken = refl; used = refl; last = refl; lost = refl }; goes = inl rests }
 
+either_after : (s : KeeperState) (b : Bool) (x y : KeeperState) → AfterRest s x → AfterRest s y → AfterRest s (if b then x else y)
+either_after s true x y one other = one
+either_after s false x y one other = other
+
 phase_after : (p : Places) (s : KeeperState) (found : Option Commit) (said : PhaseSaid) (granted : Bool) → s.rests ≡ true → AfterRest s (phase_ledto p s found said granted)
 unfolding phase_ledto
-phase_after p s None said granted rests = record { kept = record { commit = refl; writes = refl; points = refl; taken = refl; used = refl; last = refl; lost = refl }; goes = inl rests }
+phase_after p s None said granted rests =
+    either_after s (is_flush_resting s.maintain) (turned (record s { is_granted = granted })) (turned s)
+    (record { kept = record { commit = refl; writes = refl; points = refl; taken = refl; used = refl; last = refl; lost = refl }; goes = inl rests })
+    (record { kept = record { commit = refl; writes = refl; points = refl; taken = refl; used = refl; last = refl; lost = refl }; goes = inl rests })
 phase_after p s (Some c) said granted rests = by s.rests rests granted
   where
-    by : (b : Bool) → b ≡ true → (granted : Bool) → AfterRest s (if b then writes_taken_up s granted else part_begun p s c said granted)
+    by : (b : Bool) → b ≡ true → (granted : Bool) → AfterRest s (if b then writes_taken_up s granted else unless_flush_rests s granted (part_begun p s c said granted))
     by true so true = record {
       kept = record { commit = refl; writes = refl; points = refl; taken = refl; used = refl; last = refl; lost = refl };
       goes = inr (inl (record { awake = refl; writes = refl }));
@@ -116,13 +123,9 @@ phase_after p s (Some c) said granted rests = by s.rests rests granted
     by true so false = record { kept = record { commit = refl; writes = refl; points = refl; taken = refl; used = refl; last = refl; lost = refl }; goes = inl rests }
     by false so granted = cc
 
-either_after : (s : KeeperState) (b : Bool) (x y : KeeperState) → AfterRest s x → AfterRest s y → AfterRest s (if b then x else y)
-either_after s true x y one other = one
-either_after s false x y one other = other
-
 turn_after : (s : KeeperState) → s.rests ≡ true → AfterRest s (turn_asked s)
 turn_after s rests =
-    either_after s s.is_broken (ended s (TurnRefused fault.Broken)) (record s { maintain = parts_begun s.rests s.maintain; is_drain_full = false; step = Maintains })
+    either_after s s.is_broken (ended s (TurnRefused fault.Broken)) (record s { maintain = parts_begun (serves_alone s) s.maintain; is_drain_full = false; step = Maintains })
     (record { kept = record { commit = refl; writes = refl; points = refl; taken = refl; used = refl; last = refl; lost = refl }; goes = inl rests }) (record { kept = record { commit = refl; writes = refl; points = refl; taken = refl; used = refl; last = refl; lost = refl }; goes = inl rests })
 
 commit_after : (s : KeeperState) (kind : CommitKind) → s.rests ≡ true → AfterRest s (commit_asked s kind)

@@ -18,6 +18,7 @@ use Rattle.law_refine.specs.Below.fkv_commit.TheDeferring.TheVariants.{Raises as
 use Rattle.law_refine.specs.Below.fkv_commit.TheEntering.TheVariants as entering
 use Rattle.law_refine.specs.Below.fkv_commit.TheSeeking.TheVariants as seeking
 use Rattle.law_refine.specs.Below.fkv_commit.Deferring.{DeferState}
+use Rattle.law_refine.specs.Below.fkv_flush.TheFlushing.TheVariants.{AtRest}
 use Rattle.law_refine.specs.Below.fkv_maintain.TheMaintaining.TheVariants.{Through}
 use Rattle.law_refine.specs.Below.fkv_keeper.KeeperTold.TheVariants.{Turned}
 use Rattle.law_refine.specs.Below.fkv_keeper.TheKeeping.TheVariants.{Ended, Enters, Seeks}
@@ -43,7 +44,7 @@ resting_keeper s = record s {
   is_broken = false;
   rests = false;
   lost = [];
-  maintain = record s.maintain { begin = s.last.begin; step = Through };
+  maintain = record s.maintain { begin = s.last.begin; flushing = AtRest; step = Through };
   step = Ended (Turned false false);
 }
 

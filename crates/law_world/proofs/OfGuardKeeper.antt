@@ -10,6 +10,9 @@ mod Entered
 pub mod Finds
 mod Finished
 mod Flushed
+mod FlushStays
+pub mod Goes
+mod HandsOver
 mod KeeperLed
 mod Kept
 mod Led

@@ -2,6 +2,7 @@ pub mod CommitEvents
 pub mod CommitShown
 pub mod DeviceCalls
 pub mod Followed
+pub mod KeeperActors
 pub mod KeeperEvents
 pub mod KeeperShown
 pub mod MaintainEvents

@@ -7,11 +7,12 @@ ghost use Rattle.fkv_keeper.specs.KeeperRun.{IsOpened, KeeperEvent, keeper_run};
 ghost use Rattle.law_world.specs.GuardKeeper.DeviceCalls.{MakeItsCalls, WritesSpareLog};
 ghost use Rattle.law_world.specs.GuardKeeper.Followed.{StepsFollow, TurnsFollow, CommitsFollow, KnowledgeStays};
 
-/// Where the guard's actor of some number is like the keeper, and what is known of a keeper by what it is at is known of it,
-/// whatever the guard's world is otherwise: a step of the keeper, with what the world settles behind it, is the list of the
-/// guard's events that the map gives. These lead to the words and the actions that the keeper's own step leads to, and to an actor
-/// that is like what the keeper has become, of which the same is known again. So does a turn that is asked for, and a commit.
-/// What is known stays as the offsets rise. The step has no premise.
+/// The keeper has two of the guard's actors, and the second one works where a flush rests that the first one has made. Where the
+/// one that works is like the keeper, and what is known of a keeper by what it is at is known of it, and the other one is at the
+/// flush that rests or at nothing, whatever the guard's world is otherwise: a step of the keeper, with what the world settles
+/// behind it, is the list of the guard's events that the map gives. These lead to the words and the actions that the keeper's own
+/// step leads to, and to two actors that are so again for what the keeper has become. So does a turn that is asked for, and a
+/// commit. What is known stays as the offsets rise. The step has no premise.
 pub fn law_keeper_followed()
     ensures steps { StepsFollow }
     ensures turns { TurnsFollow }

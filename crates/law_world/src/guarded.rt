@@ -34,7 +34,7 @@ ghost use Rattle.law_world.specs.Guarded.SlotsFound.{FindsItsSlot};
 use crate::runs::law_of_ends;
 
 /// Over every life of the engine that begins as a store was opened, whatever its calls, commits, turns and the order of its steps:
-/// what the guard has of the life shows the engine's world, with an actor for each session and one for the keeper. So a word of a
+/// what the guard has of the life shows the engine's world, with an actor for each session and two for the keeper. So a word of a
 /// frame that an event's machine asks to write, where the event is permitted, is one of an open address at or above the safe
 /// read-only offset and below the tail. A store of the word that stands there counts, and so does a Cas that is lost. Each word of a
 /// frame that changes is such a word too. An event that raises the limit opens the next page, and finds all flushed that its frame

@@ -6,6 +6,7 @@ use Rattle.fkv_epoch.specs.EpochWorld.{Claimed, drain_word}
 use Rattle.fkv_epoch.specs.Once.{Among}
 use Rattle.law_order.specs.Below.fkv_flush.GuardLevels.{Levels, levels_of}
 use Rattle.law_order.specs.Below.fkv_flush.GuardWorld.{GuardWorld}
+use Rattle.law_order.specs.Below.fkv_flush.TheFlushing.TheVariants.{AtRest}
 use Rattle.law_order.specs.Below.fkv_maintain.TheMaintaining.TheVariants.{Through}
 use Rattle.law_order.specs.Below.fkv_keeper.KeeperTold.TheVariants.{Turned}
 use Rattle.law_order.specs.Below.fkv_keeper.TheKeeping.TheVariants as keeping
@@ -63,7 +64,7 @@ idle k = record k {
   is_broken = false;
   rests = false;
   last = record k.last { begin = record { 0 = 1 } };
-  maintain = record k.maintain { begin = record { 0 = 1 }; step = Through };
+  maintain = record k.maintain { begin = record { 0 = 1 }; flushing = AtRest; step = Through };
   finish = record k.finish { sessions = 2 };
   step = keeping.Ended (Turned false false);
 }

@@ -33,7 +33,7 @@ use Rattle.fkv_manifest.specs.declared.answers.WriteAnswer.TheVariants as write
 use Rattle.fkv_manifest.specs.Committing.{commit_answer, commit_next}
 use Rattle.fkv_maintain.specs.declared.maintaining.MaintainAnswer.{MaintainAnswer}
 use Rattle.fkv_maintain.specs.declared.maintaining.MaintainAnswer.TheVariants as maintain
-use Rattle.fkv_maintain.specs.Maintaining.{maintain_ask, maintain_called, maintain_given, maintain_next}
+use Rattle.fkv_maintain.specs.Maintaining.{maintain_ask, maintain_called, maintain_given, maintain_next, is_flush_resting}
 use Rattle.fkv_keeper.specs.declared.answers.KeeperTold.TheVariants.{Begun, CommitRefused, Device, Turned, TurnRefused}
 use Rattle.fkv_keeper.specs.declared.answers.Turn.{Turn}
 use Rattle.fkv_keeper.specs.declared.keepers.Keeping.{Keeping}
@@ -101,8 +101,8 @@ part_on p s c said granted = tt
 
 phase_on : (p : Places) (s : KeeperState) (found : Option Commit) (said : PhaseSaid) (granted : Bool) → OnTurn (phase_ledto p s found said granted).step
 unfolding phase_ledto
-phase_on p s None said granted = tt
-phase_on p s (Some c) said granted = either s.rests _ _ (either granted _ _ tt tt) (part_on p s c said granted)
+phase_on p s None said granted = either (is_flush_resting s.maintain) _ _ tt tt
+phase_on p s (Some c) said granted = either s.rests _ _ (either granted _ _ tt tt) (either (is_flush_resting s.maintain) _ _ tt (part_on p s c said granted))
 
 enter_on : (t : KeeperState) (ask : Ask EnterAnswer) → t.step ≡ Enters → OnTurn (enter_ledto t ask).step
 unfolding enter_ledto

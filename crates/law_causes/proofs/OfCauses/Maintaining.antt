@@ -44,7 +44,7 @@ use Rattle.fkv_maintain.specs.declared.maintaining.MaintainAnswer.TheVariants as
 use Rattle.fkv_maintain.specs.declared.maintaining.Maintaining.{Maintaining}
 use Rattle.fkv_maintain.specs.declared.maintaining.Maintaining.TheVariants.{Through, Spent, Broken, Scans, Claims, Flushes, Shifts, Turns, Serves}
 use Rattle.law_causes.proofs.OfCauses.Asking.{passed_alone}
-use Rattle.fkv_maintain.specs.Maintaining.{MaintainState, claim_ledto, device_asked, flush_ledto, maintain_ask, maintain_called, maintain_given, maintain_next, maintaining_ask, maintaining_called, maintaining_given, maintaining_next, scan_ledto, serve_begun, serve_ledto, shift_ledto, turn_ledto}
+use Rattle.fkv_maintain.specs.Maintaining.{MaintainState, claim_ledto, device_asked, flush_ledto, maintain_ask, maintain_called, maintain_given, maintain_next, maintaining_ask, maintaining_called, maintaining_given, maintaining_next, scan_ledto, serve_begun, serve_ledto, shift_ledto, turn_ledto, flush_told}
 
 -- ---- the epoch's word is loaded, and it is the last
 abbrev pub LoadsLast : {A : Type 0} → Ask A → ℕ → Type 0
@@ -264,7 +264,7 @@ module _ (last fails : Type 0) where
 
   called_at : (shape : Shape) (p : Places) (s : MaintainState) (step : Maintaining) (done : Bool) (bytes : List ℕ) → s.step ≡ step → IsUnderWay step → (done ≡ false → fails) → Comes (maintaining_called shape p s step done bytes)
   unfolding maintaining_called
-  called_at shape p s Flushes true bytes e way failed = flush_led (record s { bytes = bytes_done s.flushing s.bytes; flushing = flush_done shape.page s.flushing true }) (flush_ask p (flush_done shape.page s.flushing true)) e
+  called_at shape p s Flushes true bytes e way failed = flush_led (record s { bytes = bytes_done s.flushing s.bytes; flushing = flush_done shape.page s.flushing true }) (flush_told shape p (flush_done shape.page s.flushing true)) e
   called_at shape p s Flushes false bytes e way failed = failed refl
   called_at shape p s Serves true bytes e way failed = serve_led (record s { serving = serve_read s.serving bytes }) (serve_ask (serve_read s.serving bytes)) e
   called_at shape p s Serves false bytes e way failed = failed refl

@@ -50,13 +50,13 @@ use Rattle.fkv_manifest.specs.declared.answers.WriteAnswer.TheVariants as write
 use Rattle.fkv_manifest.specs.Committing.{commit_answer, commit_next}
 use Rattle.fkv_maintain.specs.declared.maintaining.MaintainAnswer.{MaintainAnswer}
 use Rattle.fkv_maintain.specs.declared.maintaining.MaintainAnswer.TheVariants as maintain
-use Rattle.fkv_maintain.specs.Maintaining.{MaintainState, maintain_ask, maintain_called, maintain_given, maintain_next}
+use Rattle.fkv_maintain.specs.Maintaining.{MaintainState, maintain_ask, maintain_called, maintain_given, maintain_next, is_flush_resting}
 use Rattle.fkv_keeper.specs.declared.answers.KeeperTold.{KeeperTold}
 use Rattle.fkv_keeper.specs.declared.answers.KeeperTold.TheVariants.{CommitRefused, TurnRefused}
 use Rattle.fkv_keeper.specs.declared.keepers.Keeping.{Keeping}
 use Rattle.fkv_keeper.specs.declared.keepers.Keeping.TheVariants.{Copies, Ended, Enters, Finishes, LoadsPhase, Maintains, Seeks, Starts, Waits, Writes}
 use Rattle.fkv_keeper.specs.DrainLaws.{call_told, told_after, told_anew}
-use Rattle.fkv_keeper.specs.Keeping.{must_rest, parts_begun, asked_for, KeeperState, commit_asked, copies, copies_next, copy_driven, copy_ledto, device_passed, ended, enter_ledto, finish_ledto, finished, keeping_ask, keeping_called, keeping_given, keeping_next, maintain_ledto, part_begun, phase_ledto, seek_ledto, start_ledto, turn_asked, turn_over, turned, wait_ledto, write_ledto, writes_begun, writes_called, is_copy_resting, copy_taken, copy_told}
+use Rattle.fkv_keeper.specs.Keeping.{must_rest, parts_begun, asked_for, KeeperState, commit_asked, copies, copies_next, copy_driven, copy_ledto, device_passed, ended, enter_ledto, finish_ledto, finished, keeping_ask, keeping_called, keeping_given, keeping_next, maintain_ledto, part_begun, phase_ledto, seek_ledto, start_ledto, turn_asked, turn_over, turned, wait_ledto, write_ledto, writes_begun, writes_called, is_copy_resting, copy_taken, copy_told, serves_alone}
 use Rattle.fkv_keeper.specs.KeeperRun.{BeginsCommit, BeginsTurn, Calls, Gets, IsOpened, KeeperEvent, Replies, begins, is_calling, is_in_hand, keeper_happens, keeper_run}
 use Rattle.fkv_keeper.proofs.Shown.{run_rests}
 use Rattle.law_causes.specs.Causes.{HasCommitCause, HasFailed, HasRestingWrites, HasTurnCause, IsFailure, IsMemoryRefusal, IsShown, kind_after, kind_asked}
@@ -280,9 +280,10 @@ module _ (before : List KeeperEvent) (was : KeeperState) (event : KeeperEvent) (
   phase_led : (p : Places) (s : KeeperState) (found : Option Commit) (said : PhaseSaid) (granted : Bool) → Works s → ((c : Commit) → found ≡ Some c → c.is_copied ≡ false → granted ≡ false → is_copy_resting s.copy ≡ false → IsMemoryRefusal was event)
       → Outcome (phase_ledto p s found said granted)
   unfolding phase_ledto
-  phase_led p s None said granted works refused = over s works
+  phase_led p s None said granted works refused = either (is_flush_resting s.maintain) _ _ (over (record s { is_granted = granted }) works) (over s works)
   phase_led p s (Some c) said granted works refused =
-      either s.rests _ _ (either granted _ _ (record { broken = works; comes = tt }) (over (record s { is_granted = false }) works)) (part_led p s c said granted works (refused c refl))
+      either s.rests _ _ (either granted _ _ (record { broken = works; comes = tt }) (over (record s { is_granted = false }) works))
+      (either (is_flush_resting s.maintain) _ _ (over (record s { is_granted = granted }) works) (part_led p s c said granted works (refused c refl)))
 
 -- ---- an event, from a state with a call in hand
 -- the keeper passes on what its parts ask
@@ -414,9 +415,9 @@ module _ (shape : Shape) (p : Places) (before : List KeeperEvent) where
   parts_under_way false m = tt
 
   turn_begun : (s : KeeperState) (asked : Option CommitKind) (b : Bool) → s.is_broken ≡ b → Broken shape p before asked s
-      → Outcome before s BeginsTurn asked [] (if b then ended s (TurnRefused fault.Broken) else record s { maintain = parts_begun s.rests s.maintain; is_drain_full = false; step = Maintains })
+      → Outcome before s BeginsTurn asked [] (if b then ended s (TurnRefused fault.Broken) else record s { maintain = parts_begun (serves_alone s) s.maintain; is_drain_full = false; step = Maintains })
   turn_begun s asked true e works = record { broken = sooner shape p before asked BeginsTurn s works; comes = works e }
-  turn_begun s asked false e works = record { broken = sooner shape p before asked BeginsTurn s works; comes = parts_under_way s.rests s.maintain }
+  turn_begun s asked false e works = record { broken = sooner shape p before asked BeginsTurn s works; comes = parts_under_way (serves_alone s) s.maintain }
 
   abbrev Follows : KeeperState → Keeping → KeeperEvent → Option CommitKind → List Exchange → Type 0
   Follows s step event asked told = Outcome before s event (kind_after (is_in_hand step) event asked) (told_at shape p s step event told) (happens_at shape p s step event)

@@ -34,7 +34,7 @@ use Rattle.law_refine.specs.Below.fkv_manifest.WriteAnswer.TheVariants as write
 use Rattle.law_refine.specs.Below.fkv_manifest.Committing.{commit_answer, commit_next}
 use Rattle.law_refine.specs.Below.fkv_maintain.MaintainAnswer.{MaintainAnswer}
 use Rattle.law_refine.specs.Below.fkv_maintain.MaintainAnswer.TheVariants as maintain
-use Rattle.law_refine.specs.Below.fkv_maintain.Maintaining.{maintain_ask, maintain_called, maintain_given, maintain_next}
+use Rattle.law_refine.specs.Below.fkv_maintain.Maintaining.{is_flush_resting, maintain_ask, maintain_called, maintain_given, maintain_next}
 use Rattle.law_refine.specs.Below.fkv_keeper.TheKeeping.{Keeping}
 use Rattle.law_refine.specs.Below.fkv_keeper.TheKeeping.TheVariants.{Ended, Starts, Maintains, LoadsPhase, Enters, Copies, Seeks, Waits, Writes, Finishes}
 use Rattle.law_refine.specs.Below.fkv_keeper.Keeping.{KeeperState, commit_asked, copied, copies, copy_driven, copy_ledto, enter_ledto, finish_ledto, finished, keeping_called, keeping_given, keeping_next, maintain_ledto, must_rest, part_begun, phase_ledto, points_known, seek_ledto, start_ledto, turn_asked, wait_ledto, write_ledto, writes_begun, is_copy_resting, copy_told}
@@ -97,8 +97,8 @@ part_same p s c said granted = refl
 
 phase_same : (p : Places) (s : KeeperState) (found : Option Commit) (said : PhaseSaid) (granted : Bool) → (phase_ledto p s found said granted).commit ≡ s.commit
 unfolding phase_ledto
-phase_same p s None said granted = refl
-phase_same p s (Some c) said granted = either s.rests _ _ s.commit (either granted _ _ s.commit refl refl) (part_same p s c said granted)
+phase_same p s None said granted = either (is_flush_resting s.maintain) _ _ s.commit refl refl
+phase_same p s (Some c) said granted = either s.rests _ _ s.commit (either granted _ _ s.commit refl refl) (either (is_flush_resting s.maintain) _ _ s.commit refl (part_same p s c said granted))
 
 entered_same : (t : KeeperState) (ask : Ask EnterAnswer) → (enter_ledto t ask).commit ≡ t.commit
 unfolding enter_ledto

@@ -45,12 +45,12 @@ use Rattle.law_refine.specs.Below.fkv_manifest.WriteAnswer.TheVariants as write
 use Rattle.law_refine.specs.Below.fkv_manifest.Committing.{commit_answer, commit_next}
 use Rattle.law_refine.specs.Below.fkv_maintain.MaintainAnswer.{MaintainAnswer}
 use Rattle.law_refine.specs.Below.fkv_maintain.MaintainAnswer.TheVariants as maintain
-use Rattle.law_refine.specs.Below.fkv_maintain.Maintaining.{maintain_ask, maintain_called, maintain_given, maintain_next}
+use Rattle.law_refine.specs.Below.fkv_maintain.Maintaining.{is_flush_resting, maintain_ask, maintain_called, maintain_given, maintain_next}
 use Rattle.law_refine.specs.Below.fkv_keeper.KeeperTold.TheVariants.{CommitRefused, TurnRefused}
 use Rattle.law_refine.specs.Below.fkv_keeper.TheKeeping.{Keeping}
 use Rattle.law_refine.specs.Below.fkv_keeper.TheKeeping.TheVariants.{Ended, Starts, Maintains, LoadsPhase, Enters, Copies, Seeks, Waits, Writes, Finishes}
 use Rattle.law_refine.specs.Below.fkv_keeper.KeeperRun.{is_in_hand}
-use Rattle.law_refine.specs.Below.fkv_keeper.Keeping.{KeeperState, commit_asked, copied, copies, copies_next, copy_driven, copy_ledto, ended, enter_ledto, finish_ledto, finished, keeping_called, keeping_given, keeping_next, maintain_ledto, must_rest, part_begun, parts_begun, phase_ledto, points_known, seek_ledto, start_ledto, triples_written, turn_asked, turned, wait_ledto, write_ledto, writes_begun, writes_called, writes_taken_up, copy_taken, is_copy_resting, copy_told, asked_for}
+use Rattle.law_refine.specs.Below.fkv_keeper.Keeping.{KeeperState, commit_asked, copied, copies, copies_next, copy_driven, copy_ledto, ended, enter_ledto, finish_ledto, finished, keeping_called, keeping_given, keeping_next, maintain_ledto, must_rest, part_begun, parts_begun, phase_ledto, points_known, seek_ledto, serves_alone, start_ledto, triples_written, turn_asked, turned, unless_flush_rests, wait_ledto, write_ledto, writes_begun, writes_called, writes_taken_up, copy_taken, is_copy_resting, copy_told, asked_for}
 use Rattle.law_refine.specs.Below.fkv_world.World.{keeper_asked}
 use Rattle.law_commit.specs.Decided.Ended.{Span, span_in}
 
@@ -282,11 +282,16 @@ module _ (F : Version → Addr → Type 0) (E : Span → Type 0) where
   taken_up_ends : (s : KeeperState) (granted : Bool) → IsHeld s → WritesSo s → KeeperEnds (writes_taken_up s granted)
   taken_up_ends s granted held writes = either_ends granted (record s { rests = false; is_granted = true; step = Writes }) (turned (record s { is_granted = false })) (λ yes. (writes, refl)) (λ no. (λ works. held))
 
+  -- where a flush rests the turn is over
+  lets_ends : (s : KeeperState) (granted : Bool) (its : KeeperState) → IsHeld s → KeeperEnds its → KeeperEnds (unless_flush_rests s granted its)
+  lets_ends s granted its held led = either_ends (is_flush_resting s.maintain) (turned (record s { is_granted = granted })) its (λ rests. (λ works. held)) (λ calm. led)
+
   phase_ends : (p : Places) (s : KeeperState) (found : Option Commit) (said : PhaseSaid) (granted : Bool) → s.commit ≡ found → (s.is_broken ≡ false) × IsHeld s → KeeperEnds (phase_ledto p s found said granted)
   unfolding phase_ledto
-  phase_ends p s None said granted is its = λ works. its.1
+  phase_ends p s None said granted is its = lets_ends s granted (turned s) its.1 (λ works. its.1)
   phase_ends p s (Some c) said granted is its =
-      either_ends s.rests (writes_taken_up s granted) (part_begun p s c said granted) (λ rests. taken_up_ends s granted its.1 (held_at s true rests its.1)) (λ awake. part_ends p s c said granted awake is its.0 (held_at s false awake its.1))
+      either_ends s.rests (writes_taken_up s granted) (unless_flush_rests s granted (part_begun p s c said granted)) (λ rests. taken_up_ends s granted its.1 (held_at s true rests its.1))
+      (λ awake. lets_ends s granted (part_begun p s c said granted) its.1 (part_ends p s c said granted awake is its.0 (held_at s false awake its.1)))
 
   entered_ends : (s : KeeperState) (ask : Ask EnterAnswer) → s.step ≡ Enters → Hand s × (s.rests ≡ false) → KeeperEnds (enter_ledto s ask)
   unfolding enter_ledto
@@ -468,7 +473,7 @@ module _ (F : Version → Addr → Type 0) (E : Span → Type 0) where
   -- what is begun where no call is in hand
   turn_ends : (s : KeeperState) → (s.is_broken ≡ false → IsHeld s) → KeeperEnds (turn_asked s)
   turn_ends s hand =
-      either_ends s.is_broken (ended s (TurnRefused fault.Broken)) (record s { maintain = parts_begun s.rests s.maintain; is_drain_full = false; step = Maintains }) (λ yes. hand) (λ no. (no, hand no))
+      either_ends s.is_broken (ended s (TurnRefused fault.Broken)) (record s { maintain = parts_begun (serves_alone s) s.maintain; is_drain_full = false; step = Maintains }) (λ yes. hand) (λ no. (no, hand no))
 
   commit_ends : (s : KeeperState) (kind : CommitKind) → (s.is_broken ≡ false → IsHeld s) → KeeperEnds (commit_asked s kind)
   commit_ends s kind hand =

@@ -221,5 +221,5 @@ unfolding guard_run
 step_tail keeper a w [] enough step = inl refl
 step_tail keeper a w (event ∷ before) enough step = elim step.0.place [
   | inl quiet ↦ tail_behind w (guard_run w before) (guard_happens (guard_run w before) event) a (quiet_tail (guard_run w before) event quiet) (step_tail keeper a w before enough step.1)
-  | inr first ↦ subst (λ (b : List GuardEvent). TailOn w (guard_happens (guard_run w b) event) a) (sym first) (tail_on w event a enough step.0.own)
+  | inr first ↦ subst (λ (b : List GuardEvent). TailOn w (guard_happens (guard_run w b) event) a) (sym first.0) (tail_on w event a enough first.1)
 ]

@@ -51,6 +51,7 @@ use Rattle.law_log.specs.Ghosts.{Ghosts, GhostEvent, Tells, Reserves, Publishes,
 use Rattle.law_log.specs.Trace.{TraceLine}
 use Rattle.law_log.proofs.Shown.{at_one}
 use Rattle.law_refine.proofs.Below.law_world.OfRuns.OneWord.{one_word}
+use Rattle.law_refine.specs.Below.law_world.GuardKeeper.KeeperActors.{keeper_actor}
 use Rattle.law_refine.specs.Below.law_world.Guarded.GuardEvents.{guard_events, keeper_number, life_events}
 use Rattle.law_refine.specs.Below.law_world.Guarded.Shows as guard
 use Rattle.law_refine.specs.Below.law_world.Guarded.Shows.{Shows, seen_by_guard}
@@ -60,7 +61,7 @@ use Rattle.law_refine.specs.Below.law_world.GuardSessions.OwnTurns.{own_turn_lik
 use Rattle.law_refine.specs.Below.law_world.GuardSessions.Sessions.{session_likeness, sitting_likeness}
 use Rattle.law_refine.specs.Below.law_world.GuardSessions.Tries.{is_for_entry, try_likeness_at}
 use Rattle.law_refine.proofs.Below.law_world.OfGuarded.Kept.{moved_is}
-use Rattle.law_refine.proofs.Below.law_world.OfGuarded.KeeperSteps.{keeper_steps}
+use Rattle.law_refine.proofs.Below.law_world.OfGuarded.KeeperSteps.{actor_above, keeper_steps}
 use Rattle.law_refine.proofs.Below.law_world.OfGuarded.OneStep.{IsStep}
 use Rattle.law_refine.proofs.Below.law_world.OfGuarded.Worlds.{life_shows}
 use Rattle.law_refine.specs.Events.Appends.{append_ghosts, reserved_ghosts, NewRecord, new_record}
@@ -301,7 +302,7 @@ module _ (opening : World) (start : ℕ) (opened : guard.IsOpened opening.now st
   unfolding life_events
   is_step number alive = rw alive (moved_is here.now number (slice_get here.now.sessions number))
 
-  keeper_is : (granted done : Bool) (alive : here.now.crashed ≡ false) → IsStep (keeper_number here.now) (keeper_number here.now) (guard_events here.now (read_by_keeper here) (KeeperMoves granted done))
+  keeper_is : (granted done : Bool) (alive : here.now.crashed ≡ false) → IsStep (keeper_number here.now) (keeper_actor (keeper_number here.now) here.now.keeper) (guard_events here.now (read_by_keeper here) (KeeperMoves granted done))
   unfolding life_events
   keeper_is granted done alive = rw alive (keeper_steps (keeper_number here.now) here.now.shape here.now.places granted done (read_by_keeper here) here.now.keeper here.now.words)
 
@@ -312,12 +313,13 @@ module _ (opening : World) (start : ℕ) (opened : guard.IsOpened opening.now st
   keeper_moves : (granted done : Bool) (c : Bool) → here.now.crashed ≡ c → tail_at (run opening (KeeperMoves granted done ∷ before)).now ≡ tail_at here.now
   keeper_moves granted done true over = crashed_stays (KeeperMoves granted done) over
   keeper_moves granted done false alive =
-      elim (step_tail (keeper_number here.now) (keeper_number here.now) guards (guard_events here.now (read_by_keeper here) (KeeperMoves granted done)) enough (keeper_is granted done alive)) [
+      elim (step_tail (keeper_number here.now) (keeper_actor (keeper_number here.now) here.now.keeper) guards (guard_events here.now (read_by_keeper here) (KeeperMoves granted done)) enough (keeper_is granted done alive)) [
         | inl stays ↦ sym (tail_after (KeeperMoves granted done)) ∙ (stays ∙ tail_before)
         | inr takes ↦
-            let low = taker_below guards (keeper_number here.now) takes.x _ shows.sound takes.got takes.its_work in
+            let low = taker_below guards (keeper_actor (keeper_number here.now) here.now.keeper) takes.x _ shows.sound takes.got takes.its_work in
             let same : guards.now.places.sessions ≡ keeper_number here.now = ap (λ (p : Places). p.sessions) shows.places in
-            absurd (omega (arith, low, same))
+            let above = actor_above (keeper_number here.now) here.now.keeper in
+            absurd (omega (arith, low, same, above))
       ]
 
   session_moves : (number : ℕ) (found : Option SessionState) (c : Bool) → here.now.crashed ≡ c → slice_get here.now.sessions number ≡ found

@@ -68,7 +68,7 @@ unfolding guard_run
 step_armed P a w [] y step among = inl among
 step_armed P a w (event ∷ before) y step among = elim step.0.place [
   | inl quiet ↦ step_armed P a w before y step.1 (quiet_armed (guard_run w before) y event quiet among)
-  | inr first ↦ event_armed w y event (subst (λ (b : List GuardEvent). Among y (guard_happens (guard_run w b) event).past.armed) first among)
+  | inr first ↦ event_armed w y event (subst (λ (b : List GuardEvent). Among y (guard_happens (guard_run w b) event).past.armed) first.0 among)
 ]
 
 -- who is about to arm was so before, or arms at an epoch that stood then or later

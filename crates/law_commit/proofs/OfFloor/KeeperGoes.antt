@@ -44,13 +44,13 @@ use Rattle.law_refine.specs.Below.fkv_manifest.WriteAnswer.TheVariants as write
 use Rattle.law_refine.specs.Below.fkv_manifest.Committing.{commit_answer, commit_next}
 use Rattle.law_refine.specs.Below.fkv_maintain.MaintainAnswer.{MaintainAnswer}
 use Rattle.law_refine.specs.Below.fkv_maintain.MaintainAnswer.TheVariants as maintain
-use Rattle.law_refine.specs.Below.fkv_maintain.Maintaining.{maintain_ask, maintain_called, maintain_given, maintain_next}
+use Rattle.law_refine.specs.Below.fkv_maintain.Maintaining.{is_flush_resting, maintain_ask, maintain_called, maintain_given, maintain_next}
 use Rattle.law_refine.specs.Below.fkv_keeper.KeeperTold.{KeeperTold}
 use Rattle.law_refine.specs.Below.fkv_keeper.KeeperTold.TheVariants.{CommitRefused, TurnRefused}
 use Rattle.law_refine.specs.Below.fkv_keeper.TheKeeping.{Keeping}
 use Rattle.law_refine.specs.Below.fkv_keeper.TheKeeping.TheVariants.{Ended, Starts, Maintains, LoadsPhase, Enters, Copies, Seeks, Waits, Writes, Finishes}
 use Rattle.law_refine.specs.Below.fkv_keeper.KeeperRun.{is_in_hand}
-use Rattle.law_refine.specs.Below.fkv_keeper.Keeping.{KeeperState, commit_asked, copied, copies, copies_next, copy_driven, copy_ledto, ended, enter_ledto, finish_ledto, finished, keeping_called, keeping_given, keeping_next, maintain_ledto, must_rest, part_begun, parts_begun, phase_ledto, points_known, seek_ledto, start_ledto, turn_asked, turned, wait_ledto, write_ledto, writes_begun, writes_called, writes_taken_up, copy_taken, is_copy_resting, copy_told, asked_for}
+use Rattle.law_refine.specs.Below.fkv_keeper.Keeping.{KeeperState, commit_asked, copied, copies, copies_next, copy_driven, copy_ledto, ended, enter_ledto, finish_ledto, finished, keeping_called, keeping_given, keeping_next, maintain_ledto, must_rest, part_begun, parts_begun, phase_ledto, points_known, seek_ledto, serves_alone, start_ledto, turn_asked, turned, unless_flush_rests, wait_ledto, write_ledto, writes_begun, writes_called, writes_taken_up, copy_taken, is_copy_resting, copy_told, asked_for}
 use Rattle.law_refine.specs.Below.fkv_world.World.{keeper_asked}
 use Rattle.law_refine.specs.Below.law_world.GuardKeeper.KeeperShown.{KeepingKnows}
 use Rattle.law_refine.proofs.Footprint.Commits.{finish_stores, seek_stores, start_stores}
@@ -114,11 +114,16 @@ taken_up_fits g s granted hand rests =
     either_fits g granted (record s { rests = false; is_granted = true; step = Writes }) (turned (record s { is_granted = false }))
     (λ yes. record { hand = record { first = hand.first; points = hand.points; rests = λ e. cc }; step = hand.rests rests }) (λ no. record { hand = hand; step = tt })
 
+-- where a flush rests the turn is over
+lets_fits : (g : Ground) (s : KeeperState) (granted : Bool) (its : KeeperState) → HandFits g s.commit s.has_points s.rests → KeeperFits g its → KeeperFits g (unless_flush_rests s granted its)
+lets_fits g s granted its hand led = either_fits g (is_flush_resting s.maintain) (turned (record s { is_granted = granted })) its (λ rests. record { hand = hand; step = tt }) (λ calm. led)
+
 phase_fits : (g : Ground) (p : Places) (s : KeeperState) (found : Option Commit) (said : PhaseSaid) (granted : Bool) → s.commit ≡ found → HandFits g s.commit s.has_points s.rests → KeeperFits g (phase_ledto p s found said granted)
 unfolding phase_ledto
-phase_fits g p s None said granted is hand = ended_fits g s _ hand
+phase_fits g p s None said granted is hand = lets_fits g s granted (turned s) hand (ended_fits g s _ hand)
 phase_fits g p s (Some c) said granted is hand =
-    either_fits g s.rests (writes_taken_up s granted) (part_begun p s c said granted) (λ rests. taken_up_fits g s granted hand rests) (λ awake. part_fits g p s c said granted awake is hand)
+    either_fits g s.rests (writes_taken_up s granted) (unless_flush_rests s granted (part_begun p s c said granted)) (λ rests. taken_up_fits g s granted hand rests)
+    (λ awake. lets_fits g s granted (part_begun p s c said granted) hand (part_fits g p s c said granted awake is hand))
 
 -- ---- the parts of a commit
 entered_fits : (g : Ground) (s : KeeperState) (ask : Ask EnterAnswer) → s.step ≡ Enters → HandFits g s.commit s.has_points s.rests → EnterFits g s.enter s.enter.step → KeeperFits g (enter_ledto s ask)
@@ -299,7 +304,7 @@ called_fits g shape p s step done bytes at hand fits its = its
 -- ---- what is begun where no call is in hand
 pub turn_asked_fits : (g : Ground) (s : KeeperState) → HandFits g s.commit s.has_points s.rests → KeeperFits g (turn_asked s)
 turn_asked_fits g s hand =
-    either_fits g s.is_broken (ended s (TurnRefused fault.Broken)) (record s { maintain = parts_begun s.rests s.maintain; is_drain_full = false; step = Maintains }) (λ yes. ended_fits g s _ hand) (λ no. record { hand = hand; step = tt })
+    either_fits g s.is_broken (ended s (TurnRefused fault.Broken)) (record s { maintain = parts_begun (serves_alone s) s.maintain; is_drain_full = false; step = Maintains }) (λ yes. ended_fits g s _ hand) (λ no. record { hand = hand; step = tt })
 
 pub commit_asked_fits : (g : Ground) (s : KeeperState) (kind : CommitKind) → HandFits g s.commit s.has_points s.rests → KeeperFits g (commit_asked s kind)
 commit_asked_fits g s kind hand =

@@ -75,12 +75,12 @@ use Rattle.law_refine.specs.Below.fkv_maintain.MaintainAnswer.{MaintainAnswer}
 use Rattle.law_refine.specs.Below.fkv_maintain.MaintainAnswer.TheVariants as maintain
 use Rattle.law_refine.specs.Below.fkv_maintain.TheMaintaining.{Maintaining}
 use Rattle.law_refine.specs.Below.fkv_maintain.TheMaintaining.TheVariants as maintaining
-use Rattle.law_refine.specs.Below.fkv_maintain.Maintaining.{MaintainState, claim_ledto, device_asked, flush_ledto, maintain_ask, maintain_called, maintain_given, maintain_next, maintaining_ask, maintaining_called, maintaining_given, maintaining_next, scan_ledto, serve_begun, serve_ledto, shift_ledto, turn_ledto}
+use Rattle.law_refine.specs.Below.fkv_maintain.Maintaining.{MaintainState, claim_ledto, device_asked, flush_ledto, flush_told, is_flush_resting, maintain_ask, maintain_called, maintain_given, maintain_next, maintaining_ask, maintaining_called, maintaining_given, maintaining_next, scan_ledto, serve_begun, serve_ledto, shift_ledto, turn_ledto}
 use Rattle.law_refine.specs.Below.fkv_keeper.KeeperTold.{KeeperTold}
 use Rattle.law_refine.specs.Below.fkv_keeper.KeeperTold.TheVariants.{TurnRefused, CommitRefused}
 use Rattle.law_refine.specs.Below.fkv_keeper.TheKeeping.{Keeping}
 use Rattle.law_refine.specs.Below.fkv_keeper.TheKeeping.TheVariants.{Ended, Starts, Maintains, LoadsPhase, Enters, Copies, Seeks, Waits, Writes, Finishes}
-use Rattle.law_refine.specs.Below.fkv_keeper.Keeping.{KeeperState, commit_asked, copies, copies_next, copy_asked, copy_driven, copy_ledto, device_passed, ended, enter_ledto, finish_ledto, finished, keeper_next, keeping_ask, keeping_called, keeping_given, keeping_next, maintain_ledto, part_begun, phase_ledto, seek_ledto, start_ledto, turn_asked, turned, wait_ledto, write_asked, write_ledto, writes_begun, writes_called, copy_taken, is_copy_resting, must_rest, parts_begun, writes_taken_up, asked_for}
+use Rattle.law_refine.specs.Below.fkv_keeper.Keeping.{KeeperState, commit_asked, copies, copies_next, copy_asked, copy_driven, copy_ledto, device_passed, ended, enter_ledto, finish_ledto, finished, keeper_next, keeping_ask, keeping_called, keeping_given, keeping_next, maintain_ledto, part_begun, phase_ledto, seek_ledto, start_ledto, turn_asked, turned, wait_ledto, write_asked, write_ledto, writes_begun, writes_called, copy_taken, is_copy_resting, must_rest, parts_begun, serves_alone, unless_flush_rests, writes_taken_up, asked_for}
 use Rattle.law_commit.specs.Phases.Staged.{DefersAt, DefersReadOnly, EnterAt, SeekAt, Stage, StartAt, StepAt, Prepares, DefersProgress, Progresses, DefersPending, Pends, claim_hand, defer_moves, enter_moves, keeper_hand, keeping_hand, keeping_moves, maintain_hand, is_resting, phase_in, seek_moves, stage_out, stage_phase, stage_version, start_moves}
 use Rattle.law_commit.proofs.OfPhases.SessionHands.{PutsNone, claim_given_hand, claim_next_none, claim_puts, passed_puts, raise_puts, arm_puts, scan_puts, shift_puts, turn_puts}
 
@@ -171,7 +171,7 @@ maintain_called_hand : (shape : Shape) (p : Places) (m : MaintainState) (step : 
     → maintain_hand (maintaining_called shape p m step done bytes) (maintaining_called shape p m step done bytes).step ≡ Some its → maintain_hand m m.step ≡ Some its
 unfolding maintaining_called
 maintain_called_hand shape p m maintaining.Flushes true bytes its at is =
-    some_none _ its (flushed_none (record m { bytes = bytes_done m.flushing m.bytes; flushing = flush_done shape.page m.flushing true }) (flush_ask p (flush_done shape.page m.flushing true)) at) is
+    some_none _ its (flushed_none (record m { bytes = bytes_done m.flushing m.bytes; flushing = flush_done shape.page m.flushing true }) (flush_told shape p (flush_done shape.page m.flushing true)) at) is
 maintain_called_hand shape p m maintaining.Flushes false bytes its at is = cc
 maintain_called_hand shape p m maintaining.Serves true bytes its at is = some_none _ its (served_none (record m { serving = serve_read m.serving bytes }) (serve_ask (serve_read m.serving bytes)) at) is
 maintain_called_hand shape p m maintaining.Serves false bytes its at is = cc
@@ -222,12 +222,16 @@ part_none p s c (Says phase.WaitPending version) granted = copies_next_none p s 
 part_none p s c (Says phase.WaitFlush version) granted = either_none s.has_points (record s { wait = wait_begun c.end c.epoch; step = Waits }) (turned s) refl refl
 part_none p s c said granted = refl
 
+-- where a flush rests the turn is over
+lets_none : (s : KeeperState) (granted : Bool) (its : KeeperState) → HasNone its → HasNone (unless_flush_rests s granted its)
+lets_none s granted its none = either_none (is_flush_resting s.maintain) (turned (record s { is_granted = granted })) its refl none
+
 phase_none : (p : Places) (s : KeeperState) (found : Option Commit) (said : PhaseSaid) (granted : Bool) → HasNone (phase_ledto p s found said granted)
 unfolding phase_ledto
-phase_none p s None said granted = refl
+phase_none p s None said granted = lets_none s granted (turned s) refl
 phase_none p s (Some c) said granted =
-    either_none s.rests (writes_taken_up s granted) (part_begun p s c said granted)
-    (either_none granted (record s { rests = false; is_granted = true; step = Writes }) (turned (record s { is_granted = false })) refl refl) (part_none p s c said granted)
+    either_none s.rests (writes_taken_up s granted) (unless_flush_rests s granted (part_begun p s c said granted))
+    (either_none granted (record s { rests = false; is_granted = true; step = Writes }) (turned (record s { is_granted = false })) refl refl) (lets_none s granted (part_begun p s c said granted) (part_none p s c said granted))
 
 entered_none : (s : KeeperState) (ask : Ask EnterAnswer) → s.step ≡ Enters → HasNone (enter_ledto s ask)
 unfolding enter_ledto
@@ -322,7 +326,7 @@ pub keeper_called_hand : (shape : Shape) (p : Places) (s : KeeperState) (done : 
 keeper_called_hand shape p s done bytes its is = called_hand shape p s s.step done bytes its refl is
 
 pub turn_asked_none : (s : KeeperState) → HasNone (turn_asked s)
-turn_asked_none s = either_none s.is_broken (ended s (TurnRefused fault.Broken)) (record s { maintain = parts_begun s.rests s.maintain; is_drain_full = false; step = Maintains }) refl (parts_none s.rests)
+turn_asked_none s = either_none s.is_broken (ended s (TurnRefused fault.Broken)) (record s { maintain = parts_begun (serves_alone s) s.maintain; is_drain_full = false; step = Maintains }) refl (parts_none (serves_alone s))
   where
     parts_none : (rests : Bool) → maintain_hand (parts_begun rests s.maintain) (parts_begun rests s.maintain).step ≡ None
     parts_none true = refl

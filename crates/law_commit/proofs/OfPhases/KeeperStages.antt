@@ -51,12 +51,12 @@ use Rattle.law_refine.specs.Below.fkv_manifest.WriteAnswer.TheVariants as write
 use Rattle.law_refine.specs.Below.fkv_manifest.Committing.{commit_next, commit_answer}
 use Rattle.law_refine.specs.Below.fkv_maintain.MaintainAnswer.{MaintainAnswer}
 use Rattle.law_refine.specs.Below.fkv_maintain.MaintainAnswer.TheVariants as maintain
-use Rattle.law_refine.specs.Below.fkv_maintain.Maintaining.{maintain_ask, maintain_next, maintain_given, maintain_called}
+use Rattle.law_refine.specs.Below.fkv_maintain.Maintaining.{is_flush_resting, maintain_ask, maintain_next, maintain_given, maintain_called}
 use Rattle.law_refine.specs.Below.fkv_keeper.KeeperTold.{KeeperTold}
 use Rattle.law_refine.specs.Below.fkv_keeper.KeeperTold.TheVariants.{TurnRefused, CommitRefused}
 use Rattle.law_refine.specs.Below.fkv_keeper.TheKeeping.{Keeping}
 use Rattle.law_refine.specs.Below.fkv_keeper.TheKeeping.TheVariants.{Ended, Starts, Maintains, LoadsPhase, Enters, Copies, Seeks, Waits, Writes, Finishes}
-use Rattle.law_refine.specs.Below.fkv_keeper.Keeping.{KeeperState, ended, turned, commit_asked, turn_asked, start_ledto, maintain_ledto, copies, copies_next, must_rest, part_begun, parts_begun, phase_ledto, enter_ledto, copied, copy_ledto, points_known, seek_ledto, writes_begun, wait_ledto, finished, finish_ledto, copy_driven, keeping_next, keeper_next, keeping_given, write_ledto, writes_called, writes_taken_up, keeping_called, copy_taken, is_copy_resting, copy_told, asked_for}
+use Rattle.law_refine.specs.Below.fkv_keeper.Keeping.{KeeperState, ended, turned, commit_asked, turn_asked, start_ledto, maintain_ledto, copies, copies_next, must_rest, part_begun, parts_begun, serves_alone, unless_flush_rests, phase_ledto, enter_ledto, copied, copy_ledto, points_known, seek_ledto, writes_begun, wait_ledto, finished, finish_ledto, copy_driven, keeping_next, keeper_next, keeping_given, write_ledto, writes_called, writes_taken_up, keeping_called, copy_taken, is_copy_resting, copy_told, asked_for}
 use Rattle.law_refine.specs.Below.fkv_keeper.KeeperRun.{is_in_hand}
 use Rattle.law_commit.specs.Phases.Staged.{FitsVersion, DefersAt, defer_moves, Stage, Rests, Prepares, DefersProgress, Progresses, DefersPending, Pends, Flushes, stage_phase, stage_version, is_resting, is_early, StartsIt, StartAt, EnterAt, SeekAt, FinishAt, StepAt, EarlyAt, HasInHand, KeeperAt, start_moves, enter_moves, seek_moves, finish_moves, keeping_moves, finish_number, keeping_number}
 use Rattle.law_commit.proofs.OfPhases.CommitStages.{StartSays, start_goes, enter_goes, SeeksAt, seek_begins, seek_goes}
@@ -208,13 +208,19 @@ taken_up_at number stage s granted has early is =
     (λ yes. record { has = record { next = has.next; hand = has.hand; rests = λ e. cc }; early = early; step = (is, refl) })
     (λ no. record { has = record { next = has.next; hand = has.hand; rests = has.rests }; early = early; step = tt })
 
+-- where a flush rests the turn is over
+lets_at : (number : Version) (stage : Stage) (s : KeeperState) (granted : Bool) (its : KeeperState) → HasInHand number stage s → (s.has_entered ≡ false → is_early stage ≡ true) → KeeperAt number stage its → KeeperAt number stage (unless_flush_rests s granted its)
+lets_at number stage s granted its has early led =
+    either_at number stage (is_flush_resting s.maintain) (turned (record s { is_granted = granted })) its (λ rests. record { has = record { next = has.next; hand = has.hand; rests = has.rests }; early = early; step = tt }) (λ calm. led)
+
 phase_at : (number : Version) (stage : Stage) (p : Places) (s : KeeperState) (found : Option Commit) (granted : Bool) → s.commit ≡ found → HasInHand number stage s → (s.has_entered ≡ false → is_early stage ≡ true)
     → KeeperAt number stage (phase_ledto p s found (Says (stage_phase stage) (stage_version number stage)) granted)
 unfolding phase_ledto
-phase_at number stage p s None granted at has early = ended_at number stage s _ has early
+phase_at number stage p s None granted at has early = lets_at number stage s granted (turned s) has early (ended_at number stage s _ has early)
 phase_at number stage p s (Some c) granted at has early =
-    either_at number stage s.rests (writes_taken_up s granted) (part_begun p s c (Says (stage_phase stage) (stage_version number stage)) granted) (λ rests. taken_up_at number stage s granted has early (has.rests rests))
-    (λ awake. part_at number p s c at granted stage awake has early)
+    let part : KeeperState = part_begun p s c (Says (stage_phase stage) (stage_version number stage)) granted in
+    either_at number stage s.rests (writes_taken_up s granted) (unless_flush_rests s granted part) (λ rests. taken_up_at number stage s granted has early (has.rests rests))
+    (λ awake. lets_at number stage s granted part has early (part_at number p s c at granted stage awake has early))
 
 -- ---- the parts that defer wait-pending, copy and seek
 abbrev EnterTells : Stage → Ask EnterAnswer → Type 0
@@ -446,7 +452,7 @@ pub turn_asked_at : (number : Version) (stage : Stage) (s : KeeperState) → Kee
 turn_asked_at number stage s its idle =
     let has = its.has in
     let early = idle_early stage s s.step idle its.early in
-    either_at number stage s.is_broken (ended s (TurnRefused fault.Broken)) (record s { maintain = parts_begun s.rests s.maintain; is_drain_full = false; step = Maintains })
+    either_at number stage s.is_broken (ended s (TurnRefused fault.Broken)) (record s { maintain = parts_begun (serves_alone s) s.maintain; is_drain_full = false; step = Maintains })
     (λ yes. ended_at number stage s _ has early) (λ no. record { has = record { next = has.next; hand = has.hand; rests = has.rests }; early = early; step = tt })
 
 pub commit_asked_at : (number : Version) (stage : Stage) (s : KeeperState) (kind : CommitKind) → KeeperAt number stage s → is_in_hand s.step ≡ false → KeeperAt number stage (commit_asked s kind)

@@ -1,5 +1,5 @@
 -- Over a life the stamps of each session's views are the guard's loads of the phase.
-use Rattle.std.proofs.Common.{◌≡◌, ◌≢◌, ℕ, ◌<◌, List, [], ◌∷◌, ◌++◌, refl, arith, sym, subst, Bool, true, false}
+use Rattle.std.proofs.Common.{◌≡◌, ◌≢◌, ℕ, ◌<◌, inr, List, [], ◌∷◌, ◌++◌, refl, arith, sym, subst, Bool, true, false}
 use Rattle.std.specs.Prelude.{Option, Some, None, ◌==◌, if◌then◌else◌, slice_get}
 use Rattle.std.proofs.lemmas.Bool.Decides.{nat_tests}
 use Rattle.fkv_map.specs.declared.operations.Call.{Call}
@@ -37,11 +37,12 @@ use Rattle.law_refine.specs.Below.fkv_world.Runs.{World, read_by_keeper, run}
 use Rattle.law_refine.specs.Below.fkv_world.World as world
 use Rattle.law_refine.specs.Below.fkv_world.World.{Calls, Commits, Crashes, Event, KeeperMoves, Moves, Now, near, seat_at}
 use Rattle.law_refine.proofs.Below.fkv_world.Shown.{same_seat, session_runs, session_runs_on}
+use Rattle.law_refine.specs.Below.law_world.GuardKeeper.KeeperActors.{keeper_actor}
 use Rattle.law_refine.specs.Below.law_world.Guarded.GuardEvents.{called_events, guard_events, keeper_number, life_events, mapped, moved_events}
 use Rattle.law_refine.specs.Below.law_world.GuardSessions.Sessions.{called_guard_events}
 use Rattle.law_refine.specs.Below.law_world.Guarded.Shows as guard
 use Rattle.law_refine.specs.Below.law_world.Guarded.Shows.{IsSeated, Shows, guard_opening, seen_by_guard}
-use Rattle.law_refine.proofs.Below.law_world.OfGuarded.KeeperSteps.{keeper_steps, turn_asked_steps}
+use Rattle.law_refine.proofs.Below.law_world.OfGuarded.KeeperSteps.{actor_above, keeper_steps, turn_asked_steps}
 use Rattle.law_refine.proofs.Below.law_world.OfGuarded.OneStep.{of_others}
 use Rattle.law_refine.proofs.Below.law_world.OfGuarded.Worlds.{life_shows, runs_on}
 use Rattle.law_commit.specs.Phases.Stamped.{SessionStamped, SittingStamped, force_by, loads_by}
@@ -285,10 +286,14 @@ module _ (n : Now) (w : GuardWorld) (session : ℕ) (s : SessionState) (shows : 
             through = λ seen its l f stamped. steps_stamped seen n.words n.actions its l f k s stamped (session_ask k s) refl e;
           }
 
-  not_keeper : keeper_number n ≢ session
+  below_keeper : session < keeper_number n
+  below_keeper = subst (λ (p : _). session < p.sessions) shows.places (shows.sessions session s found).sits.below
+
+  not_keeper : keeper_actor (keeper_number n) n.keeper ≢ session
   not_keeper e =
-      let low = subst (λ (p : _). session < p.sessions) shows.places (shows.sessions session s found).sits.below in
-      absurd (omega (arith, low, e))
+      let low = below_keeper in
+      let above = actor_above (keeper_number n) n.keeper in
+      absurd (omega (arith, low, above, e))
 
   same_number : (j : ℕ) → (j == session) ≡ true → j ≡ session
   same_number j e = grind (arith, nat_tests, e)
@@ -316,8 +321,8 @@ module _ (n : Now) (w : GuardWorld) (session : ℕ) (s : SessionState) (shows : 
   goes_behind read (Calls j call) = calls_behind j call (j == session) refl
   goes_behind read (Moves j) = moves_behind j (j == session) refl
   goes_behind read (Commits kind) = none_behind
-  goes_behind read world.Turns = others_behind _ (of_others (keeper_number n) (keeper_number n) _ (turn_asked_steps (keeper_number n) n.keeper) session not_keeper)
-  goes_behind read (KeeperMoves granted done) = others_behind _ (of_others (keeper_number n) (keeper_number n) _ (keeper_steps (keeper_number n) n.shape n.places granted done read n.keeper n.words) session not_keeper)
+  goes_behind read world.Turns = others_behind _ (of_others (keeper_number n) (keeper_actor (keeper_number n) n.keeper) _ (turn_asked_steps (keeper_number n) n.keeper) session not_keeper (inr below_keeper))
+  goes_behind read (KeeperMoves granted done) = others_behind _ (of_others (keeper_number n) (keeper_actor (keeper_number n) n.keeper) _ (keeper_steps (keeper_number n) n.shape n.places granted done read n.keeper n.words) session not_keeper (inr below_keeper))
   goes_behind read Crashes = none_behind
 
   pub event_behind : (read : List ℕ) (event : Event) → Behind (guard_events n read event) (session_part_of n session event)

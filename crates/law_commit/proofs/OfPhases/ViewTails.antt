@@ -1,5 +1,5 @@
 -- Over a life the tails of each session's views are those that the guard's run found with the phase.
-use Rattle.std.proofs.Common.{◌≡◌, ℕ, suc, ◌≤◌, ◌∙◌, inl, inr, List, [], ◌∷◌, ◌++◌, refl, arith, sym, ap, subst, Bool, true, false}
+use Rattle.std.proofs.Common.{◌≡◌, ℕ, ◌≤◌, ◌∙◌, inl, inr, List, [], ◌∷◌, ◌++◌, refl, arith, sym, ap, subst, Bool, true, false}
 use Rattle.std.specs.Prelude.{Option, Some, None, slice_get}
 use Rattle.fkv_base.specs.declared.shapes.Shape.{Shape}
 use Rattle.fkv_epoch.specs.declared.refreshing.Refreshing.TheVariants as refresh
@@ -26,7 +26,7 @@ use Rattle.law_refine.specs.Below.fkv_world.Runs.{World, read_by_keeper, run}
 use Rattle.law_refine.specs.Below.fkv_world.World.{Event, Now, seat_at}
 use Rattle.law_refine.proofs.Below.fkv_world.Shown.{same_seat, session_runs, session_runs_on}
 use Rattle.law_refine.proofs.Below.law_world.OfSessions.OwnRun.{of_run}
-use Rattle.law_refine.specs.Below.law_world.Guarded.GuardEvents.{guard_events, keeper_number, mapped}
+use Rattle.law_refine.specs.Below.law_world.Guarded.GuardEvents.{actor_count, guard_events, mapped}
 use Rattle.law_refine.specs.Below.law_world.Guarded.Shows as guard
 use Rattle.law_refine.specs.Below.law_world.Guarded.Shows.{Shows, guard_opening, seen_by_guard}
 use Rattle.law_refine.proofs.Below.law_world.OfGuarded.Worlds.{life_shows, runs_on}
@@ -195,7 +195,7 @@ module _ (kept : TailsAreKept) (opening : World) (start : ℕ) (events : List Ev
   sight = views.sight_of opening events session
 
   keeps : KeepsTails w (tails_of opening start events)
-  keeps = kept opening.now.shape opening.now.places (suc (keeper_number opening.now)) opening.now.words start (mapped opening events) opened.words
+  keeps = kept opening.now.shape opening.now.places (actor_count opening.now) opening.now.words start (mapped opening events) opened.words
 
   shows : Shows (run opening events).now w
   shows = life_shows opening start events opened

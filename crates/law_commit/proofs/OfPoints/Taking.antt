@@ -44,12 +44,12 @@ use Rattle.law_refine.specs.Below.fkv_manifest.WriteAnswer.TheVariants as write
 use Rattle.law_refine.specs.Below.fkv_manifest.Committing.{commit_answer, commit_next}
 use Rattle.law_refine.specs.Below.fkv_maintain.MaintainAnswer.{MaintainAnswer}
 use Rattle.law_refine.specs.Below.fkv_maintain.MaintainAnswer.TheVariants as maintain
-use Rattle.law_refine.specs.Below.fkv_maintain.Maintaining.{maintain_ask, maintain_called, maintain_given, maintain_next}
+use Rattle.law_refine.specs.Below.fkv_maintain.Maintaining.{is_flush_resting, maintain_ask, maintain_called, maintain_given, maintain_next}
 use Rattle.law_refine.specs.Below.fkv_keeper.KeeperTold.TheVariants.{CommitRefused, TurnRefused}
 use Rattle.law_refine.specs.Below.fkv_keeper.TheKeeping.{Keeping}
 use Rattle.law_refine.specs.Below.fkv_keeper.TheKeeping.TheVariants.{Ended, Starts, Maintains, LoadsPhase, Enters, Copies, Seeks, Waits, Writes, Finishes}
 use Rattle.law_refine.specs.Below.fkv_keeper.KeeperRun.{is_in_hand}
-use Rattle.law_refine.specs.Below.fkv_keeper.Keeping.{Finality, KeeperState, commit_asked, copied, copies, copies_next, copy_driven, copy_ledto, ended, enter_ledto, finish_ledto, finished, keeping_called, keeping_given, keeping_next, maintain_ledto, must_rest, part_begun, parts_begun, phase_ledto, points_known, seek_ledto, start_ledto, turn_asked, turned, wait_ledto, write_ledto, writes_begun, writes_called, writes_taken_up, copy_taken, is_copy_resting, copy_told, asked_for}
+use Rattle.law_refine.specs.Below.fkv_keeper.Keeping.{Finality, KeeperState, commit_asked, copied, copies, copies_next, copy_driven, copy_ledto, ended, enter_ledto, finish_ledto, finished, keeping_called, keeping_given, keeping_next, maintain_ledto, must_rest, part_begun, parts_begun, phase_ledto, points_known, seek_ledto, serves_alone, start_ledto, turn_asked, turned, unless_flush_rests, wait_ledto, write_ledto, writes_begun, writes_called, writes_taken_up, copy_taken, is_copy_resting, copy_told, asked_for}
 use Rattle.law_refine.specs.Below.fkv_world.World.{keeper_asked}
 use Rattle.law_commit.proofs.InTurn.{some_commit}
 
@@ -345,11 +345,17 @@ module _ (count : ℕ) (F : ℕ → ℕ → ℕ → Type 0) (A : ℕ → ℕ →
       either_takes granted (record s { rests = false; is_granted = true; step = Writes }) (turned (record s { is_granted = false })) (λ yes. record { sessions = has.sessions; last = has.last; hand = has.hand; rests = λ e. cc; step = has_them })
       (λ no. record { sessions = has.sessions; last = has.last; hand = has.hand; rests = has.rests; step = tt })
 
+  -- where a flush rests the turn is over
+  lets_take : (s : KeeperState) (granted : Bool) (its : KeeperState) → Has s → KeeperTakes its → KeeperTakes (unless_flush_rests s granted its)
+  lets_take s granted its has led =
+      either_takes (is_flush_resting s.maintain) (turned (record s { is_granted = granted })) its (λ rests. record { sessions = has.sessions; last = has.last; hand = has.hand; rests = has.rests; step = tt }) (λ calm. led)
+
   phase_takes : (p : Places) (s : KeeperState) (found : Option Commit) (said : PhaseSaid) (granted : Bool) → s.commit ≡ found → Has s → KeeperTakes (phase_ledto p s found said granted)
   unfolding phase_ledto
-  phase_takes p s None said granted is has = turned_takes s has
+  phase_takes p s None said granted is has = lets_take s granted (turned s) has (turned_takes s has)
   phase_takes p s (Some c) said granted is has =
-      either_takes s.rests (writes_taken_up s granted) (part_begun p s c said granted) (λ rests. taken_up_takes s granted has (has.rests rests)) (λ awake. part_takes p s c said granted awake is has)
+      either_takes s.rests (writes_taken_up s granted) (unless_flush_rests s granted (part_begun p s c said granted)) (λ rests. taken_up_takes s granted has (has.rests rests))
+      (λ awake. lets_take s granted (part_begun p s c said granted) has (part_takes p s c said granted awake is has))
 
   enter_takes : (s : KeeperState) (ask : Ask EnterAnswer) → s.step ≡ Enters → Has s → KeeperTakes (enter_ledto s ask)
   unfolding enter_ledto
@@ -486,7 +492,7 @@ module _ (count : ℕ) (F : ℕ → ℕ → ℕ → Type 0) (A : ℕ → ℕ →
   -- what is begun where no call is in hand
   pub turn_takes : (s : KeeperState) → Has s → KeeperTakes (turn_asked s)
   turn_takes s has =
-      either_takes s.is_broken (ended s (TurnRefused fault.Broken)) (record s { maintain = parts_begun s.rests s.maintain; is_drain_full = false; step = Maintains }) (λ broken. record { sessions = has.sessions; last = has.last; hand = has.hand; rests = has.rests; step = tt })
+      either_takes s.is_broken (ended s (TurnRefused fault.Broken)) (record s { maintain = parts_begun (serves_alone s) s.maintain; is_drain_full = false; step = Maintains }) (λ broken. record { sessions = has.sessions; last = has.last; hand = has.hand; rests = has.rests; step = tt })
       (λ works. record { sessions = has.sessions; last = has.last; hand = has.hand; rests = has.rests; step = tt })
 
   pub commit_takes : (s : KeeperState) (kind : CommitKind) → Has s → KeeperTakes (commit_asked s kind)

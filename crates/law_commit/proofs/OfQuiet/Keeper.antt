@@ -40,12 +40,12 @@ use Rattle.law_refine.specs.Below.fkv_manifest.WriteAnswer.TheVariants as write
 use Rattle.law_refine.specs.Below.fkv_manifest.Committing.{commit_answer, commit_next}
 use Rattle.law_refine.specs.Below.fkv_maintain.MaintainAnswer.{MaintainAnswer}
 use Rattle.law_refine.specs.Below.fkv_maintain.MaintainAnswer.TheVariants as maintain
-use Rattle.law_refine.specs.Below.fkv_maintain.Maintaining.{maintain_ask, maintain_called, maintain_given, maintain_next}
+use Rattle.law_refine.specs.Below.fkv_maintain.Maintaining.{is_flush_resting, maintain_ask, maintain_called, maintain_given, maintain_next}
 use Rattle.law_refine.specs.Below.fkv_keeper.KeeperTold.TheVariants.{CommitRefused, TurnRefused}
 use Rattle.law_refine.specs.Below.fkv_keeper.TheKeeping.{Keeping}
 use Rattle.law_refine.specs.Below.fkv_keeper.TheKeeping.TheVariants.{Ended, Starts, Maintains, LoadsPhase, Enters, Copies, Seeks, Waits, Writes, Finishes}
 use Rattle.law_refine.specs.Below.fkv_keeper.KeeperRun.{is_in_hand}
-use Rattle.law_refine.specs.Below.fkv_keeper.Keeping.{KeeperState, commit_asked, copies, copies_next, copy_driven, copy_ledto, ended, enter_ledto, finish_ledto, finished, keeping_called, keeping_given, keeping_next, maintain_ledto, part_begun, phase_ledto, seek_ledto, start_ledto, turn_asked, turned, wait_ledto, write_ledto, writes_begun, writes_called, copy_taken, is_copy_resting, copy_told, asked_for, must_rest, parts_begun, writes_taken_up}
+use Rattle.law_refine.specs.Below.fkv_keeper.Keeping.{KeeperState, commit_asked, copies, copies_next, copy_driven, copy_ledto, ended, enter_ledto, finish_ledto, finished, keeping_called, keeping_given, keeping_next, maintain_ledto, part_begun, phase_ledto, seek_ledto, start_ledto, turn_asked, turned, wait_ledto, write_ledto, writes_begun, writes_called, copy_taken, is_copy_resting, copy_told, asked_for, must_rest, parts_begun, serves_alone, unless_flush_rests, writes_taken_up}
 use Rattle.law_refine.specs.Below.fkv_world.World.{keeper_asked}
 
 module _ (N : ℕ → ℕ → Type 0) (count : ℕ) where
@@ -188,12 +188,17 @@ module _ (N : ℕ → ℕ → Type 0) (count : ℕ) where
   part_knows p s c (Says phase.Prepare version) granted sessions = turned_knows s sessions
   part_knows p s c Spoiled granted sessions = turned_knows s sessions
 
+  -- where a flush rests the turn is over
+  lets_know : (s : KeeperState) (granted : Bool) (its : KeeperState) → HasSessions s → KeeperKnows its → KeeperKnows (unless_flush_rests s granted its)
+  lets_know s granted its sessions led = either_knows (is_flush_resting s.maintain) (turned (record s { is_granted = granted })) its (record { sessions = sessions; step = tt }) led
+
   phase_knows : (p : Places) (s : KeeperState) (found : Option Commit) (said : PhaseSaid) (granted : Bool) → HasSessions s → KeeperKnows (phase_ledto p s found said granted)
   unfolding phase_ledto
-  phase_knows p s None said granted sessions = turned_knows s sessions
+  phase_knows p s None said granted sessions = lets_know s granted (turned s) sessions (turned_knows s sessions)
   phase_knows p s (Some c) said granted sessions =
-      either_knows s.rests (writes_taken_up s granted) (part_begun p s c said granted)
-      (either_knows granted (record s { rests = false; is_granted = true; step = Writes }) (turned (record s { is_granted = false })) (record { sessions = sessions; step = tt }) (record { sessions = sessions; step = tt })) (part_knows p s c said granted sessions)
+      either_knows s.rests (writes_taken_up s granted) (unless_flush_rests s granted (part_begun p s c said granted))
+      (either_knows granted (record s { rests = false; is_granted = true; step = Writes }) (turned (record s { is_granted = false })) (record { sessions = sessions; step = tt }) (record { sessions = sessions; step = tt }))
+      (lets_know s granted (part_begun p s c said granted) sessions (part_knows p s c said granted sessions))
 
   enter_knows : (s : KeeperState) (ask : Ask EnterAnswer) → s.step ≡ Enters → HasSessions s → KeeperKnows (enter_ledto s ask)
   unfolding enter_ledto
@@ -279,7 +284,7 @@ module _ (N : ℕ → ℕ → Type 0) (count : ℕ) where
   -- what is begun where no call is in hand
   pub turn_knows : (s : KeeperState) → HasSessions s → KeeperKnows (turn_asked s)
   turn_knows s sessions =
-      either_knows s.is_broken (ended s (TurnRefused fault.Broken)) (record s { maintain = parts_begun s.rests s.maintain; is_drain_full = false; step = Maintains }) (record { sessions = sessions; step = tt }) (record { sessions = sessions; step = tt })
+      either_knows s.is_broken (ended s (TurnRefused fault.Broken)) (record s { maintain = parts_begun (serves_alone s) s.maintain; is_drain_full = false; step = Maintains }) (record { sessions = sessions; step = tt }) (record { sessions = sessions; step = tt })
 
   pub commit_knows : (s : KeeperState) (kind : CommitKind) → HasSessions s → KeeperKnows (commit_asked s kind)
   commit_knows s kind sessions =

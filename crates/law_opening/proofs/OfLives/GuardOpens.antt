@@ -1,5 +1,5 @@
 -- The world of an opened store is one with which the guard begins.
-use Rattle.std.proofs.Common.{◌≡◌, ◌∙◌, ap, sym, refl, arith, inl, inr, ℕ, suc, ◌+◌, ◌*◌, ◌/◌, ◌%◌, ◌^◌, ◌<◌, ◌≤◌, ◌⊎◌, List, length}
+use Rattle.std.proofs.Common.{◌≡◌, ◌∙◌, ap, sym, refl, arith, inl, inr, ℕ, ◌+◌, ◌*◌, ◌/◌, ◌%◌, ◌^◌, ◌<◌, ◌≤◌, ◌⊎◌, List, length}
 use Rattle.std.specs.Prelude.{min, replicate, take}
 use Rattle.std.proofs.Math.Nat.{div-add-mod, min-le_left, mul-le-mul_right}
 use Rattle.std.proofs.lemmas.Bool.{cases_lt}
@@ -24,6 +24,7 @@ use Rattle.fkv_core.specs.Openings.{IsOpeningSeen, IsOpeningWorld, beginning}
 use Rattle.law_refine.specs.Below.fkv_ops.Seen.{Seen}
 use Rattle.fkv_core.specs.OpeningWords.{words_before_frames, words_once}
 use Rattle.fkv_core.proofs.Shown.{length-before, length-frames}
+use Rattle.law_refine.specs.Below.law_world.Guarded.GuardEvents.{actor_count}
 use Rattle.law_refine.specs.Below.law_world.Guarded.OpenedStore.{IsOpenedStore}
 use Rattle.law_refine.specs.Below.law_world.Guarded.Shows.{IsOpened}
 use Rattle.law_opening.proofs.OfLives.Words.{IsParted, once_word, parted, session_word_at}
@@ -61,7 +62,7 @@ enough o n its =
 drain_is_free : (o : Opened) (taken slot : ℕ) → slot < drain_slots → word_at (words_once o taken) (16 + slot) ≡ 0
 drain_is_free o taken slot small = get_or-append-add (take 16 (words_once o taken)) (replicate drain_slots 0) slot 0 ∙ get_or-replicate drain_slots slot 0 0 small
 
-guard_words : (o : Opened) (n : Now) → IsOpeningWorld o n → guard.IsOpened n.shape n.places (suc n.places.sessions) n.words o.tail.0
+guard_words : (o : Opened) (n : Now) → IsOpeningWorld o n → guard.IsOpened n.shape n.places (actor_count n) n.words o.tail.0
 guard_words o n its =
     let store = its.its_places in
     let parts : IsParted o n.words = parted o n.words its.its_words in
@@ -119,6 +120,7 @@ its_keeper_opens o n its =
       none_in_hand = ap is_in_hand k.no_call;
       no_commit = k.no_commit;
       none_rest = k.none_rest;
+      none_flushed = k.none_flushed;
       works = k.works;
       turns_rest = k.turns_rest;
       serves_from = k.serves_from ∙ sym (ap (λ (last : Finality). last.begin) k.newest);

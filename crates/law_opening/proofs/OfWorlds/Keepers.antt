@@ -99,4 +99,5 @@ keeper_opens o = record {
   works = refl;
   granted = refl;
   none_rest = refl;
+  none_flushed = refl;
 }

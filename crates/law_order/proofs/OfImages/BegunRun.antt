@@ -21,7 +21,7 @@ use Rattle.law_commit.specs.Below.fkv_keeper.KeeperTold.TheVariants.{CommitRefus
 use Rattle.law_commit.specs.Below.fkv_keeper.TheKeeping.{Keeping}
 use Rattle.law_commit.specs.Below.fkv_keeper.TheKeeping.TheVariants.{Ended, Starts, Maintains, LoadsPhase, Enters, Copies, Seeks, Waits, Writes, Finishes}
 use Rattle.law_commit.specs.Below.fkv_keeper.Checkpoint.{Checkpoint}
-use Rattle.law_commit.specs.Below.fkv_keeper.Keeping.{Finality, KeeperState, checkpoint_used, come_to, ended, finish_ledto, finished, keeping_called, keeping_given, keeping_next, lost_left, must_rest, parts_begun, triples_written, turned, wait_ledto, write_ledto, writes_begun, asked_for}
+use Rattle.law_commit.specs.Below.fkv_keeper.Keeping.{Finality, KeeperState, checkpoint_used, come_to, ended, finish_ledto, finished, keeping_called, keeping_given, keeping_next, lost_left, must_rest, parts_begun, serves_alone, triples_written, turned, wait_ledto, write_ledto, writes_begun, asked_for}
 use Rattle.law_commit.specs.Below.fkv_keeper.KeeperAsks.{keeping_calls}
 use Rattle.law_commit.specs.Below.fkv_keeper.KeeperLaws.{IsResting, MayRest}
 use Rattle.law_commit.specs.Below.fkv_keeper.KeeperRun.{BeginsCommit, BeginsTurn, Calls, Gets, KeeperEvent, Replies, Writing, keeper_happens, writing_after}
@@ -207,7 +207,7 @@ module _ (shape : Shape) (opened : List ℕ) (first : BegunCommit) (Good : Begun
   works told last true its w calls begun is = let clash = is.0 in cc
 
   turn_on : (s : KeeperState) (told : KeeperTold) (was : Bool) (its : Standing) (w : Writing) (calls : List Call) (begun : List BegunCommit) (broken : Bool) → s.is_broken ≡ broken → EndedAt told broken was s.last its w calls begun
-      → (let a = if broken then ended s (TurnRefused fault.Broken) else record s { maintain = parts_begun s.rests s.maintain; is_drain_full = false; step = Maintains } in Stands (is_writing_after a.step was) a its w calls begun)
+      → (let a = if broken then ended s (TurnRefused fault.Broken) else record s { maintain = parts_begun (serves_alone s) s.maintain; is_drain_full = false; step = Maintains } in Stands (is_writing_after a.step was) a its w calls begun)
   turn_on s told was its w calls begun true e is = refuses told fault.Broken s was its w calls begun e is
   turn_on s told was its w calls begun false e is = works told s.last was its w calls begun is
 

@@ -21,14 +21,14 @@ use Rattle.law_commit.specs.Below.fkv_commit.Starting.{start_ask, start_next}
 use Rattle.law_commit.specs.Below.fkv_commit.Waiting.{wait_ask, wait_next}
 use Rattle.law_commit.specs.Below.fkv_keeper.TheKeeping.{Keeping}
 use Rattle.law_commit.specs.Below.fkv_keeper.TheKeeping.TheVariants.{Ended, Starts, Maintains, LoadsPhase, Enters, Copies, Seeks, Waits, Writes, Finishes}
-use Rattle.law_commit.specs.Below.fkv_keeper.Keeping.{KeeperState, come_to, commit_asked, must_rest, turn_asked, copies, copies_next, copy_driven, copy_ledto, enter_ledto, finish_ledto, finished, keeping_called, keeping_given, keeping_next, maintain_ledto, part_begun, phase_ledto, seek_ledto, start_ledto, turned, wait_ledto, write_ledto, writes_begun, writes_called, writes_taken_up, is_copy_resting, copy_told}
+use Rattle.law_commit.specs.Below.fkv_keeper.Keeping.{KeeperState, come_to, commit_asked, must_rest, turn_asked, copies, copies_next, copy_driven, copy_ledto, enter_ledto, finish_ledto, finished, keeping_called, keeping_given, keeping_next, maintain_ledto, part_begun, phase_ledto, seek_ledto, start_ledto, turned, unless_flush_rests, wait_ledto, write_ledto, writes_begun, writes_called, writes_taken_up, is_copy_resting, copy_told}
 use Rattle.law_commit.specs.Below.fkv_keeper.KeeperAsks.{keeping_calls}
 use Rattle.law_commit.proofs.Below.fkv_keeper.Shown.{BeginsRest}
 use Rattle.law_commit.specs.Below.fkv_keeper.KeeperRun.{BeginsCommit, BeginsTurn, Calls, Gets, IsOpened, KeeperEvent, Replies, begins, is_in_hand, keeper_happens, keeper_run}
 use Rattle.law_commit.specs.Below.fkv_keeper.LastCommits.{slot_place}
 use Rattle.law_commit.specs.Below.fkv_maintain.MaintainAnswer.{MaintainAnswer}
 use Rattle.law_commit.specs.Below.fkv_maintain.MaintainAnswer.TheVariants as maintain
-use Rattle.law_commit.specs.Below.fkv_maintain.Maintaining.{maintain_ask, maintain_called, maintain_given, maintain_next}
+use Rattle.law_commit.specs.Below.fkv_maintain.Maintaining.{is_flush_resting, maintain_ask, maintain_called, maintain_given, maintain_next}
 use Rattle.law_commit.specs.Below.fkv_manifest.WriteAnswer.{WriteAnswer}
 use Rattle.law_commit.specs.Below.fkv_manifest.WriteAnswer.TheVariants as write
 use Rattle.law_commit.specs.Below.fkv_manifest.TheCommitting.{Committing}
@@ -105,12 +105,12 @@ part_high p s c said granted = tt
 
 phase_high : (p : Places) (s : KeeperState) (found : Option Commit) (said : PhaseSaid) (granted : Bool) → s.rests ≡ false → IsHigh (phase_ledto p s found said granted)
 unfolding phase_ledto
-phase_high p s None said granted none = tt
+phase_high p s None said granted none = either (is_flush_resting s.maintain) _ _ tt tt
 phase_high p s (Some c) said granted none = by s.rests none
   where
-    by : (rests : Bool) → rests ≡ false → IsHigh (if rests then writes_taken_up s granted else part_begun p s c said granted)
+    by : (rests : Bool) → rests ≡ false → IsHigh (if rests then writes_taken_up s granted else unless_flush_rests s granted (part_begun p s c said granted))
     by true none = cc
-    by false none = part_high p s c said granted
+    by false none = either (is_flush_resting s.maintain) _ _ tt (part_high p s c said granted)
 
 enter_high : (s : KeeperState) (ask : Ask EnterAnswer) → s.step ≡ Enters → IsHigh (enter_ledto s ask)
 unfolding enter_ledto

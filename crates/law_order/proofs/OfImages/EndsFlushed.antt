@@ -28,12 +28,12 @@ use Rattle.law_commit.specs.Below.fkv_keeper.KeeperTold.{KeeperTold}
 use Rattle.law_commit.specs.Below.fkv_keeper.KeeperTold.TheVariants.{Device}
 use Rattle.law_commit.specs.Below.fkv_keeper.TheKeeping.{Keeping}
 use Rattle.law_commit.specs.Below.fkv_keeper.TheKeeping.TheVariants.{Ended, Starts, Maintains, LoadsPhase, Enters, Copies, Seeks, Waits, Writes, Finishes}
-use Rattle.law_commit.specs.Below.fkv_keeper.Keeping.{KeeperState, come_to, commit_asked, must_rest, turn_asked, turn_over, copies, copies_next, copy_driven, copy_ledto, enter_ledto, finish_ledto, finished, keeper_ask, keeper_next, keeping_ask, keeping_called, keeping_given, keeping_next, maintain_ledto, part_begun, phase_ledto, seek_ledto, start_ledto, turned, wait_ledto, write_ledto, writes_begun, writes_called, writes_taken_up, is_copy_resting, copy_told}
+use Rattle.law_commit.specs.Below.fkv_keeper.Keeping.{KeeperState, come_to, commit_asked, must_rest, turn_asked, turn_over, copies, copies_next, copy_driven, copy_ledto, enter_ledto, finish_ledto, finished, keeper_ask, keeper_next, keeping_ask, keeping_called, keeping_given, keeping_next, maintain_ledto, part_begun, phase_ledto, seek_ledto, start_ledto, turned, unless_flush_rests, wait_ledto, write_ledto, writes_begun, writes_called, writes_taken_up, is_copy_resting, copy_told}
 use Rattle.law_commit.proofs.Below.fkv_keeper.Shown.{BeginsRest}
 use Rattle.law_commit.specs.Below.fkv_keeper.KeeperRun.{BeginsCommit, BeginsTurn, Calls, Gets, IsOpened, KeeperEvent, Replies, begins, is_in_hand, keeper_happens, keeper_run}
 use Rattle.law_commit.specs.Below.fkv_maintain.MaintainAnswer.{MaintainAnswer}
 use Rattle.law_commit.specs.Below.fkv_maintain.MaintainAnswer.TheVariants as maintain
-use Rattle.law_commit.specs.Below.fkv_maintain.Maintaining.{maintain_ask, maintain_called, maintain_given, maintain_next}
+use Rattle.law_commit.specs.Below.fkv_maintain.Maintaining.{is_flush_resting, maintain_ask, maintain_called, maintain_given, maintain_next}
 use Rattle.law_commit.specs.Below.fkv_manifest.WriteAnswer.{WriteAnswer}
 use Rattle.law_commit.specs.Below.fkv_manifest.WriteAnswer.TheVariants as write
 use Rattle.law_commit.specs.Below.fkv_manifest.Committing.{commit_answer, commit_next}
@@ -116,12 +116,12 @@ part_ends most p s c said granted here = tt
 
 phase_ends : (most : ℕ) (p : Places) (s : KeeperState) (found : Option Commit) (said : PhaseSaid) (granted : Bool) → s.rests ≡ false → s.commit ≡ found → EndsNow most (phase_ledto p s found said granted)
 unfolding phase_ledto
-phase_ends most p s None said granted none here = tt
+phase_ends most p s None said granted none here = either most (is_flush_resting s.maintain) _ _ tt tt
 phase_ends most p s (Some c) said granted none here = by s.rests none
   where
-    by : (rests : Bool) → rests ≡ false → EndsNow most (if rests then writes_taken_up s granted else part_begun p s c said granted)
+    by : (rests : Bool) → rests ≡ false → EndsNow most (if rests then writes_taken_up s granted else unless_flush_rests s granted (part_begun p s c said granted))
     by true none = cc
-    by false none = part_ends most p s c said granted here
+    by false none = either most (is_flush_resting s.maintain) _ _ tt (part_ends most p s c said granted here)
 
 enter_ends : (most : ℕ) (s : KeeperState) (ask : Ask EnterAnswer) → s.step ≡ Enters → EndsNow most (enter_ledto s ask)
 unfolding enter_ledto

@@ -39,12 +39,12 @@ use Rattle.law_commit.specs.Below.fkv_keeper.KeeperTold.TheVariants.{CommitRefus
 use Rattle.law_commit.specs.Below.fkv_keeper.TheKeeping.{Keeping}
 use Rattle.law_commit.specs.Below.fkv_keeper.TheKeeping.TheVariants.{Ended, Starts, Maintains, LoadsPhase, Enters, Copies, Seeks, Waits, Writes, Finishes}
 use Rattle.law_commit.specs.Below.fkv_keeper.Checkpoint.{Checkpoint}
-use Rattle.law_commit.specs.Below.fkv_keeper.Keeping.{Finality, KeeperState, checkpoint_used, come_to, commit_asked, copied, copies, copies_next, copy_driven, copy_ledto, enter_ledto, finish_ledto, finished, keeping_ask, keeping_called, keeping_given, keeping_next, maintain_ledto, must_rest, part_begun, phase_ledto, points_known, seek_ledto, start_ledto, turn_asked, turn_over, turned, wait_ledto, write_ledto, writes_begun, writes_called, writes_taken_up, is_copy_resting, copy_told}
+use Rattle.law_commit.specs.Below.fkv_keeper.Keeping.{Finality, KeeperState, checkpoint_used, come_to, commit_asked, copied, copies, copies_next, copy_driven, copy_ledto, enter_ledto, finish_ledto, finished, keeping_ask, keeping_called, keeping_given, keeping_next, maintain_ledto, must_rest, part_begun, phase_ledto, points_known, seek_ledto, start_ledto, turn_asked, turn_over, turned, unless_flush_rests, wait_ledto, write_ledto, writes_begun, writes_called, writes_taken_up, is_copy_resting, copy_told}
 use Rattle.law_commit.proofs.Below.fkv_keeper.Shown.{BreaksInRest}
 use Rattle.law_commit.specs.Below.fkv_keeper.KeeperRun.{BeginsCommit, BeginsTurn, Calls, Gets, KeeperEvent, Replies, begins, is_in_hand, keeper_happens, keeper_run}
 use Rattle.law_commit.specs.Below.fkv_maintain.MaintainAnswer.{MaintainAnswer}
 use Rattle.law_commit.specs.Below.fkv_maintain.MaintainAnswer.TheVariants as maintain
-use Rattle.law_commit.specs.Below.fkv_maintain.Maintaining.{maintain_ask, maintain_called, maintain_given, maintain_next}
+use Rattle.law_commit.specs.Below.fkv_maintain.Maintaining.{is_flush_resting, maintain_ask, maintain_called, maintain_given, maintain_next}
 use Rattle.law_commit.specs.Below.fkv_manifest.WriteAnswer.{WriteAnswer}
 use Rattle.law_commit.specs.Below.fkv_manifest.WriteAnswer.TheVariants as write
 use Rattle.law_commit.specs.Below.fkv_manifest.Committing.{commit_answer, commit_next}
@@ -245,12 +245,12 @@ part_on t p s c said granted is = is
 
 phase_on : (t : Bounds) (p : Places) (s : KeeperState) (found : Option Commit) (said : PhaseSaid) (granted : Bool) → s.rests ≡ false → Below t s.has_points s.last s.commit → IsNowAt t (phase_ledto p s found said granted)
 unfolding phase_ledto
-phase_on t p s None said granted none is = is
+phase_on t p s None said granted none is = either t (is_flush_resting s.maintain) _ _ is is
 phase_on t p s (Some c) said granted none is = by s.rests none
   where
-    by : (rests : Bool) → rests ≡ false → IsNowAt t (if rests then writes_taken_up s granted else part_begun p s c said granted)
+    by : (rests : Bool) → rests ≡ false → IsNowAt t (if rests then writes_taken_up s granted else unless_flush_rests s granted (part_begun p s c said granted))
     by true none = cc
-    by false none = part_on t p s c said granted is
+    by false none = either t (is_flush_resting s.maintain) _ _ is (part_on t p s c said granted is)
 
 enter_on : (t : Bounds) (s : KeeperState) (ask : Ask EnterAnswer) → s.step ≡ Enters → Below t s.has_points s.last s.commit → IsNowAt t (enter_ledto s ask)
 unfolding enter_ledto

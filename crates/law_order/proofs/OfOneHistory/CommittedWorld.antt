@@ -8,6 +8,7 @@ use Rattle.fkv_base.specs.declared.numbers.Version.{Version}
 use Rattle.fkv_base.specs.declared.shapes.Shape.{Shape}
 use Rattle.law_opening.specs.Below.fkv_core.Openings.{IsOpeningWorld, area_numbered, newest_commit}
 use Rattle.law_opening.specs.Below.fkv_creating.Created.{IsNewStore}
+use Rattle.law_commit.specs.Below.fkv_flush.TheFlushing.TheVariants.{AtRest}
 use Rattle.law_commit.specs.Below.fkv_keeper.Keeping.{Finality, KeeperState}
 use Rattle.law_commit.specs.Below.fkv_keeper.NewKeepers.{IsNewKeeper}
 use Rattle.law_commit.specs.Below.fkv_keeper.KeeperTold.TheVariants.{Turned}
@@ -30,6 +31,7 @@ new_finality = record { number = record { 0 = 0 }; begin = record { 0 = 1 }; poi
 
 abbrev pub new_keeper : KeeperState → KeeperState
 new_keeper k = record k {
+  maintain = record k.maintain { flushing = AtRest };
   start = record k.start { asked = record k.start.asked { class = Specified } };
   copy = None;
   seek = record k.seek { sessions = 2 };
@@ -123,6 +125,7 @@ module _ (o : Opened) (new : IsNewStore shape o) where
         works = refl;
         granted = refl;
         none_rest = refl;
+        none_flushed = refl;
       }
 
   pub committed_opens : (n : Now) (one other : SessionState) → one.floor ≡ o.begin → other.floor ≡ o.begin → IsOpeningWorld o n → IsOpeningWorld o (worked_now (new_keeper n.keeper) one other)

@@ -170,6 +170,7 @@ module _ (o : Opened) (new : IsNewStore shape o) where
         works = refl;
         granted = was.granted;
         none_rest = refl;
+        none_flushed = refl;
       }
 
   pub world_opens : (n : Now) (one other : SessionState) → one.floor ≡ o.begin → other.floor ≡ o.begin → IsOpeningWorld o n → IsOpeningWorld o (worked_now (resting_keeper n.keeper) one other)

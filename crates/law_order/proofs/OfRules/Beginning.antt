@@ -20,6 +20,7 @@ world_opens o n bytes its = record {
         none_in_hand = ap is_in_hand k.no_call;
         no_commit = k.no_commit;
         none_rest = k.none_rest;
+        none_flushed = k.none_flushed;
         works = k.works;
         turns_rest = k.turns_rest;
         serves_from = k.serves_from ∙ sym (ap (λ (last : Finality). last.begin) k.newest);

@@ -36,12 +36,12 @@ use Rattle.law_world.specs.Below.fkv_manifest.WriteAnswer.TheVariants as write
 use Rattle.law_world.specs.Below.fkv_manifest.Committing.{commit_next, commit_answer}
 use Rattle.law_world.specs.Below.fkv_maintain.MaintainAnswer.{MaintainAnswer}
 use Rattle.law_world.specs.Below.fkv_maintain.MaintainAnswer.TheVariants as maintain
-use Rattle.law_world.specs.Below.fkv_maintain.Maintaining.{MaintainState, maintain_ask, maintain_next, maintain_given, maintain_called}
+use Rattle.law_world.specs.Below.fkv_maintain.Maintaining.{MaintainState, is_flush_resting, maintain_ask, maintain_next, maintain_given, maintain_called}
 use Rattle.law_world.specs.Below.fkv_keeper.KeeperTold.{KeeperTold}
 use Rattle.law_world.specs.Below.fkv_keeper.KeeperTold.TheVariants.{TurnRefused, CommitRefused}
 use Rattle.law_world.specs.Below.fkv_keeper.TheKeeping.{Keeping}
 use Rattle.law_world.specs.Below.fkv_keeper.TheKeeping.TheVariants.{Ended, Starts, Maintains, LoadsPhase, Enters, Copies, Seeks, Waits, Writes, Finishes}
-use Rattle.law_world.specs.Below.fkv_keeper.Keeping.{KeeperState, copy_asked, device_passed, write_asked, keeping_ask, keeper_ask, ended, turned, commit_asked, turn_asked, start_ledto, maintain_ledto, copies, copies_next, parts_begun, part_begun, writes_taken_up, phase_ledto, enter_ledto, copy_ledto, seek_ledto, writes_begun, wait_ledto, finished, finish_ledto, copy_driven, keeping_next, keeping_given, must_rest, write_ledto, writes_called, keeping_called, copy_taken, is_copy_resting, asked_for}
+use Rattle.law_world.specs.Below.fkv_keeper.Keeping.{KeeperState, copy_asked, device_passed, write_asked, keeping_ask, keeper_ask, ended, turned, commit_asked, turn_asked, start_ledto, maintain_ledto, copies, copies_next, parts_begun, serves_alone, part_begun, writes_taken_up, unless_flush_rests, phase_ledto, enter_ledto, copy_ledto, seek_ledto, writes_begun, wait_ledto, finished, finish_ledto, copy_driven, keeping_next, keeping_given, must_rest, write_ledto, writes_called, keeping_called, copy_taken, is_copy_resting, asked_for}
 use Rattle.law_world.specs.Below.fkv_keeper.KeeperRun.{KeeperEvent, BeginsTurn, BeginsCommit, Replies, Gets, Calls, IsOpened, is_in_hand, begins, keeper_happens, keeper_run}
 use Rattle.law_refine.specs.Mail.Servers.{keeper_serving}
 use Rattle.law_refine.specs.Footprint.{Part, ThePhase, HasSeats, Spares}
@@ -160,13 +160,17 @@ module _ (count : ℕ) where
   part_spares p n s c (Says phase.Prepare version) granted counts = ended_spares n s _ counts
   part_spares p n s c Spoiled granted counts = ended_spares n s _ counts
 
+  -- where a flush rests the turn is over
+  lets_spares : (n : ℕ) (s : KeeperState) (granted : Bool) (its : KeeperState) → s.finish.sessions ≡ count → IsKeeperSparing n count its → IsKeeperSparing n count (unless_flush_rests s granted its)
+  lets_spares n s granted its counts led = either_spares (is_flush_resting s.maintain) n (turned (record s { is_granted = granted })) its (record { counts = counts; bounds = tt }) led
+
   phase_spares : (p : Places) (n : ℕ) (s : KeeperState) (found : Option Commit) (said : PhaseSaid) (granted : Bool) → s.finish.sessions ≡ count → IsKeeperSparing n count (phase_ledto p s found said granted)
   unfolding phase_ledto
-  phase_spares p n s None said granted counts = ended_spares n s _ counts
+  phase_spares p n s None said granted counts = lets_spares n s granted (turned s) counts (ended_spares n s _ counts)
   phase_spares p n s (Some c) said granted counts =
-      either_spares s.rests n (writes_taken_up s granted) (part_begun p s c said granted)
+      either_spares s.rests n (writes_taken_up s granted) (unless_flush_rests s granted (part_begun p s c said granted))
       (either_spares granted n (record s { rests = false; is_granted = true; step = Writes }) (turned (record s { is_granted = false })) (record { counts = counts; bounds = tt }) (record { counts = counts; bounds = tt }))
-      (part_spares p n s c said granted counts)
+      (lets_spares n s granted (part_begun p s c said granted) counts (part_spares p n s c said granted counts))
 
   entered_spares : (n : ℕ) (s : KeeperState) (ask : Ask EnterAnswer) → s.step ≡ Enters → s.finish.sessions ≡ count → IsEnterSparing s.enter → IsKeeperSparing n count (enter_ledto s ask)
   unfolding enter_ledto
@@ -254,8 +258,8 @@ module _ (count : ℕ) where
 
   turn_spares : (shape : Shape) (s : KeeperState) → s.finish.sessions ≡ count → IsKeeperSparing shape.sessions count (turn_asked s)
   turn_spares shape s counts =
-      either_spares s.is_broken shape.sessions (ended s (TurnRefused fault.Broken)) (record s { maintain = parts_begun s.rests s.maintain; is_drain_full = false; step = Maintains }) (ended_spares shape.sessions s _ counts)
-      (record { counts = counts; bounds = parts_spares shape s.rests s.maintain })
+      either_spares s.is_broken shape.sessions (ended s (TurnRefused fault.Broken)) (record s { maintain = parts_begun (serves_alone s) s.maintain; is_drain_full = false; step = Maintains }) (ended_spares shape.sessions s _ counts)
+      (record { counts = counts; bounds = parts_spares shape (serves_alone s) s.maintain })
 
   commit_spares : (n : ℕ) (s : KeeperState) (kind : CommitKind) → s.finish.sessions ≡ count → IsKeeperSparing n count (commit_asked s kind)
   commit_spares n s kind counts =

@@ -1,5 +1,5 @@
 -- What the guard keeps of addresses that are reserved, said of what sessions have reserved.
-use Rattle.std.proofs.Common.{◌≡◌, ℕ, suc, ◌<◌, ◌≤◌, ◌∙◌, refl, sym, ap, subst, List}
+use Rattle.std.proofs.Common.{◌≡◌, ℕ, ◌<◌, ◌≤◌, ◌∙◌, refl, sym, ap, subst, List}
 use Rattle.std.specs.Prelude.{Option, Some, None}
 use Rattle.law_world.specs.Below.fkv_flush.Guarded.{undecided_at, undecided_of}
 use Rattle.law_world.specs.Below.fkv_flush.GuardReserved.{UndecidedApart}
@@ -29,7 +29,7 @@ use Rattle.law_world.specs.GuardSessions.Sessions.{sitting_likeness}
 use Rattle.law_world.specs.Below.fkv_world.Runs.{World, run}
 use Rattle.law_world.specs.Below.fkv_world.World.{Event, Now}
 use Rattle.law_world.specs.Guarded.GuardEvents as guard
-use Rattle.law_world.specs.Guarded.GuardEvents.{keeper_number}
+use Rattle.law_world.specs.Guarded.GuardEvents.{actor_count}
 use Rattle.law_world.specs.Guarded.Shows.{IsOpened, Shows, guard_opening, seen_by_guard}
 use Rattle.law_world.proofs.OfGuarded.Worlds.{life_shows}
 use Rattle.law_refine.specs.Events.Appends.{NewRecord}
@@ -74,8 +74,8 @@ undecided_so n w number its shows has =
 
 life_apart : (opening : World) (start : ℕ) (events : List Event) → IsOpened opening.now start → UndecidedApart (seen_by_guard opening start events).now.actors
 life_apart opening start events opened =
-    run_apart (guard_opening opening.now start) (guard.mapped opening events) (opening_sound opening.now.shape opening.now.places (suc (keeper_number opening.now)) opening.now.words start opened.words)
-    (opening_apart opening.now.shape opening.now.places (suc (keeper_number opening.now)) opening.now.words start)
+    run_apart (guard_opening opening.now start) (guard.mapped opening events) (opening_sound opening.now.shape opening.now.places (actor_count opening.now) opening.now.words start opened.words)
+    (opening_apart opening.now.shape opening.now.places (actor_count opening.now) opening.now.words start)
 
 pub reserved_apart : (opening : World) (start : ℕ) (events : List Event) → IsOpened opening.now start → ReservationsAreApart (run opening events).now
 reserved_apart opening start events opened = λ number other its another has had same.

@@ -17,7 +17,7 @@ use Rattle.law_world.specs.Below.fkv_keeper.TheKeeping.{Keeping}
 use Rattle.law_world.specs.Below.fkv_keeper.TheKeeping.TheVariants.{Ended, Starts, Maintains, LoadsPhase, Enters, Copies, Seeks, Waits, Writes, Finishes}
 use Rattle.law_world.specs.Below.fkv_keeper.CheckpointLaws.{MayFollow, MayStep}
 use Rattle.law_world.specs.Below.fkv_keeper.KeeperRun.{KeeperEvent, BeginsTurn, BeginsCommit, Replies, Gets, Calls, is_in_hand, begins, keeper_happens}
-use Rattle.law_world.specs.Below.fkv_keeper.Keeping.{KeeperState, ended, commit_asked, parts_begun, turn_asked, maintain_ledto, keeping_next, keeping_given, keeping_called, asked_for}
+use Rattle.law_world.specs.Below.fkv_keeper.Keeping.{KeeperState, ended, commit_asked, parts_begun, serves_alone, turn_asked, maintain_ledto, keeping_next, keeping_given, keeping_called, asked_for}
 use Rattle.law_world.proofs.Below.fkv_keeper.Shown.{each_move}
 
 -- this is so of the parts of a turn, where one is made
@@ -82,11 +82,11 @@ module _ (Q : MaintainState → Type 0) where
   abbrev GoesWith : Shape → Places → KeeperState → Type 0
   GoesWith shape p s = s.step ≡ Maintains → (event : MaintainEvent) → Q (maintain_happens shape p s.maintain event)
 
-  from_ended : (shape : Shape) (p : Places) (s : KeeperState) (its : _) (event : KeeperEvent) → s.step ≡ Ended its → IsInTurn Q s → Q (parts_begun s.rests s.maintain) → IsInTurn Q (keeper_happens shape p s event)
+  from_ended : (shape : Shape) (p : Places) (s : KeeperState) (its : _) (event : KeeperEvent) → s.step ≡ Ended its → IsInTurn Q s → Q (parts_begun (serves_alone s) s.maintain) → IsInTurn Q (keeper_happens shape p s event)
   unfolding keeper_happens keeping_next keeping_given keeping_called
   from_ended shape p s its BeginsTurn at was begun =
       subst (λ (x : Keeping). IsInTurn Q (begins s (is_in_hand x) (turn_asked s))) (sym at)
-      (either_with s.is_broken (ended s (TurnRefused fault.Broken)) (record s { maintain = parts_begun s.rests s.maintain; is_drain_full = false; step = Maintains }) tt begun)
+      (either_with s.is_broken (ended s (TurnRefused fault.Broken)) (record s { maintain = parts_begun (serves_alone s) s.maintain; is_drain_full = false; step = Maintains }) tt begun)
   from_ended shape p s its (BeginsCommit kind) at was begun =
       subst (λ (x : Keeping). IsInTurn Q (begins s (is_in_hand x) (commit_asked s kind))) (sym at)
       (either_with s.is_broken (ended s (CommitRefused fault.Broken)) (if s.rests then ended s (CommitRefused fault.CommitRunning) else record s { start = start_begun s.start (asked_for s kind); step = Starts }) tt (either_with s.rests (ended s (CommitRefused fault.CommitRunning)) (record s { start = start_begun s.start (asked_for s kind); step = Starts }) tt tt))
@@ -108,7 +108,7 @@ module _ (Q : MaintainState → Type 0) where
       subst (λ (x : Keeping). IsInTurn Q (keeping_called shape p s x done bytes)) (sym at)
       (ledto_with (record s { maintain = maintain_called shape p s.maintain done bytes }) (maintain_ask shape p (maintain_called shape p s.maintain done bytes)) at (goes at (part.Calls done bytes)))
 
-  from_step : (shape : Shape) (p : Places) (s : KeeperState) (event : KeeperEvent) (step : Keeping) → s.step ≡ step → IsInTurn Q s → Q (parts_begun s.rests s.maintain) → GoesWith shape p s → IsInTurn Q (keeper_happens shape p s event)
+  from_step : (shape : Shape) (p : Places) (s : KeeperState) (event : KeeperEvent) (step : Keeping) → s.step ≡ step → IsInTurn Q s → Q (parts_begun (serves_alone s) s.maintain) → GoesWith shape p s → IsInTurn Q (keeper_happens shape p s event)
   from_step shape p s event (Ended its) at was begun goes = from_ended shape p s its event at was begun
   from_step shape p s event Maintains at was begun goes = from_turn shape p s event at was goes
   from_step shape p s event Starts at was begun goes = else_with shape p s event Starts at tt
@@ -121,5 +121,5 @@ module _ (Q : MaintainState → Type 0) where
   from_step shape p s event Finishes at was begun goes = else_with shape p s event Finishes at tt
 
   -- each event
-  pub happens_with : (shape : Shape) (p : Places) (s : KeeperState) (event : KeeperEvent) → IsInTurn Q s → Q (parts_begun s.rests s.maintain) → GoesWith shape p s → IsInTurn Q (keeper_happens shape p s event)
+  pub happens_with : (shape : Shape) (p : Places) (s : KeeperState) (event : KeeperEvent) → IsInTurn Q s → Q (parts_begun (serves_alone s) s.maintain) → GoesWith shape p s → IsInTurn Q (keeper_happens shape p s event)
   happens_with shape p s event was begun goes = from_step shape p s event s.step refl was begun goes

@@ -23,7 +23,7 @@ use Rattle.law_world.specs.Below.fkv_keeper.KeeperTold.TheVariants.{Device}
 use Rattle.law_world.specs.Below.fkv_keeper.TheKeeping.{Keeping}
 use Rattle.law_world.specs.Below.fkv_keeper.TheKeeping.TheVariants.{Ended, Maintains}
 use Rattle.law_world.specs.Below.fkv_keeper.KeeperRun.{KeeperEvent, Replies, Gets, Calls, is_in_hand, keeper_happens, keeper_run}
-use Rattle.law_world.specs.Below.fkv_keeper.Keeping.{KeeperState, end_told, parts_begun, turn_over, device_passed, keeping_ask, keeper_ask, keeper_next, keeper_called, maintain_ledto, keeping_next, keeping_called}
+use Rattle.law_world.specs.Below.fkv_keeper.Keeping.{KeeperState, end_told, parts_begun, serves_alone, turn_over, device_passed, keeping_ask, keeper_ask, keeper_next, keeper_called, maintain_ledto, keeping_next, keeping_called}
 use Rattle.law_world.specs.Below.fkv_world.Moves.{Near}
 use Rattle.law_world.specs.Below.fkv_world.OwnEvents.{keeper_got, keeper_slots, keeper_steps}
 use Rattle.law_world.proofs.Below.fkv_world.Shown.{keeper_runs_on}
@@ -117,7 +117,7 @@ parts_idle false m = tt
 keeper_idle : (shape : Shape) (p : Places) (s : KeeperState) (event : KeeperEvent) → is_at_serve s s.step ≡ false → IsIdle (serving_of (keeper_happens shape p s event))
 keeper_idle shape p s event other =
     let a : KeeperState = keeper_happens shape p s event in
-    turn_idle a a.step (happens_with PartIsIdle shape p s event (not_serving s s.step other) (parts_idle s.rests s.maintain)
+    turn_idle a a.step (happens_with PartIsIdle shape p s event (not_serving s s.step other) (parts_idle (serves_alone s) s.maintain)
     (λ at next. part_idle shape p s.maintain next (subst (λ (x : Keeping). is_at_serve s x ≡ false) at other)))
 
 no_run : (shape : Shape) (p : Places) (s : KeeperState) → keeper_run shape p s [] ≡ s

@@ -10,7 +10,7 @@ use Rattle.law_world.specs.Below.fkv_keeper.KeeperTold.TheVariants.{TurnRefused,
 use Rattle.law_world.specs.Below.fkv_keeper.TheKeeping.{Keeping}
 use Rattle.law_world.specs.Below.fkv_keeper.TheKeeping.TheVariants.{Ended, Starts, Maintains}
 use Rattle.law_world.specs.Below.fkv_keeper.KeeperRun.{is_in_hand}
-use Rattle.law_world.specs.Below.fkv_keeper.Keeping.{KeeperState, ended, commit_asked, parts_begun, turn_asked, asked_for}
+use Rattle.law_world.specs.Below.fkv_keeper.Keeping.{KeeperState, ended, commit_asked, parts_begun, serves_alone, turn_asked, asked_for}
 use Rattle.law_world.specs.Below.fkv_pending.MailAnswer.TheVariants.{NotReady}
 use Rattle.law_world.specs.Below.fkv_pending.TheMailing.TheVariants as mailing
 use Rattle.law_world.specs.Below.fkv_pending.MailWorld.{mailbox_of, FindsState, MailWorld, mail_run}
@@ -55,14 +55,14 @@ commit_broken s kind =
     (either_broken s.rests s.is_broken (ended s (CommitRefused fault.CommitRunning)) (record s { start = start_begun s.start (asked_for s kind); step = Starts }) refl refl)
 
 turn_idle : (s : KeeperState) → IsIdle (serving_of (turn_asked s))
-turn_idle s = either_idle s.is_broken (ended s (TurnRefused fault.Broken)) (record s { maintain = parts_begun s.rests s.maintain; is_drain_full = false; step = Maintains }) tt (parts_idle s.rests)
+turn_idle s = either_idle s.is_broken (ended s (TurnRefused fault.Broken)) (record s { maintain = parts_begun (serves_alone s) s.maintain; is_drain_full = false; step = Maintains }) tt (parts_idle (serves_alone s))
   where
     parts_idle : (rests : Bool) → IsIdle (maintain_serving (parts_begun rests s.maintain) (parts_begun rests s.maintain).step)
     parts_idle true = tt
     parts_idle false = tt
 
 turn_broken : (s : KeeperState) → (turn_asked s).is_broken ≡ s.is_broken
-turn_broken s = either_broken s.is_broken s.is_broken (ended s (TurnRefused fault.Broken)) (record s { maintain = parts_begun s.rests s.maintain; is_drain_full = false; step = Maintains }) refl refl
+turn_broken s = either_broken s.is_broken s.is_broken (ended s (TurnRefused fault.Broken)) (record s { maintain = parts_begun (serves_alone s) s.maintain; is_drain_full = false; step = Maintains }) refl refl
 
 -- each event
 goes_holds : (v : World) (session : ℕ) (w : MailWorld) (past : MailPast) (event : Event) → v.now.crashed ≡ false → session < v.now.places.sessions → IsPermitted v.now session event → (v.now.keeper.is_broken ≡ true → is_in_hand v.now.keeper.step ≡ false)

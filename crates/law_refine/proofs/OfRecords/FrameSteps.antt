@@ -15,7 +15,7 @@ use Rattle.law_world.specs.Below.fkv_flush.GuardWorld.{Actor, GuardWorld, GuardE
 use Rattle.law_world.proofs.Below.fkv_flush.Shown.{IsSound, Spares, unwritten}
 use Rattle.law_world.specs.Below.fkv_keeper.TheKeeping.{Keeping}
 use Rattle.law_world.specs.Below.fkv_keeper.TheKeeping.TheVariants as keeping
-use Rattle.law_world.specs.Below.fkv_keeper.Keeping.{KeeperState}
+use Rattle.law_world.specs.Below.fkv_keeper.Keeping.{KeeperState, serves_alone}
 use Rattle.law_world.specs.Below.fkv_keeper.KeeperRun.{is_in_hand}
 use Rattle.law_world.specs.Below.fkv_maintain.TheMaintaining.{Maintaining}
 use Rattle.law_world.specs.Below.fkv_maintain.TheMaintaining.TheVariants as maintain
@@ -23,6 +23,7 @@ use Rattle.law_world.specs.Below.fkv_maintain.Maintaining.{MaintainState}
 use Rattle.law_world.specs.Below.fkv_session.Sessions.{SessionState, is_busy, session_begun}
 use Rattle.law_world.specs.GuardSessions.Sessions.{sitting_onward}
 use Rattle.law_world.specs.GuardSessions.Steps.{onward_events}
+use Rattle.law_world.specs.GuardKeeper.KeeperActors.{keeper_actor}
 use Rattle.law_world.specs.GuardKeeper.KeeperEvents.{keeper_move_events, turn_asked_events, turn_task}
 use Rattle.law_world.specs.GuardKeeper.KeeperShown.{keeping_work}
 use Rattle.law_world.specs.GuardKeeper.MaintainShown.{maintaining_work}
@@ -35,7 +36,7 @@ use Rattle.law_world.proofs.OfGuarded.OneStep.{IsQuiet, IsStep}
 use Rattle.law_world.proofs.OfGuarded.Permitted.{are_permitted}
 use Rattle.law_world.proofs.OfGuarded.Worlds.{happens_shows, life_shows}
 use Rattle.law_world.proofs.OfGuarded.Kept.{is_steps}
-use Rattle.law_world.proofs.OfGuarded.KeeperSteps.{keeper_steps}
+use Rattle.law_world.proofs.OfGuarded.KeeperSteps.{actor_above, keeper_steps}
 use Rattle.law_world.proofs.OfGuarded.Outer.{write_outer}
 use Rattle.law_refine.proofs.OfRecords.FrameEvents.{HasWord, IsNoFrame, Writes, onward_none, no_frame, session_frame, writes_none}
 use Rattle.law_refine.proofs.OfRecords.FrameWords.{FrameWord, sitting_word}
@@ -66,7 +67,7 @@ unfolding guard_run
 step_written keeper a w [] place step changes = absurd (changes refl)
 step_written keeper a w (event ∷ before) place step changes = elim step.0.place [
   | inl quiet ↦ inr (step_written keeper a w before place step.1 (λ e. changes (quiet_same (guard_run w before) event place quiet ∙ e)))
-  | inr first ↦ inl (one_writes w event place (subst (λ (b : List GuardEvent). word_at (guard_happens (guard_run w b) event).now.words place ≢ word_at w.now.words place) first changes))
+  | inr first ↦ inl (one_writes w event place (subst (λ (b : List GuardEvent). word_at (guard_happens (guard_run w b) event).now.words place ≢ word_at w.now.words place) first.0 changes))
 ]
 
 -- ---- of the keeper
@@ -83,9 +84,9 @@ first_written keeper a w (event ∷ before) place step permitted changes = elim 
   | inl quiet ↦ first_written keeper a w before place step.1 permitted.1 (λ e. changes (quiet_same (guard_run w before) event place quiet ∙ e))
   | inr first ↦ record {
     event = event;
-    own = step.0.own;
-    permitted = subst (λ (b : List GuardEvent). IsPermittedEvent (guard_run w b).now event) first permitted.0;
-    its_place = one_writes w event place (subst (λ (b : List GuardEvent). word_at (guard_happens (guard_run w b) event).now.words place ≢ word_at w.now.words place) first changes);
+    own = first.1;
+    permitted = subst (λ (b : List GuardEvent). IsPermittedEvent (guard_run w b).now event) first.0 permitted.0;
+    its_place = one_writes w event place (subst (λ (b : List GuardEvent). word_at (guard_happens (guard_run w b) event).now.words place ≢ word_at w.now.words place) first.0 changes);
   }
 ]
 
@@ -141,15 +142,17 @@ keeper_none : (n : Now) (w : GuardWorld) (read : List ℕ) (granted done : Bool)
     → word_at (guard_run w (life_events n read (KeeperMoves granted done))).now.words place ≢ word_at w.now.words place → ⊥
 unfolding life_events
 keeper_none n w read granted done place alive shows high changes =
-    let a : ℕ = keeper_number n in
+    let k : ℕ = keeper_number n in
+    let a : ℕ = keeper_actor k n.keeper in
     let x : Actor = shows.keeper.actor in
     let its = shows.keeper.keeps in
     let events : List GuardEvent = keeper_move_events a n.shape n.places granted done read n.keeper n.words in
     let permitted : ArePermittedEvents w events = subst (λ (b : Bool). ArePermittedEvents w (if b then [] else events)) alive (are_permitted n w read (KeeperMoves granted done) tt shows) in
-    let f = first_written a a w events place (keeper_steps a n.shape n.places granted done read n.keeper n.words) permitted changes in
-    let sessions : w.now.places.sessions ≡ a = ap (λ (p : Places). p.sessions) shows.places in
+    let f = first_written k a w events place (keeper_steps k n.shape n.places granted done read n.keeper n.words) permitted changes in
+    let sessions : w.now.places.sessions ≡ k = ap (λ (p : Places). p.sessions) shows.places in
+    let above : k ≤ a = actor_above k n.keeper in
     no_frame (keeping_work n.keeper n.keeper.step) x.work its.fits.work (keeping_none n.keeper n.keeper.step)
-    (writer_works w a x place f.event shows.sound its.got (omega (arith, sessions)) f.own f.permitted f.its_place high)
+    (writer_works w a x place f.event shows.sound its.got (omega (arith, sessions, above)) f.own f.permitted f.its_place high)
 
 -- ---- which step of a session it is
 pub record FrameWriter (n : Now) (event : Event) : Type 0 where
@@ -174,7 +177,7 @@ called_none n w place number call (Some s) its = by_test (is_busy s.step) its
 asked_none : (w : GuardWorld) (place a : ℕ) (s : KeeperState) → Writes w place (turn_asked_events a s) → ⊥
 asked_none w place a s its = by_tests (is_in_hand s.step) s.is_broken its
   where
-    by_tests : (b c : Bool) → Writes w place (if b then [] else (if c then [] else Begins a (turn_task s.maintain.begin.0 s.rests) ∷ [])) → ⊥
+    by_tests : (b c : Bool) → Writes w place (if b then [] else (if c then [] else Begins a (turn_task s.maintain.begin.0 (serves_alone s)) ∷ [])) → ⊥
     by_tests true c its = its
     by_tests false true its = its
     by_tests false false (inl e) = writes_none place e
@@ -193,7 +196,7 @@ unfolding life_events
 life_frame n w read (Calls number call) place shows high its keeper = absurd (called_none n w place number call (slice_get n.sessions number) its)
 life_frame n w read (Moves number) place shows high its keeper = moved_frame n w place number (slice_get n.sessions number) refl shows its high
 life_frame n w read (Commits kind) place shows high its keeper = absurd its
-life_frame n w read Turns place shows high its keeper = absurd (asked_none w place (keeper_number n) n.keeper its)
+life_frame n w read Turns place shows high its keeper = absurd (asked_none w place (keeper_actor (keeper_number n) n.keeper) n.keeper its)
 life_frame n w read (KeeperMoves granted done) place shows high its keeper = absurd (keeper granted done refl)
 life_frame n w read Crashes place shows high its keeper = absurd its
 

@@ -21,7 +21,7 @@ use Rattle.fkv_flush.specs.GuardWorld.{Actor, GuardNow, Begins}
 use Rattle.fkv_flush.proofs.Shown.{Fits}
 use Rattle.fkv_keeper.specs.declared.keepers.Keeping.{Keeping}
 use Rattle.fkv_keeper.specs.declared.keepers.Keeping.TheVariants as keeping
-use Rattle.fkv_keeper.specs.Keeping.{KeeperState, commit_asked, turn_asked}
+use Rattle.fkv_keeper.specs.Keeping.{KeeperState, commit_asked, serves_alone, turn_asked}
 use Rattle.fkv_world.specs.World.{keeper_asked}
 use Rattle.law_world.specs.GuardKeeper.CommitShown.{StartKnows, EnterKnows, SeekKnows, IsActionDeferred}
 use Rattle.law_world.specs.GuardKeeper.Followed.{likeness, KeeperLed}
@@ -32,7 +32,7 @@ use Rattle.law_world.proofs.OfGuardKeeper.Deferred.{by_deferred}
 use Rattle.law_world.proofs.OfGuardKeeper.PartLed.{stays}
 
 turn_by : (b : Bool) (n : GuardNow) (a : ℕ) (x : Actor) (seen : LastSeen) (s : KeeperState) → s.is_broken ≡ b → slice_get n.actors a ≡ Some x → Fits (likeness seen None None) x → s.finish.sessions ≡ n.places.sessions
-    → KeeperLed n a (if b then [] else Begins a (turn_task s.maintain.begin.0 s.rests) ∷ []) seen (turn_asked s) n.words n.actions
+    → KeeperLed n a (if b then [] else Begins a (turn_task s.maintain.begin.0 (serves_alone s)) ∷ []) seen (turn_asked s) n.words n.actions
 turn_by true n a x seen s e got fits same = turn_refused n a x seen s got fits same e
 turn_by false n a x seen s e got fits same = turn_begins n a x seen s got fits same e
 

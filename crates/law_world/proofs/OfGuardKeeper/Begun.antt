@@ -12,7 +12,7 @@ use Rattle.fkv_flush.specs.declared.serving.Serving.TheVariants as serving
 use Rattle.fkv_flush.specs.Serving.{mailbox_from}
 use Rattle.fkv_flush.specs.GuardWorld.{Actor, Rests, Serves, GuardNow, Begins, ToDo, ToServe}
 use Rattle.fkv_flush.proofs.Shown.{Fits}
-use Rattle.fkv_keeper.specs.Keeping.{KeeperState, commit_asked, turn_asked}
+use Rattle.fkv_keeper.specs.Keeping.{KeeperState, commit_asked, turn_asked, serves_alone}
 use Rattle.law_world.specs.GuardKeeper.Followed.{KeeperLed, likeness}
 use Rattle.law_world.specs.GuardKeeper.KeeperEvents.{turn_task}
 use Rattle.law_world.proofs.OfGuardKeeper.Led.{then_begins}
@@ -24,7 +24,7 @@ unfolding mailbox_from
 first_loads shape = rw (lt-ltb 0 shape.sessions shape.limits.some_session) refl
 
 -- where writes rest a turn serves
-serves_begins : (n : GuardNow) (a : ℕ) (x : Actor) (seen : LastSeen) (s : KeeperState) → slice_get n.actors a ≡ Some x → Fits (likeness seen None None) x → s.finish.sessions ≡ n.places.sessions → s.is_broken ≡ false → s.rests ≡ true
+serves_begins : (n : GuardNow) (a : ℕ) (x : Actor) (seen : LastSeen) (s : KeeperState) → slice_get n.actors a ≡ Some x → Fits (likeness seen None None) x → s.finish.sessions ≡ n.places.sessions → s.is_broken ≡ false → serves_alone s ≡ true
     → KeeperLed n a (Begins a (ToServe s.maintain.begin.0) ∷ []) seen (turn_asked s) n.words n.actions
 serves_begins n a x seen s got fits same works rests = rw (works, rests) (record {
   follows = record {
@@ -36,7 +36,7 @@ serves_begins n a x seen s got fits same works rests = rw (works, rests) (record
 })
 
 -- and else it scans first
-scans_begins : (n : GuardNow) (a : ℕ) (x : Actor) (seen : LastSeen) (s : KeeperState) → slice_get n.actors a ≡ Some x → Fits (likeness seen None None) x → s.finish.sessions ≡ n.places.sessions → s.is_broken ≡ false → s.rests ≡ false
+scans_begins : (n : GuardNow) (a : ℕ) (x : Actor) (seen : LastSeen) (s : KeeperState) → slice_get n.actors a ≡ Some x → Fits (likeness seen None None) x → s.finish.sessions ≡ n.places.sessions → s.is_broken ≡ false → serves_alone s ≡ false
     → KeeperLed n a (Begins a (ToDo ToScan) ∷ []) seen (turn_asked s) n.words n.actions
 scans_begins n a x seen s got fits same works awake = rw (works, awake) (record {
   follows = record {
@@ -48,10 +48,10 @@ scans_begins n a x seen s got fits same works awake = rw (works, awake) (record 
 })
 
 pub turn_begins : (n : GuardNow) (a : ℕ) (x : Actor) (seen : LastSeen) (s : KeeperState) → slice_get n.actors a ≡ Some x → Fits (likeness seen None None) x → s.finish.sessions ≡ n.places.sessions → s.is_broken ≡ false
-    → KeeperLed n a (Begins a (turn_task s.maintain.begin.0 s.rests) ∷ []) seen (turn_asked s) n.words n.actions
-turn_begins n a x seen s got fits same works = by s.rests refl
+    → KeeperLed n a (Begins a (turn_task s.maintain.begin.0 (serves_alone s)) ∷ []) seen (turn_asked s) n.words n.actions
+turn_begins n a x seen s got fits same works = by (serves_alone s) refl
   where
-    by : (rests : Bool) → s.rests ≡ rests → KeeperLed n a (Begins a (turn_task s.maintain.begin.0 rests) ∷ []) seen (turn_asked s) n.words n.actions
+    by : (rests : Bool) → serves_alone s ≡ rests → KeeperLed n a (Begins a (turn_task s.maintain.begin.0 rests) ∷ []) seen (turn_asked s) n.words n.actions
     by true rests = serves_begins n a x seen s got fits same works rests
     by false awake = scans_begins n a x seen s got fits same works awake
 

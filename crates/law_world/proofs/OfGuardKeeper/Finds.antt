@@ -45,6 +45,7 @@ use Rattle.law_world.specs.GuardKeeper.Followed.{IsKeepers, KeeperLed, likeness}
 use Rattle.law_world.specs.GuardKeeper.KeeperShown.{KeepingKnows, keeping_machine, keeping_work}
 use Rattle.law_world.specs.GuardKeeper.MaintainShown.{maintaining_machine}
 use Rattle.law_world.specs.GuardKeeper.Settled.{is_of_slot}
+use Rattle.law_world.proofs.OfGuardKeeper.HandsOver.{taken_asks, takes_up, truth}
 use Rattle.law_world.proofs.OfGuardKeeper.CommitPuts.{start_puts, enter_puts, seek_puts}
 use Rattle.law_world.proofs.OfGuardKeeper.EndKept.{copy_quiet, wait_quiet, finish_quiet, finish_slot}
 use Rattle.law_world.proofs.OfGuardKeeper.KeeperLed.{keeper_settles}
@@ -220,10 +221,20 @@ keeper_takes w a x seen s granted slot keeps asks takes = by_found (action_at w.
     after : KeeperState
     after = keeper_settles w.now granted there (keeper_ask w.now.shape w.now.places there)
 
+    reply : ℕ
+    reply = reply_to w.now.words (keeper_ask w.now.shape w.now.places s)
+
+    -- a flush that is taken up asks nothing of a slot
+    plain : takes_up s s.step reply ≡ false
+    plain = elim (truth (takes_up s s.step reply)) [
+      | inl up ↦ clash (is_of_slot (keeper_ask w.now.shape w.now.places there)) (ap is_of_slot takes) (ap is_of_slot (taken_asks w.now.shape w.now.places s reply granted up))
+      | inr stays ↦ stays
+    ]
+
     by_found : (found : Option Action) → action_at w.now.actions slot ≡ found → (action : Action) × (action_at w.now.actions slot ≡ Some action)
     by_found (Some action) e = (action, e)
     by_found None e =
-        let f = replied_to w a x seen s granted keeps.sound keeps.got keeps.fits keeps.knows asks in
+        let f = replied_to w a x seen s granted keeps.sound keeps.got keeps.fits keeps.knows asks plain in
         let rests : is_of_slot (keeper_ask w.now.shape w.now.places after) ≡ false = keeper_slot _ a f.follows.actor seen after (keeps_on w a x seen s _ after _ _ keeps f) in
         let stays : after ≡ there =
         ap (λ (ask : Ask KeeperTold). keeper_settles w.now granted there ask) takes ∙ ap (λ (found : Option Action). keeper_gets w.now.shape w.now.places there found) e in

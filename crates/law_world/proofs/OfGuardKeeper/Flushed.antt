@@ -1,6 +1,6 @@
 -- A step of a turn's flush, and its call of the device.
-use Rattle.std.proofs.Common.{◌≡◌, ℕ, List, [], ◌∷◌, refl, ap, ◌∙◌, Bool, true, false}
-use Rattle.std.specs.Prelude.{Some, None, slice_get}
+use Rattle.std.proofs.Common.{◌≡◌, ℕ, List, [], ◌∷◌, refl, ap, sym, subst, ◌∙◌, Bool, true, false}
+use Rattle.std.specs.Prelude.{if◌then◌else◌, Some, None, slice_get}
 use Rattle.fkv_base.specs.declared.shapes.Shape.{Shape}
 use Rattle.fkv_plane.specs.declared.asks.Ask.{Ask}
 use Rattle.fkv_plane.specs.declared.asks.Ask.TheVariants.{Done}
@@ -18,11 +18,12 @@ use Rattle.fkv_flush.specs.GuardSeen.{LastSeen}
 use Rattle.fkv_flush.specs.GuardWorld.{Actor, Flushes, Shifts, GuardNow, GuardEvent, Moves, Calls, ToShift, near, put_near, is_idle}
 use Rattle.fkv_flush.proofs.Shown.{runs_now, moves_work, calls, Fits}
 use Rattle.fkv_maintain.specs.declared.maintaining.Maintaining.TheVariants as maintain
-use Rattle.fkv_maintain.specs.Maintaining.{MaintainState, maintaining_ask, maintaining_next, maintaining_called, maintain_ask, maintain_next, maintain_called, flush_ledto}
-use Rattle.law_world.specs.GuardKeeper.MaintainEvents.{flush_events, maintain_events, maintain_called_events}
+use Rattle.fkv_maintain.specs.Maintaining.{MaintainState, maintaining_ask, maintaining_next, maintaining_called, maintain_ask, maintain_next, maintain_called, flush_told, flush_ledto}
+use Rattle.law_world.specs.GuardKeeper.MaintainEvents.{flush_events, shifter, maintain_events, maintain_called_events}
 use Rattle.law_world.specs.GuardKeeper.MaintainShown.{maintain_machine, maintain_work}
 use Rattle.law_world.specs.GuardKeeper.Settled.{is_of_slot}
 use Rattle.law_world.specs.GuardKeeper.Followed.{likeness}
+use Rattle.law_world.proofs.OfGuardKeeper.HandsOver.{maintain_lets_rest}
 use Rattle.law_world.proofs.OfGuardKeeper.Led.{Led, then_begins}
 use Rattle.law_world.proofs.OfGuardKeeper.TurnLed.{TurnLed, slotless_led, device_slot}
 
@@ -52,7 +53,7 @@ flush_slot p (flush.Syncs end) = refl
 flush_slot p (flush.RaisesFlushed end) = refl
 
 -- a flush that has come to a step, with these bytes in hand
-abbrev flush_at : MaintainState → Flushing → List ℕ → MaintainState
+abbrev pub flush_at : MaintainState → Flushing → List ℕ → MaintainState
 flush_at s next bytes = record s { bytes = bytes; flushing = next; step = maintain.Flushes }
 
 flush_goes : (n : GuardNow) (a : ℕ) (x : Actor) (seen : LastSeen) (s : MaintainState) (made : GuardEvent) (next : Flushing) (bytes words : List ℕ) (ask : Ask DeviceAnswer) → flush_ask n.places next ≡ ask
@@ -102,20 +103,32 @@ flush_failed p page (flush.WritesPart part) bytes e = refl
 flush_failed p page (flush.Syncs end) bytes e = refl
 flush_failed p page step bytes e = cc
 
+-- a flush that is through rests nowhere
+same_shifter : (p : Places) (a : ℕ) (step : Flushing) (made : GuardEvent) → flush_events (shifter a step) made (flush_ask p step) ≡ flush_events a made (flush_ask p step)
+unfolding flush_ask
+same_shifter p a flush.AtRest made = refl
+same_shifter p a step made = refl
+
 -- where the call of the device leads
 pub flush_called_to : (n : GuardNow) (a : ℕ) (x : Actor) (seen : LastSeen) (s : MaintainState) (done : Bool) (read : List ℕ) → slice_get n.actors a ≡ Some x
     → Fits (likeness seen None (Some (Flushes s.flushing s.bytes))) x → flush_ask n.places s.flushing ≡ Done device.Device
+    → maintain_lets_rest n.shape s maintain.Flushes done ≡ false
     → (let here : MaintainState = record s { step = maintain.Flushes } in
     TurnLed n a (maintain_called_events a n.shape n.places here maintain.Flushes done read) seen (maintain_called n.shape n.places here done read) n.words)
 unfolding maintaining_called maintain_called_events maintaining_ask
-flush_called_to n a x seen s true read got fits device =
-    flushes_on n a x seen s (Calls a true) (flush_done n.shape.page s.flushing true) (bytes_done s.flushing s.bytes) n.words got fits.machine fits.seen fits.undecided
-    (calls n a x got s.flushing s.bytes true fits.work)
-flush_called_to n a x seen s false read got fits device = record {
+flush_called_to n a x seen s true read got fits its_call plain =
+    let next : Flushing = flush_done n.shape.page s.flushing true in
+    let bytes : List ℕ = bytes_done s.flushing s.bytes in
+    let told : flush_told n.shape n.places next ≡ flush_ask n.places next = ap (λ (b : Bool). if b then Done device.Through else flush_ask n.places next) plain in
+    subst (λ (ask : Ask DeviceAnswer). TurnLed n a (flush_events (shifter a next) (Calls a true) ask) seen (flush_ledto (flush_at s next bytes) ask) n.words) (sym told)
+    (subst (λ (events : List GuardEvent). TurnLed n a events seen (flush_ledto (flush_at s next bytes) (flush_ask n.places next)) n.words) (sym (same_shifter n.places a next (Calls a true)))
+    (flushes_on n a x seen s (Calls a true) next bytes n.words got fits.machine fits.seen fits.undecided
+    (calls n a x got s.flushing s.bytes true fits.work)))
+flush_called_to n a x seen s false read got fits its_call plain = record {
   follows = record {
     actor = record x { work = Flushes (flush_done n.shape.page s.flushing false) (bytes_done s.flushing s.bytes) };
     same = calls n a x got s.flushing s.bytes false fits.work;
-    fits = record { machine = fits.machine; work = flush_failed n.places n.shape.page s.flushing (bytes_done s.flushing s.bytes) device; seen = fits.seen; undecided = fits.undecided };
+    fits = record { machine = fits.machine; work = flush_failed n.places n.shape.page s.flushing (bytes_done s.flushing s.bytes) its_call; seen = fits.seen; undecided = fits.undecided };
   };
   busy = tt;
 }

@@ -37,6 +37,7 @@ use Rattle.law_world.specs.GuardKeeper.CommitEvents.{starting_events, entering_e
 use Rattle.law_world.specs.GuardKeeper.KeeperEvents.{keeping_events, keeping_called_events}
 use Rattle.law_world.specs.GuardKeeper.KeeperShown.{keeping_machine, keeping_work, keeper_machine, keeper_work, KeepingKnows, KeeperKnows}
 use Rattle.law_world.specs.GuardKeeper.MaintainEvents.{maintain_events, maintain_called_events}
+use Rattle.law_world.proofs.OfGuardKeeper.HandsOver.{lets_rest, maintain_takes_up, takes_up}
 use Rattle.law_world.proofs.OfGuardKeeper.EndKept.{copies_kept, waits_kept, finishes_kept, writes_kept}
 use Rattle.law_world.proofs.OfGuardKeeper.EnterKept.{enter_kept}
 use Rattle.law_world.proofs.OfGuardKeeper.Entered.{entered_to}
@@ -79,50 +80,51 @@ never_under (write.Broken why) other e = cc
 
 replied_at : (w : GuardWorld) (a : ℕ) (x : Actor) (seen : LastSeen) (s : KeeperState) (step : Keeping) (granted : Bool) → IsSound w → slice_get w.now.actors a ≡ Some x
     → Fits (likeness seen (keeping_machine s step) (keeping_work s step)) x → KeepingKnows (levels_of w.now.words) s step → s.finish.sessions ≡ w.now.places.sessions → is_done (keeping_ask w.now.shape w.now.places s step) ≡ false
+    → takes_up s step (reply_to w.now.words (keeping_ask w.now.shape w.now.places s step)) ≡ false
     → (let n : GuardNow = w.now in let here : KeeperState = record s { step = step } in let reply : ℕ = reply_to n.words (keeper_ask n.shape n.places here) in
     StepLed n a (keeping_events a n.shape n.places s step reply granted) seen granted (keeper_next n.shape n.places here reply granted) (words_after n.words (keeper_ask n.shape n.places here)))
 unfolding keeping_ask keeping_next keeping_events
-replied_at w a x seen s (keeping.Ended its) granted sound got fits k same e = cc
-replied_at w a x seen s keeping.Starts granted sound got fits k same e =
+replied_at w a x seen s (keeping.Ended its) granted sound got fits k same e plain = cc
+replied_at w a x seen s keeping.Starts granted sound got fits k same e plain =
     let n : GuardNow = w.now in let here : KeeperState = record s { step = keeping.Starts } in
     let reply : ℕ = reply_to n.words (start_ask s.start) in
     passed_step (λ reply words. StepLed n a (starting_events a s.start s.start.step reply) seen granted (keeper_next n.shape n.places here reply granted) words) n.words (start_ask s.start) (told.CommitRefused fault.CommitRunning)
     (start_kept n a seen (starting_events a s.start s.start.step reply) s granted (start_next s.start reply) (words_after n.words (start_ask s.start)) (start_ask (start_next s.start reply)) same refl
     (started_to w a x seen s.start sound got fits k (under (start_ask s.start) (told.CommitRefused fault.CommitRunning) e)))
-replied_at w a x seen s keeping.Maintains granted sound got fits k same e =
+replied_at w a x seen s keeping.Maintains granted sound got fits k same e plain =
     let n : GuardNow = w.now in let here : KeeperState = record s { step = keeping.Maintains } in
     let ask : Ask MaintainAnswer = maintain_ask n.shape n.places s.maintain in
     let reply : ℕ = reply_to n.words ask in
     let next : MaintainState = maintain_next n.shape n.places s.maintain reply in
-    turn_step (λ reply words. StepLed n a (maintain_events a n.shape n.places s.maintain s.maintain.step reply) seen granted (keeper_next n.shape n.places here reply granted) words) n.words ask (turn_over s)
-    (turn_kept w a x seen (maintain_events a n.shape n.places s.maintain s.maintain.step reply) s granted next (words_after n.words ask) (maintain_ask n.shape n.places next) sound got same refl
-    (maintained_to w a x seen s.maintain sound got fits k (turn_under ask (turn_over s) e)))
-replied_at w a x seen s keeping.LoadsPhase granted sound got fits k same e =
+    turn_step (λ reply words. maintain_takes_up s.maintain s.maintain.step reply ≡ false → StepLed n a (maintain_events a n.shape n.places s.maintain s.maintain.step reply) seen granted (keeper_next n.shape n.places here reply granted) words) n.words ask (turn_over s)
+    (λ awake. turn_kept w a x seen (maintain_events a n.shape n.places s.maintain s.maintain.step reply) s granted next (words_after n.words ask) (maintain_ask n.shape n.places next) sound got same refl
+    (maintained_to w a x seen s.maintain sound got fits k (turn_under ask (turn_over s) e) awake)) plain
+replied_at w a x seen s keeping.LoadsPhase granted sound got fits k same e plain =
     let n : GuardNow = w.now in let here : KeeperState = record s { step = keeping.LoadsPhase } in
     let word : ℕ = word_at n.words (shared_place one.Phase) in
     rw (set-get_or n.words (shared_place one.Phase) 0) (phase_goes n a x seen granted here (keeper_next n.shape n.places here word granted) got fits same (phase_so n.places here here.commit (phase_said word) granted))
-replied_at w a x seen s keeping.Enters granted sound got fits k same e =
+replied_at w a x seen s keeping.Enters granted sound got fits k same e plain =
     let n : GuardNow = w.now in let here : KeeperState = record s { step = keeping.Enters } in
     let reply : ℕ = reply_to n.words (enter_ask s.enter) in
     passed_step (λ reply words. StepLed n a (entering_events a s.enter s.enter.step reply) seen granted (keeper_next n.shape n.places here reply granted) words) n.words (enter_ask s.enter) (turn_over s)
     (enter_kept n a seen (entering_events a s.enter s.enter.step reply) s granted (enter_next s.enter reply) (words_after n.words (enter_ask s.enter)) (enter_ask (enter_next s.enter reply)) same refl
     (entered_to w a x seen s.enter sound got fits k (under (enter_ask s.enter) (turn_over s) e)))
-replied_at w a x seen s keeping.Copies granted sound got fits k same e =
+replied_at w a x seen s keeping.Copies granted sound got fits k same e plain =
     let n : GuardNow = w.now in let here : KeeperState = record s { step = keeping.Copies } in
     passed_step (λ reply words. StepLed n a [] seen granted (keeper_next n.shape n.places here reply granted) words) n.words (copy_asked s.copy) (turn_over s)
     (copies_kept n a x seen s granted (reply_to n.words (copy_asked s.copy)) got fits same)
-replied_at w a x seen s keeping.Seeks granted sound got fits k same e =
+replied_at w a x seen s keeping.Seeks granted sound got fits k same e plain =
     let n : GuardNow = w.now in let here : KeeperState = record s { step = keeping.Seeks } in
     let reply : ℕ = reply_to n.words (seek_ask s.seek) in
     passed_step (λ reply words. StepLed n a (seeking_events a s.seek s.seek.step reply) seen granted (keeper_next n.shape n.places here reply granted) words) n.words (seek_ask s.seek) (turn_over s)
     (seek_kept n a seen (seeking_events a s.seek s.seek.step reply) s granted (seek_next s.seek reply) (words_after n.words (seek_ask s.seek)) (seek_ask (seek_next s.seek reply)) same refl
     (sought_to w a x seen s.seek sound got fits k (under (seek_ask s.seek) (turn_over s) e)))
-replied_at w a x seen s keeping.Waits granted sound got fits k same e =
+replied_at w a x seen s keeping.Waits granted sound got fits k same e plain =
     let n : GuardNow = w.now in let here : KeeperState = record s { step = keeping.Waits } in
     passed_step (λ reply words. StepLed n a [] seen granted (keeper_next n.shape n.places here reply granted) words) n.words (wait_ask s.wait) (turn_over s)
     (waits_kept n a x seen s granted (reply_to n.words (wait_ask s.wait)) got fits same)
-replied_at w a x seen s keeping.Writes granted sound got fits k same e = never_under (commit_answer s.writes) (turn_over s) e
-replied_at w a x seen s keeping.Finishes granted sound got fits k same e =
+replied_at w a x seen s keeping.Writes granted sound got fits k same e plain = never_under (commit_answer s.writes) (turn_over s) e
+replied_at w a x seen s keeping.Finishes granted sound got fits k same e plain =
     let n : GuardNow = w.now in let here : KeeperState = record s { step = keeping.Finishes } in
     let ask = finish_ask s.seek.points s.finish in
     let reply : ℕ = reply_to n.words ask in
@@ -133,9 +135,10 @@ replied_at w a x seen s keeping.Finishes granted sound got fits k same e =
 -- where the reply to its ask leads, and what is settled behind it
 pub replied_to : (w : GuardWorld) (a : ℕ) (x : Actor) (seen : LastSeen) (s : KeeperState) (granted : Bool) → IsSound w → slice_get w.now.actors a ≡ Some x
     → Fits (likeness seen (keeper_machine s) (keeper_work s)) x → KeeperKnows (levels_of w.now.words) w.now.places s → is_done (keeper_ask w.now.shape w.now.places s) ≡ false
+    → takes_up s s.step (reply_to w.now.words (keeper_ask w.now.shape w.now.places s)) ≡ false
     → (let n : GuardNow = w.now in let reply : ℕ = reply_to n.words (keeper_ask n.shape n.places s) in
     StepLed n a (keeping_events a n.shape n.places s s.step reply granted) seen granted (keeper_next n.shape n.places s reply granted) (words_after n.words (keeper_ask n.shape n.places s)))
-replied_to w a x seen s granted sound got fits knows e = replied_at w a x seen s s.step granted sound got fits knows.its knows.sessions e
+replied_to w a x seen s granted sound got fits knows e plain = replied_at w a x seen s s.step granted sound got fits knows.its knows.sessions e plain
 
 -- what a machine that calls no device is told at its end is no call
 told_so : {A : Type 0} (ask : Ask A) (its other : KeeperTold) → passed ask its ≡ Done other → its ≡ other
@@ -187,15 +190,15 @@ LedAt w a seen s done read step =
 -- a call of the device in the turn itself leads where the turn goes
 maintains_called_at : (w : GuardWorld) (a : ℕ) (x : Actor) (seen : LastSeen) (s : KeeperState) (done : Bool) (read : List ℕ) → IsSound w → slice_get w.now.actors a ≡ Some x
     → Fits (likeness seen (keeping_machine s keeping.Maintains) (keeping_work s keeping.Maintains)) x → s.finish.sessions ≡ w.now.places.sessions → keeping_ask w.now.shape w.now.places s keeping.Maintains ≡ Done told.Device
-    → LedAt w a seen s done read keeping.Maintains
+    → lets_rest w.now.shape s keeping.Maintains done ≡ false → LedAt w a seen s done read keeping.Maintains
 unfolding keeping_ask keeping_called keeping_called_events LedAt
-maintains_called_at w a x seen s done read sound got fits same e =
+maintains_called_at w a x seen s done read sound got fits same e plain =
     let n : GuardNow = w.now in
     let its : maintain_ask n.shape n.places s.maintain ≡ Done answer.Device = turn_device (maintain_ask n.shape n.places s.maintain) false s.is_drain_full e in
     let there : MaintainState = maintain_called n.shape n.places s.maintain done read in
     let events = maintain_called_events a n.shape n.places s.maintain s.maintain.step done read in
     turn_shows w a x seen events s there n.words n.actions (maintain_ask n.shape n.places there) sound got same refl
-    (unsettled_led n a events seen there n.words (called_slot n.shape n.places s.maintain done read its) (called_to n a x seen s.maintain done read got fits its))
+    (unsettled_led n a events seen there n.words (called_slot n.shape n.places s.maintain done read its) (called_to n a x seen s.maintain done read got fits its plain))
 
 writes_called_at : (w : GuardWorld) (a : ℕ) (x : Actor) (seen : LastSeen) (s : KeeperState) (done : Bool) (read : List ℕ) → slice_get w.now.actors a ≡ Some x → Fits (likeness seen (keeping_machine s keeping.Writes) (keeping_work s keeping.Writes)) x
     → s.finish.sessions ≡ w.now.places.sessions → LedAt w a seen s done read keeping.Writes
@@ -204,16 +207,17 @@ writes_called_at w a x seen s done read got fits same = writes_kept w.now a x se
 
 called_by : (w : GuardWorld) (a : ℕ) (x : Actor) (seen : LastSeen) (s : KeeperState) (step : Keeping) (done : Bool) (read : List ℕ) → IsSound w → slice_get w.now.actors a ≡ Some x
     → Fits (likeness seen (keeping_machine s step) (keeping_work s step)) x → s.finish.sessions ≡ w.now.places.sessions → keeping_ask w.now.shape w.now.places s step ≡ Done told.Device
-    → (step ≡ keeping.Maintains) ⊎ (step ≡ keeping.Writes) → LedAt w a seen s done read step
-called_by w a x seen s step done read sound got fits same e (inl its) =
+    → (step ≡ keeping.Maintains) ⊎ (step ≡ keeping.Writes) → lets_rest w.now.shape s step done ≡ false → LedAt w a seen s done read step
+called_by w a x seen s step done read sound got fits same e (inl its) plain =
     subst (LedAt w a seen s done read) (sym its) (maintains_called_at w a x seen s done read sound got
-    (subst (λ (step : Keeping). Fits (likeness seen (keeping_machine s step) (keeping_work s step)) x) its fits) same (subst (λ (step : Keeping). keeping_ask w.now.shape w.now.places s step ≡ Done told.Device) its e))
-called_by w a x seen s step done read sound got fits same e (inr its) =
+    (subst (λ (step : Keeping). Fits (likeness seen (keeping_machine s step) (keeping_work s step)) x) its fits) same (subst (λ (step : Keeping). keeping_ask w.now.shape w.now.places s step ≡ Done told.Device) its e)
+    (subst (λ (step : Keeping). lets_rest w.now.shape s step done ≡ false) its plain))
+called_by w a x seen s step done read sound got fits same e (inr its) plain =
     subst (LedAt w a seen s done read) (sym its) (writes_called_at w a x seen s done read got (subst (λ (step : Keeping). Fits (likeness seen (keeping_machine s step) (keeping_work s step)) x) its fits) same)
 
 -- where its call of the device leads
 pub device_called_to : (w : GuardWorld) (a : ℕ) (x : Actor) (seen : LastSeen) (s : KeeperState) (done : Bool) (read : List ℕ) → IsSound w → slice_get w.now.actors a ≡ Some x
-    → Fits (likeness seen (keeper_machine s) (keeper_work s)) x → KeeperKnows (levels_of w.now.words) w.now.places s → keeper_ask w.now.shape w.now.places s ≡ Done told.Device
+    → Fits (likeness seen (keeper_machine s) (keeper_work s)) x → KeeperKnows (levels_of w.now.words) w.now.places s → keeper_ask w.now.shape w.now.places s ≡ Done told.Device → lets_rest w.now.shape s s.step done ≡ false
     → (let n : GuardNow = w.now in KeeperLed n a (keeping_called_events a n.shape n.places s s.step done read) seen (keeper_called n.shape n.places s done read) n.words n.actions)
 unfolding LedAt
-device_called_to w a x seen s done read sound got fits knows e = called_by w a x seen s s.step done read sound got fits knows.sessions e (calls_at w.now.shape w.now.places s s.step e)
+device_called_to w a x seen s done read sound got fits knows e plain = called_by w a x seen s s.step done read sound got fits knows.sessions e (calls_at w.now.shape w.now.places s s.step e) plain

@@ -21,13 +21,14 @@ use Rattle.fkv_flush.proofs.Shown.{Fits, IsSound}
 use Rattle.fkv_maintain.specs.declared.maintaining.MaintainAnswer.TheVariants as answer
 use Rattle.fkv_maintain.specs.declared.maintaining.Maintaining.{Maintaining}
 use Rattle.fkv_maintain.specs.declared.maintaining.Maintaining.TheVariants as maintain
-use Rattle.fkv_maintain.specs.Maintaining.{MaintainState, device_asked, maintaining_ask, maintaining_called, maintain_ask, maintain_next, maintain_called}
+use Rattle.fkv_maintain.specs.Maintaining.{MaintainState, flush_told, device_asked, maintaining_ask, maintaining_called, maintain_ask, maintain_next, maintain_called}
 use Rattle.law_world.specs.GuardKeeper.MaintainEvents.{maintain_events, maintain_called_events}
 use Rattle.law_world.specs.GuardKeeper.MaintainShown.{maintaining_machine, maintaining_work, maintain_machine, maintain_work, IsUnderWay}
 use Rattle.law_world.specs.GuardKeeper.Settled.{is_of_slot}
 use Rattle.law_world.proofs.OfGuardKeeper.Claimed.{claimed_to}
 use Rattle.law_world.proofs.OfGuardKeeper.Flushed.{flush_behind, flushed_to, flush_called_to}
 use Rattle.law_world.specs.GuardKeeper.Followed.{likeness}
+use Rattle.law_world.proofs.OfGuardKeeper.HandsOver.{maintain_lets_rest, maintain_takes_up}
 use Rattle.law_world.proofs.OfGuardKeeper.PartLed.{passed_step}
 use Rattle.law_world.proofs.OfGuardKeeper.Scanned.{scanned_to}
 use Rattle.law_world.proofs.OfGuardKeeper.Served.{serve_behind, served_to, serve_called_to}
@@ -44,42 +45,44 @@ device_step P words ask p = passed_step P words ask answer.Through p
 -- a part's ask is that of the machine inside
 maintained_at : (w : GuardWorld) (a : ℕ) (x : Actor) (seen : LastSeen) (s : MaintainState) (step : Maintaining) → IsSound w → slice_get w.now.actors a ≡ Some x
     → Fits (likeness seen (maintaining_machine s step) (maintaining_work s step)) x → IsUnderWay (maintaining_machine s step) (maintaining_work s step) → is_done (maintaining_ask w.now.shape w.now.places s step) ≡ false
+    → maintain_takes_up s step (reply_to w.now.words (maintaining_ask w.now.shape w.now.places s step)) ≡ false
     → (let n : GuardNow = w.now in let here : MaintainState = record s { step = step } in let reply : ℕ = reply_to n.words (maintain_ask n.shape n.places here) in
     TurnLed n a (maintain_events a n.shape n.places here step reply) seen (maintain_next n.shape n.places here reply) (words_after n.words (maintain_ask n.shape n.places here)))
 unfolding maintaining_ask
-maintained_at w a x seen s maintain.Through sound got fits busy e = cc
-maintained_at w a x seen s maintain.Spent sound got fits busy e = cc
-maintained_at w a x seen s maintain.Broken sound got fits busy e = cc
-maintained_at w a x seen s maintain.Scans sound got fits busy e =
+maintained_at w a x seen s maintain.Through sound got fits busy e plain = cc
+maintained_at w a x seen s maintain.Spent sound got fits busy e plain = cc
+maintained_at w a x seen s maintain.Broken sound got fits busy e plain = cc
+maintained_at w a x seen s maintain.Scans sound got fits busy e plain =
     let n : GuardNow = w.now in let here : MaintainState = record s { step = maintain.Scans } in
     passed_step (λ reply words. TurnLed n a (maintain_events a n.shape n.places here maintain.Scans reply) seen (maintain_next n.shape n.places here reply) words) n.words (scan_ask s.scanning) answer.Through
     (scanned_to n a x seen s sound.fits.sessions got fits)
-maintained_at w a x seen s maintain.Claims sound got fits busy e =
+maintained_at w a x seen s maintain.Claims sound got fits busy e plain =
     let n : GuardNow = w.now in let here : MaintainState = record s { step = maintain.Claims } in
-    passed_step (λ reply words. TurnLed n a (maintain_events a n.shape n.places here maintain.Claims reply) seen (maintain_next n.shape n.places here reply) words) n.words (claim_ask s.claiming) answer.Through
-    (claimed_to n a x seen s got fits)
-maintained_at w a x seen s maintain.Flushes sound got fits busy e =
+    passed_step (λ reply words. maintain_takes_up s maintain.Claims reply ≡ false → TurnLed n a (maintain_events a n.shape n.places here maintain.Claims reply) seen (maintain_next n.shape n.places here reply) words) n.words (claim_ask s.claiming)
+    answer.Through (λ same. claimed_to n a x seen s got fits same) plain
+maintained_at w a x seen s maintain.Flushes sound got fits busy e plain =
     let n : GuardNow = w.now in let here : MaintainState = record s { step = maintain.Flushes } in
     device_step (λ reply words. TurnLed n a (maintain_events a n.shape n.places here maintain.Flushes reply) seen (maintain_next n.shape n.places here reply) words) n.words (flush_ask n.places s.flushing)
     (flushed_to n a x seen s got fits busy)
-maintained_at w a x seen s maintain.Shifts sound got fits busy e =
+maintained_at w a x seen s maintain.Shifts sound got fits busy e plain =
     let n : GuardNow = w.now in let here : MaintainState = record s { step = maintain.Shifts } in
     passed_step (λ reply words. TurnLed n a (maintain_events a n.shape n.places here maintain.Shifts reply) seen (maintain_next n.shape n.places here reply) words) n.words (shift_ask s.shift) answer.Through
     (shifted_to w a x seen s sound got fits busy)
-maintained_at w a x seen s maintain.Turns sound got fits busy e =
+maintained_at w a x seen s maintain.Turns sound got fits busy e plain =
     let n : GuardNow = w.now in let here : MaintainState = record s { step = maintain.Turns } in
     passed_step (λ reply words. TurnLed n a (maintain_events a n.shape n.places here maintain.Turns reply) seen (maintain_next n.shape n.places here reply) words) n.words (turn_ask n.shape s.turn) answer.Through
     (turned_to w a x seen s sound got fits busy)
-maintained_at w a x seen s maintain.Serves sound got fits busy e =
+maintained_at w a x seen s maintain.Serves sound got fits busy e plain =
     let n : GuardNow = w.now in let here : MaintainState = record s { step = maintain.Serves } in
     device_step (λ reply words. TurnLed n a (maintain_events a n.shape n.places here maintain.Serves reply) seen (maintain_next n.shape n.places here reply) words) n.words (serve_ask s.serving)
     (served_to n a x seen s got fits busy)
 
 pub maintained_to : (w : GuardWorld) (a : ℕ) (x : Actor) (seen : LastSeen) (s : MaintainState) → IsSound w → slice_get w.now.actors a ≡ Some x
     → Fits (likeness seen (maintain_machine s) (maintain_work s)) x → IsUnderWay (maintain_machine s) (maintain_work s) → is_done (maintain_ask w.now.shape w.now.places s) ≡ false
+    → maintain_takes_up s s.step (reply_to w.now.words (maintain_ask w.now.shape w.now.places s)) ≡ false
     → (let n : GuardNow = w.now in let reply : ℕ = reply_to n.words (maintain_ask n.shape n.places s) in
     TurnLed n a (maintain_events a n.shape n.places s s.step reply) seen (maintain_next n.shape n.places s reply) (words_after n.words (maintain_ask n.shape n.places s)))
-maintained_to w a x seen s sound got fits busy e = maintained_at w a x seen s s.step sound got fits busy e
+maintained_to w a x seen s sound got fits busy e plain = maintained_at w a x seen s s.step sound got fits busy e plain
 
 -- who passes on what a machine with no calls asks needs no device
 no_device : {A X : Type 0} (ask : Ask A) → passed ask answer.Through ≡ Done answer.Device → X
@@ -94,24 +97,24 @@ its_device (Done device.Through) e = cc
 its_device ask e = cc
 
 called_at : (n : GuardNow) (a : ℕ) (x : Actor) (seen : LastSeen) (s : MaintainState) (step : Maintaining) (done : Bool) (read : List ℕ) → slice_get n.actors a ≡ Some x
-    → Fits (likeness seen (maintaining_machine s step) (maintaining_work s step)) x → maintaining_ask n.shape n.places s step ≡ Done answer.Device
+    → Fits (likeness seen (maintaining_machine s step) (maintaining_work s step)) x → maintaining_ask n.shape n.places s step ≡ Done answer.Device → maintain_lets_rest n.shape s step done ≡ false
     → (let here : MaintainState = record s { step = step } in
     TurnLed n a (maintain_called_events a n.shape n.places here step done read) seen (maintain_called n.shape n.places here done read) n.words)
 unfolding maintaining_ask
-called_at n a x seen s maintain.Through done read got fits e = cc
-called_at n a x seen s maintain.Spent done read got fits e = cc
-called_at n a x seen s maintain.Broken done read got fits e = cc
-called_at n a x seen s maintain.Scans done read got fits e = no_device (scan_ask s.scanning) e
-called_at n a x seen s maintain.Claims done read got fits e = no_device (claim_ask s.claiming) e
-called_at n a x seen s maintain.Flushes done read got fits e = flush_called_to n a x seen s done read got fits (its_device (flush_ask n.places s.flushing) e)
-called_at n a x seen s maintain.Shifts done read got fits e = no_device (shift_ask s.shift) e
-called_at n a x seen s maintain.Turns done read got fits e = no_device (turn_ask n.shape s.turn) e
-called_at n a x seen s maintain.Serves done read got fits e = serve_called_to n a x seen s done read got fits
+called_at n a x seen s maintain.Through done read got fits e plain = cc
+called_at n a x seen s maintain.Spent done read got fits e plain = cc
+called_at n a x seen s maintain.Broken done read got fits e plain = cc
+called_at n a x seen s maintain.Scans done read got fits e plain = no_device (scan_ask s.scanning) e
+called_at n a x seen s maintain.Claims done read got fits e plain = no_device (claim_ask s.claiming) e
+called_at n a x seen s maintain.Flushes done read got fits e plain = flush_called_to n a x seen s done read got fits (its_device (flush_ask n.places s.flushing) e) plain
+called_at n a x seen s maintain.Shifts done read got fits e plain = no_device (shift_ask s.shift) e
+called_at n a x seen s maintain.Turns done read got fits e plain = no_device (turn_ask n.shape s.turn) e
+called_at n a x seen s maintain.Serves done read got fits e plain = serve_called_to n a x seen s done read got fits
 
 pub called_to : (n : GuardNow) (a : ℕ) (x : Actor) (seen : LastSeen) (s : MaintainState) (done : Bool) (read : List ℕ) → slice_get n.actors a ≡ Some x
-    → Fits (likeness seen (maintain_machine s) (maintain_work s)) x → maintain_ask n.shape n.places s ≡ Done answer.Device
+    → Fits (likeness seen (maintain_machine s) (maintain_work s)) x → maintain_ask n.shape n.places s ≡ Done answer.Device → maintain_lets_rest n.shape s s.step done ≡ false
     → TurnLed n a (maintain_called_events a n.shape n.places s s.step done read) seen (maintain_called n.shape n.places s done read) n.words
-called_to n a x seen s done read got fits e = called_at n a x seen s s.step done read got fits e
+called_to n a x seen s done read got fits e plain = called_at n a x seen s s.step done read got fits e plain
 
 -- behind a call of the device nothing is asked of a slot
 called_slot_at : (shape : Shape) (p : Places) (s : MaintainState) (step : Maintaining) (done : Bool) (read : List ℕ) → maintaining_ask shape p s step ≡ Done answer.Device → is_of_slot (maintain_ask shape p (maintain_called shape p (record s { step = step }) done read)) ≡ false
@@ -121,7 +124,7 @@ called_slot_at shape p s maintain.Spent done read e = cc
 called_slot_at shape p s maintain.Broken done read e = cc
 called_slot_at shape p s maintain.Scans done read e = no_device (scan_ask s.scanning) e
 called_slot_at shape p s maintain.Claims done read e = no_device (claim_ask s.claiming) e
-called_slot_at shape p s maintain.Flushes true read e = flush_behind shape p s (flush_done shape.page s.flushing true) (bytes_done s.flushing s.bytes) (flush_ask p (flush_done shape.page s.flushing true))
+called_slot_at shape p s maintain.Flushes true read e = flush_behind shape p s (flush_done shape.page s.flushing true) (bytes_done s.flushing s.bytes) (flush_told shape p (flush_done shape.page s.flushing true))
 called_slot_at shape p s maintain.Flushes false read e = refl
 called_slot_at shape p s maintain.Shifts done read e = no_device (shift_ask s.shift) e
 called_slot_at shape p s maintain.Turns done read e = no_device (turn_ask shape s.turn) e

@@ -29,6 +29,7 @@ use Rattle.law_world.proofs.OfGuardKeeper.PartLed.{PartLed, stays, raise_begins}
 use Rattle.law_world.proofs.OfGuardKeeper.Quiet.{IsQuietAs, quiet_step, quiet_begins}
 use Rattle.law_world.proofs.OfGuardKeeper.Slots.{passed_slot}
 use Rattle.law_world.proofs.OfGuardKeeper.Sought.{seek_machine, SeekKnown, owing_led, owing_slot}
+use Rattle.fkv_maintain.specs.Maintaining.{is_flush_resting}
 
 -- wait-pending is to be deferred
 pub record HasEntered (s there : KeeperState) : Type 0 where
@@ -72,8 +73,9 @@ part_so p s c said granted = inl (record { quiet = refl; sessions = refl })
 
 pub phase_so : (p : Places) (s : KeeperState) (its : Option Commit) (said : PhaseSaid) (granted : Bool) → HasBegun s (phase_ledto p s its said granted)
 unfolding phase_ledto
-phase_so p s None said granted = inl (record { quiet = refl; sessions = refl })
-phase_so p s (Some c) said granted = either s.rests s _ _ (either granted s _ _ (inl (record { quiet = refl; sessions = refl })) (inl (record { quiet = refl; sessions = refl }))) (part_so p s c said granted)
+phase_so p s None said granted = inl (either_quiet (is_flush_resting s.maintain) s _ _ (record { quiet = refl; sessions = refl }) (record { quiet = refl; sessions = refl }))
+phase_so p s (Some c) said granted = either s.rests s _ _ (either granted s _ _ (inl (record { quiet = refl; sessions = refl })) (inl (record { quiet = refl; sessions = refl })))
+    (either (is_flush_resting s.maintain) s _ _ (inl (record { quiet = refl; sessions = refl })) (part_so p s c said granted))
 
 enters_phase : (n : GuardNow) (a : ℕ) (x : Actor) (seen : LastSeen) (granted : Bool) (there : KeeperState) (from : EnterState) (number : Version) → slice_get n.actors a ≡ Some x → Fits (likeness seen None None) x
     → there.finish.sessions ≡ n.places.sessions

@@ -33,10 +33,11 @@ use Rattle.fkv_flush.proofs.Shown.{IsSound, FitsWork, finds_slots}
 use Rattle.fkv_maintain.specs.declared.maintaining.MaintainAnswer.TheVariants as answer
 use Rattle.fkv_maintain.specs.declared.maintaining.Maintaining.{Maintaining}
 use Rattle.fkv_maintain.specs.declared.maintaining.Maintaining.TheVariants as maintain
-use Rattle.fkv_maintain.specs.Maintaining.{MaintainState, device_asked, maintaining_ask, maintaining_next, maintain_ask, maintain_next, scan_ledto, claim_ledto, flush_ledto, shift_ledto, turn_ledto, serve_ledto, serve_begun}
+use Rattle.fkv_maintain.specs.Maintaining.{MaintainState, device_asked, maintaining_ask, maintaining_next, maintain_ask, maintain_next, scan_ledto, claim_ledto, flush_ledto, shift_ledto, turn_ledto, serve_ledto, serve_begun, flush_begun}
 use Rattle.law_world.specs.GuardKeeper.MaintainShown.{maintaining_machine, maintaining_work, IsUnderWay}
 use Rattle.law_world.specs.GuardKeeper.Settled.{is_of_slot}
-use Rattle.law_world.proofs.OfGuardKeeper.Flushed.{flush_behind}
+use Rattle.law_world.proofs.OfGuardKeeper.Flushed.{flush_slot, flush_behind}
+use Rattle.law_world.proofs.OfGuardKeeper.TurnLed.{device_slot}
 use Rattle.law_world.proofs.OfGuardKeeper.Scanned.{scan_behind}
 use Rattle.law_world.proofs.OfGuardKeeper.Served.{serve_behind}
 
@@ -78,8 +79,9 @@ work_puts_empty w a x work sound got its busy slot e =
 
 -- by what the machine inside a turn asks next
 claims_put : (actions : List (Option Action)) (shape : Shape) (p : Places) (s : MaintainState) (next : Claiming) (ask : Ask (Unit {0})) → PutsIntoEmpty actions (maintain_ask shape p (claim_ledto (record s { claiming = next; step = maintain.Claims }) ask))
-unfolding claim_ledto maintaining_ask device_asked flush_ask passed
-claims_put actions shape p s next (Done its) slot e = cc
+unfolding claim_ledto maintaining_ask
+claims_put actions shape p s next (Done its) slot e =
+    puts_none actions (device_asked (flush_ask p (flush_begun s.flushing))) (device_slot (flush_ask p (flush_begun s.flushing)) ∙ flush_slot p (flush_begun s.flushing)) slot e
 claims_put actions shape p s next ask slot e = passed_puts actions (claim_ask next) answer.Through (claim_puts actions next) slot e
 
 shifts_put : (actions : List (Option Action)) (shape : Shape) (p : Places) (s : MaintainState) (t : ShiftState) (ask : Ask ShiftAnswer) → PutsIntoEmpty actions (shift_ask t)

@@ -33,6 +33,8 @@ use Rattle.fkv_commit.specs.declared.seeking.Seeking.{Seeking}
 use Rattle.fkv_commit.specs.declared.seeking.Seeking.TheVariants as seek
 use Rattle.fkv_commit.specs.declared.starting.Starting.{Starting}
 use Rattle.fkv_commit.specs.declared.starting.Starting.TheVariants as start
+use Rattle.fkv_flush.specs.declared.flushing.Flushing.{Flushing}
+use Rattle.fkv_flush.specs.declared.flushing.Flushing.TheVariants as flush
 use Rattle.fkv_flush.specs.Flushing.{flush_ask, flush_next, flush_done, flush_calls}
 use Rattle.fkv_flush.specs.GuardFlushed.{actor_calls, calls_made, event_calls, work_calls}
 use Rattle.fkv_flush.specs.GuardSeen.{LastSeen}
@@ -40,7 +42,7 @@ use Rattle.fkv_flush.specs.GuardWorld.{Actor, Work, Flushes, GuardNow, GuardWorl
 use Rattle.fkv_flush.proofs.Shown.{FitsWork}
 use Rattle.fkv_flush.specs.declared.answers.DeviceAnswer.{DeviceAnswer}
 use Rattle.fkv_flush.specs.declared.answers.DeviceAnswer.TheVariants as device
-use Rattle.fkv_maintain.specs.Maintaining.{MaintainState, maintaining_calls}
+use Rattle.fkv_maintain.specs.Maintaining.{MaintainState, flush_told, maintaining_calls}
 use Rattle.fkv_maintain.specs.declared.maintaining.Maintaining.{Maintaining}
 use Rattle.fkv_maintain.specs.declared.maintaining.Maintaining.TheVariants as maintain
 use Rattle.fkv_manifest.specs.Committing.{commit_call}
@@ -58,7 +60,7 @@ use Rattle.law_world.specs.GuardKeeper.DeviceCalls.{SparesLog, WritesSpareLog}
 use Rattle.law_world.specs.GuardKeeper.Followed.{IsKeepers}
 use Rattle.law_world.specs.GuardKeeper.KeeperEvents.{part_begins, keeping_events, write_events, keeping_called_events, keeper_events_at, keeper_move_events, turn_asked_events}
 use Rattle.law_world.specs.GuardKeeper.KeeperShown.{keeping_work}
-use Rattle.law_world.specs.GuardKeeper.MaintainEvents.{scan_events, claim_events, flush_events, shift_events, turn_events, maintain_events, maintain_called_events}
+use Rattle.law_world.specs.GuardKeeper.MaintainEvents.{scan_events, then_flushes, shifter, claim_events, flush_events, shift_events, turn_events, maintain_events, maintain_called_events}
 use Rattle.law_world.specs.GuardKeeper.MaintainShown.{maintaining_work}
 use Rattle.law_world.proofs.OfGuardKeeper.NoCalls.{MakeNone, none_made, none_by_test}
 
@@ -67,9 +69,13 @@ scanned : (a : ℕ) (ask : Ask (Unit {0})) → MakeNone (scan_events a ask)
 scanned a (Done its) = (tt, (tt, tt))
 scanned a ask = (tt, tt)
 
-claimed : (a : ℕ) (ask : Ask (Unit {0})) → MakeNone (claim_events a ask)
-claimed a (Done its) = (tt, (tt, tt))
-claimed a ask = (tt, tt)
+flushes : (a : ℕ) (flushing : Flushing) → MakeNone (then_flushes a flushing (Moves a ∷ []))
+flushes a (flush.Syncs end) = (tt, tt)
+flushes a step = (tt, (tt, tt))
+
+claimed : (a : ℕ) (flushing : Flushing) (ask : Ask (Unit {0})) → MakeNone (claim_events a flushing ask)
+claimed a flushing (Done its) = flushes a flushing
+claimed a flushing ask = (tt, tt)
 
 flushed : (a : ℕ) (ask : Ask DeviceAnswer) → MakeNone (flush_events a (Moves a) ask)
 flushed a (Done device.Through) = (tt, (tt, tt))
@@ -88,7 +94,7 @@ turn_steps a begin ask = (tt, tt)
 maintained : (a : ℕ) (shape : Shape) (p : Places) (s : MaintainState) (step : Maintaining) (reply : ℕ) → MakeNone (maintain_events a shape p s step reply)
 unfolding maintain_events
 maintained a shape p s maintain.Scans reply = scanned a (scan_ask (scan_next shape.sessions s.scanning reply))
-maintained a shape p s maintain.Claims reply = claimed a (claim_ask (claim_next s.claiming reply))
+maintained a shape p s maintain.Claims reply = claimed a s.flushing (claim_ask (claim_next s.claiming reply))
 maintained a shape p s maintain.Flushes reply = flushed a (flush_ask p (flush_next shape.page s.flushing reply))
 maintained a shape p s maintain.Shifts reply = shift_steps a (shift_next_ask shape s.shift reply)
 maintained a shape p s maintain.Turns reply = turn_steps a s.begin.0 (turn_next_ask shape s.turn reply)
@@ -167,10 +173,10 @@ pub turn_asked_none : (a : ℕ) (s : KeeperState) → MakeNone (turn_asked_event
 turn_asked_none a s = none_by_test (is_in_hand s.step) [] _ tt (none_by_test s.is_broken [] _ tt (tt, tt))
 
 -- A call of a flush: the guard's actor has the flush and its bytes.
-flush_called : (w : GuardWorld) (a : ℕ) (done : Bool) (ask : Ask DeviceAnswer) (calls : List device_call.Call) → event_calls w.now (Calls a done) ≡ calls → calls_made w (flush_events a (Calls a done) ask) ≡ calls ++ []
+flush_called : (w : GuardWorld) (a b : ℕ) (done : Bool) (ask : Ask DeviceAnswer) (calls : List device_call.Call) → event_calls w.now (Calls a done) ≡ calls → calls_made w (flush_events b (Calls a done) ask) ≡ calls ++ []
 unfolding calls_made guard_run
-flush_called w a done (Done device.Through) calls made = ap (λ (its : List device_call.Call). its ++ []) made
-flush_called w a done ask calls made = ap (λ (its : List device_call.Call). its ++ []) made
+flush_called w a b done (Done device.Through) calls made = ap (λ (its : List device_call.Call). its ++ []) made
+flush_called w a b done ask calls made = ap (λ (its : List device_call.Call). its ++ []) made
 
 flush_made : (n : GuardNow) (x : Actor) (s : MaintainState) (done : Bool) → x.work ≡ Flushes s.flushing s.bytes → actor_calls n done (Some x) ≡ flush_calls n.shape s.bytes s.flushing done
 flush_made n x s done at = ap (λ (work : Work). work_calls n done work) at
@@ -180,7 +186,7 @@ maintain_device : (w : GuardWorld) (a : ℕ) (x : Actor) (p : Places) (s : Maint
     → calls_made w (maintain_called_events a w.now.shape p s step done bytes) ≡ maintaining_calls w.now.shape s step done ++ []
 unfolding maintain_called_events maintaining_calls calls_made guard_run
 maintain_device w a x p s maintain.Flushes true bytes got at =
-    flush_called w a true (flush_ask p (flush_done w.now.shape.page s.flushing true)) (flush_calls w.now.shape s.bytes s.flushing true) (ap (λ (found : Option Actor). actor_calls w.now true found) got ∙ flush_made w.now x s true at)
+    flush_called w a (shifter a (flush_done w.now.shape.page s.flushing true)) true (flush_told w.now.shape p (flush_done w.now.shape.page s.flushing true)) (flush_calls w.now.shape s.bytes s.flushing true) (ap (λ (found : Option Actor). actor_calls w.now true found) got ∙ flush_made w.now x s true at)
 maintain_device w a x p s maintain.Flushes false bytes got at =
     ap (λ (its : List device_call.Call). its ++ []) (ap (λ (found : Option Actor). actor_calls w.now false found) got ∙ flush_made w.now x s false at)
 maintain_device w a x p s maintain.Serves true bytes got at = refl

@@ -27,6 +27,7 @@ use Rattle.fkv_world.specs.Moves.{Near, keeper_settled, keeper_asks, keeper_move
 use Rattle.law_world.specs.GuardKeeper.KeeperEvents.{keeping_events, keeper_events_at, keeper_move_events}
 use Rattle.law_world.specs.GuardKeeper.KeeperShown.{keeper_machine, keeper_work, keeping_work, KeeperKnows}
 use Rattle.law_world.specs.GuardKeeper.Settled.{actions_settled, is_of_slot}
+use Rattle.law_world.proofs.OfGuardKeeper.HandsOver.{lets_rest, takes_up}
 use Rattle.law_world.proofs.OfGuardKeeper.Ends.{PartKnows, part_known}
 use Rattle.law_world.specs.GuardKeeper.Followed.{KeeperLed, likeness}
 use Rattle.law_world.proofs.OfGuardKeeper.KeeperLed.{StepLed, keeper_settles}
@@ -77,25 +78,25 @@ never_put {X = X} shape p s slot action r e = put_at (subst (λ (k : KeeperState
 -- by what it asks
 moved_by : (w : GuardWorld) (a : ℕ) (x : Actor) (seen : LastSeen) (s : KeeperState) (granted done : Bool) (read : List ℕ) (ask : Ask KeeperTold) → IsSound w → slice_get w.now.actors a ≡ Some x
     → Fits (likeness seen (keeper_machine s) (keeper_work s)) x → KeeperKnows (levels_of w.now.words) w.now.places s → keeper_ask w.now.shape w.now.places s ≡ ask
-    → (is_of_slot (keeper_ask w.now.shape w.now.places s) ≡ false) ⊎ Receives s s.step
+    → (is_of_slot (keeper_ask w.now.shape w.now.places s) ≡ false) ⊎ Receives s s.step → takes_up s s.step (reply_to w.now.words (keeper_ask w.now.shape w.now.places s)) ≡ false → lets_rest w.now.shape s s.step done ≡ false
     → (let n : GuardNow = w.now in
     NearLed n a (keeper_events_at a n.shape n.places granted done read s n.words ask) seen (keeper_asks n.shape n.places granted done read (record { machine = s; words = n.words; actions = n.actions }) ask))
 unfolding keeper_events_at keeper_asks
-moved_by w a x seen s granted done read (Done told.Device) sound got fits knows e rest = device_called_to w a x seen s done read sound got fits knows e
-moved_by w a x seen s granted done read (Done its) sound got fits knows e rest = record { follows = record { actor = x; same = stays w.now a x got; fits = fits }; knows = knows }
-moved_by w a x seen s granted done read (Put slot action) sound got fits knows e (inl none) = clash (is_of_slot (keeper_ask w.now.shape w.now.places s)) (ap is_of_slot e) none
-moved_by w a x seen s granted done read (Put slot action) sound got fits knows e (inr r) = never_put w.now.shape w.now.places s slot action r e
-moved_by w a x seen s granted done read (Take slot) sound got fits knows e (inl none) = clash (is_of_slot (keeper_ask w.now.shape w.now.places s)) (ap is_of_slot e) none
-moved_by w a x seen s granted done read (Take slot) sound got fits knows e (inr r) =
+moved_by w a x seen s granted done read (Done told.Device) sound got fits knows e rest up over = device_called_to w a x seen s done read sound got fits knows e over
+moved_by w a x seen s granted done read (Done its) sound got fits knows e rest up over = record { follows = record { actor = x; same = stays w.now a x got; fits = fits }; knows = knows }
+moved_by w a x seen s granted done read (Put slot action) sound got fits knows e (inl none) up over = clash (is_of_slot (keeper_ask w.now.shape w.now.places s)) (ap is_of_slot e) none
+moved_by w a x seen s granted done read (Put slot action) sound got fits knows e (inr r) up over = never_put w.now.shape w.now.places s slot action r e
+moved_by w a x seen s granted done read (Take slot) sound got fits knows e (inl none) up over = clash (is_of_slot (keeper_ask w.now.shape w.now.places s)) (ap is_of_slot e) none
+moved_by w a x seen s granted done read (Take slot) sound got fits knows e (inr r) up over =
     let n : GuardNow = w.now in
-    let led = replied_to w a x seen s granted sound got fits knows (ap is_done e) in
+    let led = replied_to w a x seen s granted sound got fits knows (ap is_done e) up in
     let step = subst (λ (k : Ask KeeperTold). StepLed n a (keeping_events a n.shape n.places s s.step (reply_to n.words k) granted) seen granted (keeper_next n.shape n.places s (reply_to n.words k) granted) (words_after n.words k)) e led in
     let here = subst (λ (k : KeeperState). StepLed n a (keeping_events a n.shape n.places s s.step 0 granted) seen granted k n.words) (receives_again n.shape n.places s 0 granted r) step in
     settles_near n a (keeping_events a n.shape n.places s s.step 0 granted) seen granted s n.words (Take slot)
     (subst (λ (k : Ask KeeperTold). KeeperLed n a (keeping_events a n.shape n.places s s.step 0 granted) seen (keeper_settles n granted s k) n.words (actions_settled n.actions k)) e here)
-moved_by w a x seen s granted done read ask sound got fits knows e rest =
+moved_by w a x seen s granted done read ask sound got fits knows e rest up over =
     let n : GuardNow = w.now in
-    let led = replied_to w a x seen s granted sound got fits knows (ap is_done e) in
+    let led = replied_to w a x seen s granted sound got fits knows (ap is_done e) up in
     let step = subst (λ (k : Ask KeeperTold). StepLed n a (keeping_events a n.shape n.places s s.step (reply_to n.words k) granted) seen granted (keeper_next n.shape n.places s (reply_to n.words k) granted) (words_after n.words k)) e led in
     settles_near n a (keeping_events a n.shape n.places s s.step (reply_to n.words ask) granted) seen granted (keeper_next n.shape n.places s (reply_to n.words ask) granted) (words_after n.words ask)
     (keeper_ask n.shape n.places (keeper_next n.shape n.places s (reply_to n.words ask) granted)) step
@@ -107,11 +108,11 @@ turn_known w a x seen s sound got fits at =
     let work = subst (λ (step : Keeping). FitsWork (keeping_work s step) x.work) at fits.work in
     part_known w.now.shape (levels_of w.now.words) (Awake w.now a x.machine) x.machine x.undecided s.maintain s.maintain.step x.work work (sound.knows a x got)
 
--- The keeper's step: the guard follows it.
+-- The keeper's step, where its work stays with its actor: the guard follows it.
 pub keeper_follows : (w : GuardWorld) (a : ℕ) (x : Actor) (seen : LastSeen) (s : KeeperState) (granted done : Bool) (read : List ℕ) → IsSound w → slice_get w.now.actors a ≡ Some x
-    → Fits (likeness seen (keeper_machine s) (keeper_work s)) x → KeeperKnows (levels_of w.now.words) w.now.places s
+    → Fits (likeness seen (keeper_machine s) (keeper_work s)) x → KeeperKnows (levels_of w.now.words) w.now.places s → takes_up s s.step (reply_to w.now.words (keeper_ask w.now.shape w.now.places s)) ≡ false → lets_rest w.now.shape s s.step done ≡ false
     → (let n : GuardNow = w.now in
     NearLed n a (keeper_move_events a n.shape n.places granted done read s n.words) seen (keeper_moved n.shape n.places granted done read (record { machine = s; words = n.words; actions = n.actions })))
-keeper_follows w a x seen s granted done read sound got fits knows =
+keeper_follows w a x seen s granted done read sound got fits knows up over =
     moved_by w a x seen s granted done read (keeper_ask w.now.shape w.now.places s) sound got fits knows refl
-    (keeper_rest w.now.shape w.now.places (levels_of w.now.words) x.machine s s.step knows.its (turn_known w a x seen s sound got fits))
+    (keeper_rest w.now.shape w.now.places (levels_of w.now.words) x.machine s s.step knows.its (turn_known w a x seen s sound got fits)) up over

@@ -1,5 +1,5 @@
 -- In a life the keeper alone flushes; so what is flushed is synced by the calls of the guard's run, and what stands below the safe read-only offset stays.
-use Rattle.std.proofs.Common.{◌≡◌, ℕ, suc, ◌<◌, ◌∙◌, refl, sym, subst, arith, List, [], ◌∷◌, ◌++◌}
+use Rattle.std.proofs.Common.{◌≡◌, ℕ, ◌<◌, ◌∙◌, refl, sym, subst, arith, List, [], ◌∷◌, ◌++◌}
 use Rattle.fkv_base.specs.declared.shapes.Shape.{Shape}
 use Rattle.fkv_plane.specs.declared.places.Places.{Places}
 use Rattle.fkv_plane.specs.declared.places.RecordWord.{RecordWord}
@@ -11,7 +11,7 @@ use Rattle.fkv_flush.proofs.Shown.{IsSound, run_sound, opening_sound, events_cal
 use Rattle.fkv_world.specs.World.{Event}
 use Rattle.fkv_world.specs.Runs.{World, run, read_by_keeper}
 use Rattle.fkv_world.proofs.Shown.{places_stay}
-use Rattle.law_world.specs.Guarded.GuardEvents.{keeper_number, guard_events, mapped}
+use Rattle.law_world.specs.Guarded.GuardEvents.{actor_count, keeper_number, guard_events, mapped}
 use Rattle.law_world.specs.Guarded.Shows.{IsOpened, ArePermitted, guard_opening}
 use Rattle.law_world.proofs.OfGuarded.Permitted.{life_permitted}
 use Rattle.law_world.proofs.OfGuarded.Kept.{is_steps}
@@ -38,8 +38,8 @@ life_synced first start events opened fits permitted =
     let a : ℕ = keeper_number first.now in
     let w : GuardWorld = guard_opening first.now start in
     let its : List GuardEvent = mapped first events in
-    let sound = opening_sound first.now.shape first.now.places (suc a) first.now.words start fits.words in
-    let was = opening_flushed a first.now.shape first.now.places (suc a) first.now.words start opened (stands w []) fits.words in
+    let sound = opening_sound first.now.shape first.now.places (actor_count first.now) first.now.words start fits.words in
+    let was = opening_flushed a first.now.shape first.now.places (actor_count first.now) first.now.words start opened (stands w []) fits.words in
     let there = subst (λ (s : Shape). IsSynced s opened (calls_made w its) (stands w its) start (levels_of (guard_run w its).now.words).flushed) (same_shape a start opened w sound was its)
     (is_synced a start (guard_run w its).now.shape opened (calls_made w its) (stands w its) (guard_run w its) (run_flushed a start opened w sound was its (life_alone first events) (life_permitted first start events fits permitted))) in
     subst (λ (words : List ℕ). IsSynced first.now.shape opened (calls_made w its) (stands w its) start (levels_of words).flushed) (life_shows first start events fits).words there
@@ -64,5 +64,5 @@ life_steady first start before event addr word fits permitted below =
     let b : World = run first before in
     let w : GuardWorld = guard_opening first.now start in
     let shows = life_shows first start before fits in
-    steps_steady w (guard_events b.now (read_by_keeper b) event) (mapped first before) addr word (opening_sound first.now.shape first.now.places (suc (keeper_number first.now)) first.now.words start fits.words) (life_permitted first start (event ∷ before) fits permitted)
+    steps_steady w (guard_events b.now (read_by_keeper b) event) (mapped first before) addr word (opening_sound first.now.shape first.now.places (actor_count first.now) first.now.words start fits.words) (life_permitted first start (event ∷ before) fits permitted)
     (subst (λ (words : List ℕ). addr < (levels_of words).safe_read_only) (sym shows.words) below)

@@ -47,7 +47,7 @@ use Rattle.fkv_manifest.specs.declared.answers.WriteAnswer.TheVariants as write
 use Rattle.fkv_manifest.specs.Committing.{commit_answer, commit_next}
 use Rattle.fkv_maintain.specs.declared.maintaining.MaintainAnswer.{MaintainAnswer}
 use Rattle.fkv_maintain.specs.declared.maintaining.MaintainAnswer.TheVariants as maintain
-use Rattle.fkv_maintain.specs.Maintaining.{maintain_called, maintain_given, maintain_next}
+use Rattle.fkv_maintain.specs.Maintaining.{maintain_called, maintain_given, maintain_next, is_flush_resting}
 use Rattle.fkv_keeper.specs.declared.keepers.Keeping.{Keeping}
 use Rattle.fkv_keeper.specs.declared.keepers.Keeping.TheVariants.{Ended, Starts, Maintains, LoadsPhase, Enters, Copies, Seeks, Waits, Writes, Finishes}
 use Rattle.fkv_keeper.proofs.Shown.{each_move, was_in_hand}
@@ -230,8 +230,8 @@ part_led p s c said granted rest = tt
 
 phase_led : (p : Places) (s : KeeperState) (commit : Option Commit) (said : PhaseSaid) (granted : Bool) → s.commit ≡ commit → RestRow p s → IsKeeperRow p (phase_ledto p s commit said granted)
 unfolding phase_ledto
-phase_led p s None said granted in_hand rest = tt
-phase_led p s (Some c) said granted in_hand rest = either s.rests p _ _ (either granted p _ _ tt tt) (part_led p s c said granted (rest c in_hand))
+phase_led p s None said granted in_hand rest = either (is_flush_resting s.maintain) p _ _ tt tt
+phase_led p s (Some c) said granted in_hand rest = either s.rests p _ _ (either granted p _ _ tt tt) (either (is_flush_resting s.maintain) p _ _ tt (part_led p s c said granted (rest c in_hand)))
 
 enter_led : (p : Places) (s : KeeperState) (ask : Ask EnterAnswer) → s.step ≡ Enters → IsKeeperRow p (enter_ledto s ask)
 unfolding enter_ledto

@@ -31,7 +31,7 @@ use Rattle.fkv_manifest.specs.declared.answers.WriteAnswer.TheVariants as write
 use Rattle.fkv_manifest.specs.Committing.{commit_answer, commit_next}
 use Rattle.fkv_maintain.specs.declared.maintaining.MaintainAnswer.{MaintainAnswer}
 use Rattle.fkv_maintain.specs.declared.maintaining.MaintainAnswer.TheVariants as maintain
-use Rattle.fkv_maintain.specs.Maintaining.{MaintainState, maintain_ask, maintain_called, maintain_given, maintain_next}
+use Rattle.fkv_maintain.specs.Maintaining.{MaintainState, maintain_ask, maintain_called, maintain_given, maintain_next, is_flush_resting}
 use Rattle.fkv_keeper.specs.declared.keepers.Keeping.{Keeping}
 use Rattle.fkv_keeper.specs.declared.keepers.Keeping.TheVariants.{Ended, Starts, Maintains, LoadsPhase, Enters, Copies, Seeks, Waits, Writes, Finishes}
 use Rattle.fkv_keeper.specs.KeeperRun.{BeginsCommit, BeginsTurn, Calls, Gets, KeeperEvent, Replies, begins, is_in_hand, keeper_happens, keeper_run}
@@ -73,8 +73,8 @@ part_led p s c said granted = refl
 
 phase_led : (p : Places) (s : KeeperState) (commit : Option Commit) (said : PhaseSaid) (granted : Bool) → sought (phase_ledto p s commit said granted) ≡ sought s
 unfolding phase_ledto
-phase_led p s None said granted = refl
-phase_led p s (Some c) said granted = either s.rests _ _ (sought s) (either granted _ _ (sought s) refl refl) (part_led p s c said granted)
+phase_led p s None said granted = either (is_flush_resting s.maintain) _ _ (sought s) refl refl
+phase_led p s (Some c) said granted = either s.rests _ _ (sought s) (either granted _ _ (sought s) refl refl) (either (is_flush_resting s.maintain) _ _ (sought s) refl (part_led p s c said granted))
 
 enter_led : (s : KeeperState) (ask : Ask EnterAnswer) → sought (enter_ledto s ask) ≡ sought s
 unfolding enter_ledto

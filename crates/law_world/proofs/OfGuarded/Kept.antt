@@ -12,7 +12,7 @@ use Rattle.fkv_world.specs.World.{Event, Calls, Moves, Commits, Turns, KeeperMov
 use Rattle.fkv_world.specs.Moves.{session_moved}
 use Rattle.fkv_map.specs.declared.operations.Call.{Call}
 use Rattle.fkv_session.specs.Sessions.{SessionState, is_busy, session_begun}
-use Rattle.law_world.specs.Guarded.GuardEvents.{moved_events, called_events, keeper_number, life_events, guard_events}
+use Rattle.law_world.specs.Guarded.GuardEvents.{moved_events, called_events, keeper_number, keeper_now, life_events, guard_events}
 use Rattle.law_world.proofs.OfGuarded.OneStep.{IsStep, IsQuiet, by_test}
 use Rattle.law_world.proofs.OfGuarded.SessionSteps.{session_steps, called_steps}
 use Rattle.law_world.proofs.OfGuarded.KeeperSteps.{keeper_steps, turn_asked_steps}
@@ -44,7 +44,7 @@ unfolding guard_run
 step_writes keeper a w [] place sound step permitted high changes = absurd (changes refl)
 step_writes keeper a w (event ∷ before) place sound step permitted high changes = elim step.0.place [
   | inl quiet ↦ step_writes keeper a w before place sound step.1 permitted.1 high (λ e. changes (quiet_same (guard_run w before) event place quiet ∙ e))
-  | inr first ↦ one_writes w event place sound (subst (λ (b : List GuardEvent). IsPermittedEvent (guard_run w b).now event) first permitted.0) high (subst (λ (b : List GuardEvent). word_at (guard_happens (guard_run w b) event).now.words place ≢ word_at w.now.words place) first changes)
+  | inr first ↦ one_writes w event place sound (subst (λ (b : List GuardEvent). IsPermittedEvent (guard_run w b).now event) first.0 permitted.0) high (subst (λ (b : List GuardEvent). word_at (guard_happens (guard_run w b) event).now.words place ≢ word_at w.now.words place) first.0 changes)
 ]
 
 -- and one that raises the limit opens the next page
@@ -54,7 +54,7 @@ unfolding guard_run
 step_raises keeper a w [] sound step = λ up. absurd (omega (arith, up))
 step_raises keeper a w (event ∷ before) sound step = elim step.0.place [
   | inl quiet ↦ subst (λ (l : ℕ). (levels w).limit < l → (page : ℕ) × (l ≡ (page + 1) * w.now.shape.page) × OpensPage w page) (sym (quiet_same (guard_run w before) event (shared_place word.Limit) quiet)) (step_raises keeper a w before sound step.1)
-  | inr first ↦ subst (λ (b : List GuardEvent). (levels w).limit < (levels (guard_happens (guard_run w b) event)).limit → (page : ℕ) × ((levels (guard_happens (guard_run w b) event)).limit ≡ (page + 1) * w.now.shape.page) × OpensPage w page) (sym first) (guards_limit w event sound)
+  | inr first ↦ subst (λ (b : List GuardEvent). (levels w).limit < (levels (guard_happens (guard_run w b) event)).limit → (page : ℕ) × ((levels (guard_happens (guard_run w b) event)).limit ≡ (page + 1) * w.now.shape.page) × OpensPage w page) (sym first.0) (guards_limit w event sound)
 ]
 
 -- what an event of the engine is, is one step of some actor
@@ -74,8 +74,8 @@ event_is : (n : Now) (read : List ℕ) (event : Event) → IsSteps (keeper_numbe
 unfolding life_events
 event_is n read (Calls i call) = record { actor = i; step = called_is n i call (slice_get n.sessions i) }
 event_is n read (Moves i) = record { actor = i; step = moved_is n i (slice_get n.sessions i) }
-event_is n read Turns = record { actor = keeper_number n; step = turn_asked_steps (keeper_number n) n.keeper }
-event_is n read (KeeperMoves granted done) = record { actor = keeper_number n; step = keeper_steps (keeper_number n) n.shape n.places granted done read n.keeper n.words }
+event_is n read Turns = record { actor = keeper_now n; step = turn_asked_steps (keeper_number n) n.keeper }
+event_is n read (KeeperMoves granted done) = record { actor = keeper_now n; step = keeper_steps (keeper_number n) n.shape n.places granted done read n.keeper n.words }
 event_is n read (Commits kind) = record { actor = keeper_number n; step = tt }
 event_is n read Crashes = record { actor = keeper_number n; step = tt }
 

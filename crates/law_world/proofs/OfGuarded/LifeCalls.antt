@@ -28,7 +28,7 @@ use Rattle.fkv_world.specs.Past.{CommitAsked, Past, TurnAsked, calls_after, life
 use Rattle.fkv_world.specs.Runs.{World, happens, read_by_keeper, run}
 use Rattle.fkv_world.specs.World.{Event, Calls, Moves, Commits, Turns, KeeperMoves, Crashes, Now, happens_now, near, seat_at}
 use Rattle.fkv_world.proofs.Shown.{keeper_runs, shape_stays}
-use Rattle.law_world.specs.Guarded.GuardEvents.{called_events, guard_events, keeper_number, life_events, mapped, moved_events}
+use Rattle.law_world.specs.Guarded.GuardEvents.{called_events, guard_events, keeper_now, life_events, mapped, moved_events}
 use Rattle.law_world.specs.Guarded.OpenedStore.{IsOpenedStore}
 use Rattle.law_world.specs.Guarded.Shows.{ArePermitted, Shows, guard_opening, seen_by_guard}
 use Rattle.law_world.proofs.OfGuarded.Flushed.{life_synced}
@@ -72,10 +72,10 @@ module _ (n : Now) (actors : List Actor) (past : EpochPast) (shows : Shows n (wo
   life_calls_of (Calls i call) = none_more w (called_events n i call (slice_get n.sessions i)) p.calls _ (called n i call (slice_get n.sessions i)) (call_kept i call (slice_get n.sessions i) (slice_get after.sessions i) p)
   life_calls_of (Moves i) = none_more w (moved_events n i (slice_get n.sessions i)) p.calls _ (moved n i (slice_get n.sessions i)) (move_kept n i (slice_get n.sessions i) (slice_get after.sessions i) p)
   life_calls_of (Commits kind) = sym (begun_kept n.keeper after.keeper (CommitAsked kind) p)
-  life_calls_of Turns = none_more w (turn_asked_events (keeper_number n) n.keeper) p.calls _ (turn_asked_none (keeper_number n) n.keeper) (begun_kept n.keeper after.keeper TurnAsked p)
+  life_calls_of Turns = none_more w (turn_asked_events (keeper_now n) n.keeper) p.calls _ (turn_asked_none (keeper_now n) n.keeper) (begun_kept n.keeper after.keeper TurnAsked p)
   life_calls_of (KeeperMoves granted done) =
       let there = shows.keeper in
-      ap (λ (its : List device.Call). its ++ p.calls) (step_calls w (keeper_number n) there.actor there.seen n.keeper granted done read there.keeps spares)
+      ap (λ (its : List device.Call). its ++ p.calls) (step_calls w (keeper_now n) there.actor there.seen n.keeper granted done read there.keeps spares)
       ∙ (after_more (keeper_ask n.shape n.places n.keeper) (keeper_calls n.shape n.keeper done) p.calls
       ∙ sym (keeper_kept (is_in_hand n.keeper.step) after.keeper.step after.keeper.last _))
   life_calls_of Crashes = refl

@@ -67,7 +67,7 @@ unfolding guard_run
 step_claims keeper a w [] claim sound step among = sound.claims_safe claim among
 step_claims keeper a w (event ∷ before) claim sound step among = elim step.0.place [
   | inl quiet ↦ step_claims keeper a w before claim sound step.1 (quiet_claims (guard_run w before) event claim quiet among)
-  | inr first ↦ one_claims w event claim sound (subst (λ (b : List GuardEvent). Among claim (guard_happens (guard_run w b) event).past.claims) first among)
+  | inr first ↦ one_claims w event claim sound (subst (λ (b : List GuardEvent). Among claim (guard_happens (guard_run w b) event).past.claims) first.0 among)
 ]
 
 -- and of an event of the engine

@@ -1,5 +1,5 @@
 -- What the guard keeps, of each event of a life of the engine.
-use Rattle.std.proofs.Common.{◌≡◌, ℕ, suc, ◌+◌, ◌*◌, ◌<◌, ◌≤◌, ◌∙◌, refl, sym, ap, subst, List, ◌∷◌}
+use Rattle.std.proofs.Common.{◌≡◌, ℕ, ◌+◌, ◌*◌, ◌<◌, ◌≤◌, ◌∙◌, refl, sym, ap, subst, List, ◌∷◌}
 use Rattle.std.specs.Prelude.{Option, Some, None, slice_get}
 use Rattle.fkv_base.specs.declared.shapes.Shape.{Shape}
 use Rattle.fkv_plane.specs.declared.places.Places.{Places}
@@ -16,7 +16,7 @@ use Rattle.fkv_keeper.specs.Keeping.{keeper_ask}
 use Rattle.fkv_session.specs.Sessions.{SessionState, Seat, session_ask}
 use Rattle.fkv_world.specs.World.{Event, Calls, Moves, Commits, Turns, KeeperMoves, Crashes, Now, seat_at}
 use Rattle.fkv_world.specs.Runs.{World, run, read_by_keeper}
-use Rattle.law_world.specs.Guarded.GuardEvents.{keeper_number, guard_events, mapped}
+use Rattle.law_world.specs.Guarded.GuardEvents.{actor_count, keeper_now, keeper_number, guard_events, mapped}
 use Rattle.law_world.specs.Guarded.KeptGuarded.{ChangesOpenPlaces, WritesOpenPlaces, OpensNextPage, FindTheirSlots, session_writes}
 use Rattle.law_world.specs.Guarded.Shows.{IsOpened, Shows, IsPermitted, SessionIsPermitted, guard_opening, seen_by_guard}
 use Rattle.law_world.specs.GuardSessions.Followed.{seat_in}
@@ -52,7 +52,7 @@ session_asks_open n w number (Some s) place there outer permitted shows e high =
 keeper_asks_open : (n : Now) (w : GuardWorld) (place : ℕ) → Shows n w → writes (keeper_ask n.shape n.places n.keeper) ≡ Some place → frames_start n.places ≤ place → IsOpenPlace w place
 keeper_asks_open n w place shows e high =
     let kept = shows.keeper in
-    let free : WritesOpen w (writes (keeper_ask w.now.shape w.now.places n.keeper)) = keeper_open w (keeper_number n) kept.actor kept.seen n.keeper kept.keeps in
+    let free : WritesOpen w (writes (keeper_ask w.now.shape w.now.places n.keeper)) = keeper_open w (keeper_now n) kept.actor kept.seen n.keeper kept.keeps in
     asks_open n w (writes (keeper_ask n.shape n.places n.keeper)) place shows
     (subst (λ (p : Places). WritesOpen w (writes (keeper_ask n.shape p n.keeper))) shows.places (subst (λ (shape : Shape). WritesOpen w (writes (keeper_ask shape w.now.places n.keeper))) shows.shape free)) e high
 
@@ -96,12 +96,12 @@ life_in_order n w shows = subst (λ (words : List ℕ). AreInOrder (levels_of wo
 
 pub life_paged : (first : World) (start : ℕ) (events : List Event) → IsOpened first.now start → EndsPages first.now.shape (levels_of (run first events).now.words).limit
 life_paged first start events opened =
-    let sound = opening_sound first.now.shape first.now.places (suc (keeper_number first.now)) first.now.words start opened.words in
+    let sound = opening_sound first.now.shape first.now.places (actor_count first.now) first.now.words start opened.words in
     let shows = life_shows first start events opened in
     let w : GuardWorld = guard_opening first.now start in
     subst (λ (words : List ℕ). EndsPages first.now.shape (levels_of words).limit) shows.words
     (subst (λ (s : Shape). EndsPages s (levels_of (guard_run w (mapped first events)).now.words).limit) (same_stores w (mapped first events)).0
-    (run_paged w (mapped first events) sound (opening_paged first.now.shape first.now.places (suc (keeper_number first.now)) first.now.words start opened.words)))
+    (run_paged w (mapped first events) sound (opening_paged first.now.shape first.now.places (actor_count first.now) first.now.words start opened.words)))
 
 -- from one moment to a later one
 pub life_rises : (first : World) (start : ℕ) (before later : List Event) → IsOpened first.now start

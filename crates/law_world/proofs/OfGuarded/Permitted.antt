@@ -15,7 +15,7 @@ use Rattle.law_world.proofs.OfGuardSessions.Permitted.{moves_permitted}
 use Rattle.fkv_world.specs.Moves.{session_moved}
 use Rattle.fkv_world.specs.Runs.{World, read_by_keeper, run}
 use Rattle.fkv_world.specs.World.{Event, Calls, Moves, Commits, Turns, KeeperMoves, Crashes, Now, seat_at, near}
-use Rattle.law_world.specs.Guarded.GuardEvents.{called_events, moved_events, keeper_number, life_events, guard_events, mapped}
+use Rattle.law_world.specs.Guarded.GuardEvents.{called_events, moved_events, keeper_number, keeper_now, life_events, guard_events, mapped}
 use Rattle.law_world.specs.Guarded.Shows.{IsOpened, Shows, IsPermitted, ArePermitted, SessionIsPermitted, guard_opening}
 use Rattle.law_world.proofs.OfGuarded.OneStep.{keeper_is_permitted}
 use Rattle.law_world.proofs.OfGuarded.KeeperSteps.{keeper_makes, turn_asked_makes}
@@ -50,8 +50,8 @@ event_permitted : (n : Now) (w : GuardWorld) (read : List â„•) (event : Event) â
 unfolding life_events
 event_permitted n w read (Calls i call) permitted shows = called_permitted n w i call (slice_get n.sessions i)
 event_permitted n w read (Moves i) permitted shows = moved_permitted n w i (slice_get n.sessions i) refl permitted shows
-event_permitted n w read Turns permitted shows = keeper_is_permitted w (keeper_number n) _ (turn_asked_makes (keeper_number n) n.keeper)
-event_permitted n w read (KeeperMoves granted done) permitted shows = keeper_is_permitted w (keeper_number n) _ (keeper_makes (keeper_number n) n.shape n.places granted done read n.keeper n.words)
+event_permitted n w read Turns permitted shows = keeper_is_permitted w (keeper_number n) (keeper_now n) _ (turn_asked_makes (keeper_number n) n.keeper)
+event_permitted n w read (KeeperMoves granted done) permitted shows = keeper_is_permitted w (keeper_number n) (keeper_now n) _ (keeper_makes (keeper_number n) n.shape n.places granted done read n.keeper n.words)
 event_permitted n w read (Commits kind) permitted shows = tt
 event_permitted n w read Crashes permitted shows = tt
 

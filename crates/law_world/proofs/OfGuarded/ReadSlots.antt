@@ -22,11 +22,12 @@ use Rattle.fkv_session.proofs.Shown.{run_ended}
 use Rattle.fkv_world.specs.Actors.{NoneOfKeeper, NoneOfSession, is_of_keeper, is_of_session, session_slot_named, slot_asked, slot_named}
 use Rattle.fkv_world.specs.World.{Event, Moves, KeeperMoves, Now, seat_at}
 use Rattle.law_world.specs.Runs.Ends.{asks_left_of, asks_left_of_keeper, left_at}
-use Rattle.law_world.specs.Guarded.GuardEvents.{guard_events, keeper_number, life_events, moved_events}
+use Rattle.law_world.specs.Guarded.GuardEvents.{guard_events, keeper_number, keeper_now, life_events, moved_events}
 use Rattle.law_world.specs.Guarded.Reads.{Heard, events_heard, guard_heard, heard_run}
 use Rattle.law_world.specs.Guarded.Shows.{IsOpened, Shows}
 use Rattle.law_world.specs.Guarded.SlotsApart.{AreOfOthers}
 use Rattle.law_world.specs.Guarded.SlotsFound.{FindsItsSlot}
+use Rattle.law_world.proofs.OfGuarded.KeeperSteps.{actor_above}
 use Rattle.law_world.proofs.OfGuarded.KeeperPlaces.{IsKeeperRow, run_row}
 use Rattle.law_world.proofs.OfGuarded.KeeperSeeks.{run_seeks}
 use Rattle.law_world.proofs.OfGuarded.Outer.{WriteOuter}
@@ -135,17 +136,16 @@ module _ (first : Now) (start : ℕ) (opened : IsOpened first start) where
       let spared = session_spared n v.now.actors v.past (shown list) it.read i it.event (subst (λ (count : ℕ). i < count) (sym (same_keeper list)) low) others.0 in
       others_hold v (guard_events n it.read it.event) i slot spared (session_holds later before i slot low others.1 holder)
 
-  keeper_holds : (later before : List Heard) (slot : ℕ) → NoneOfKeeper (events_heard later) → IsHolder (guard_heard first start before).now (keeper_number first) slot
-      → IsHolder (guard_heard first start (later ++ before)).now (keeper_number first) slot
+  keeper_holds : (later before : List Heard) (b slot : ℕ) → keeper_number first ≤ b → NoneOfKeeper (events_heard later) → IsHolder (guard_heard first start before).now b slot
+      → IsHolder (guard_heard first start (later ++ before)).now b slot
   unfolding guard_heard
-  keeper_holds [] before slot others holder = holder
-  keeper_holds (it ∷ later) before slot others holder =
+  keeper_holds [] before b slot up others holder = holder
+  keeper_holds (it ∷ later) before b slot up others holder =
       let list : List Heard = later ++ before in
       let n : Now = heard_run first list in
       let v : GuardWorld = guard_heard first start list in
-      let here : AreOther (guard_events n it.read it.event) (keeper_number n) = keeper_spared n v.now.actors v.past (shown list) it.read it.event others.0 in
-      let spared = subst (λ (a : ℕ). AreOther (guard_events n it.read it.event) a) (same_keeper list) here in
-      others_hold v (guard_events n it.read it.event) (keeper_number first) slot spared (keeper_holds later before slot others.1 holder)
+      let spared = keeper_spared n v.now.actors v.past (shown list) it.read it.event b (subst (λ (k : ℕ). k ≤ b) (sym (same_keeper list)) up) others.0 in
+      others_hold v (guard_events n it.read it.event) b slot spared (keeper_holds later before b slot up others.1 holder)
 
   session_apart : (later before : List Heard) (i : ℕ) (read : List ℕ) (its_event : Event) (slot : ℕ) → (heard_run first before).crashed ≡ false → slot_named (heard_run first before) (Moves i) ≡ Some slot
       → is_of_session i its_event ≡ false → NoneOfSession i (events_heard later) → slot_named (heard_run first (later ++ (record { event = Moves i; read = read } ∷ before))) its_event ≢ Some slot
@@ -179,13 +179,13 @@ module _ (first : Now) (start : ℕ) (opened : IsOpened first start) where
       let w : GuardWorld = guard_heard first start before in
       let one : Heard = record { event = KeeperMoves granted done; read = read } in
       let turned = keeper_turns n w.now.actors w.past (shown before) granted done read slot named in
-      let here : IsHolder (guard_heard first start (one ∷ before)).now (keeper_number n) slot = turned_on before read (KeeperMoves granted done) (keeper_number n) slot going turned in
-      let holder = subst (λ (a : ℕ). IsHolder (guard_heard first start (one ∷ before)).now a slot) (same_keeper before) here in
+      let a : ℕ = keeper_now n in
+      let up : keeper_number first ≤ a = subst (λ (k : ℕ). k ≤ a) (same_keeper before) (actor_above (keeper_number n) n.keeper) in
+      let here : IsHolder (guard_heard first start (one ∷ before)).now a slot = turned_on before read (KeeperMoves granted done) a slot going turned in
       let list : List Heard = later ++ (one ∷ before) in
       let v : GuardWorld = guard_heard first start list in
-      let last = subst (λ (a : ℕ). IsHolder v.now a slot) (sym (same_keeper list)) (keeper_holds later (one ∷ before) slot others holder) in
-      let there = holder_shown list (keeper_number (heard_run first list)) slot last in
-      keeper_turns_not (heard_run first list) v.now.actors v.past (shown list) slot its_event (outer list) there other
+      let there = holder_shown list a slot (keeper_holds later (one ∷ before) a slot up others here) in
+      keeper_turns_not (heard_run first list) v.now.actors v.past (shown list) slot its_event a (subst (λ (k : ℕ). k ≤ a) (sym (same_keeper list)) up) (outer list) there other
 
   pub heard_apart : (later before : List Heard) (it : Heard) (its_event : Event) (slot : ℕ) → (heard_run first before).crashed ≡ false → slot_named (heard_run first before) it.event ≡ Some slot
       → AreOfOthers it.event (its_event ∷ events_heard later) → slot_named (heard_run first (later ++ (it ∷ before))) its_event ≢ Some slot

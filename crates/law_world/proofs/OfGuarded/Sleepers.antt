@@ -1,5 +1,5 @@
 -- While a session sleeps its epoch word is 0, in every life.
-use Rattle.std.proofs.Common.{◌≡◌, ◌≢◌, ◌<◌, ◌∙◌, ◌++◌, zero, suc, ℕ, List, [], ◌∷◌, refl, arith, sym, ap, subst, Bool, true, false}
+use Rattle.std.proofs.Common.{◌≡◌, ◌≢◌, ◌<◌, ◌∙◌, ◌++◌, zero, suc, ℕ, List, [], ◌∷◌, refl, arith, inr, sym, ap, subst, Bool, true, false}
 use Rattle.std.specs.Prelude.{◌==◌, if◌then◌else◌, Option, Some, None, slice_get, slice_set}
 use Rattle.std.proofs.lemmas.Bool.Decides.{nat_tests}
 use Rattle.fkv_map.specs.declared.operations.Call.{Call}
@@ -30,10 +30,10 @@ use Rattle.fkv_world.specs.Runs.{World, happens, read_by_keeper, run}
 use Rattle.fkv_world.specs.World.{Event, Calls, Moves, Commits, Turns, KeeperMoves, Crashes, Now, near, seat_at, session_calls, life_goes}
 use Rattle.fkv_world.proofs.Shown.{is_over, lives, places_stay, same_seat, session_runs}
 use Rattle.law_world.proofs.OfRuns.OneWord.{session_writes}
-use Rattle.law_world.specs.Guarded.GuardEvents.{called_events, guard_events, keeper_number, life_events, mapped, moved_events}
+use Rattle.law_world.specs.Guarded.GuardEvents.{called_events, guard_events, keeper_number, keeper_now, life_events, mapped, moved_events}
 use Rattle.law_world.specs.Guarded.Shows.{IsOpened, guard_opening, seen_by_guard}
 use Rattle.law_world.specs.GuardSessions.Sessions.{called_guard_events}
-use Rattle.law_world.proofs.OfGuarded.KeeperSteps.{keeper_steps, turn_asked_steps}
+use Rattle.law_world.proofs.OfGuarded.KeeperSteps.{actor_above, keeper_steps, turn_asked_steps}
 use Rattle.law_world.proofs.OfGuarded.OneStep.{of_others}
 use Rattle.law_world.proofs.OfGuarded.SessionSteps.{called_steps, session_steps as steps_of_session}
 use Rattle.law_world.proofs.OfGuarded.Worlds.{life_shows, runs_on}
@@ -122,25 +122,28 @@ above_all number count low same = absurd (omega (arith, low, same))
 
 -- an event of another actor
 module _ (n : Now) (read : List ℕ) (number : ℕ) (low : number < n.places.sessions) where
+  not_keeper : keeper_now n ≢ number
+  not_keeper = let above = actor_above (keeper_number n) n.keeper in above_all number (keeper_now n) (omega (arith, low, above))
+
   called_other : (i : ℕ) (call : Call) (found : Option SessionState) → i ≢ number → AreOther (called_events n i call found) number
   called_other i call None other = tt
   called_other i call (Some s) other = by_busy (is_busy s.step)
     where
       by_busy : (busy : Bool) → AreOther (if busy then [] else called_guard_events (seat_at n i) (session_begun (seat_at n i) s call)) number
       by_busy true = tt
-      by_busy false = of_others (keeper_number n) i _ (called_steps (keeper_number n) (seat_at n i) (session_begun (seat_at n i) s call)) number other
+      by_busy false = of_others (keeper_number n) i _ (called_steps (keeper_number n) (seat_at n i) (session_begun (seat_at n i) s call)) number other (inr low)
 
   moved_other : (i : ℕ) (found : Option SessionState) → i ≢ number → AreOther (moved_events n i found) number
   moved_other i None other = tt
-  moved_other i (Some s) other = of_others (keeper_number n) i _ (steps_of_session (keeper_number n) (seat_at n i) n.words s (session_moved (seat_at n i) (near n s)).machine) number other
+  moved_other i (Some s) other = of_others (keeper_number n) i _ (steps_of_session (keeper_number n) (seat_at n i) n.words s (session_moved (seat_at n i) (near n s)).machine) number other (inr low)
 
   life_other : (event : Event) → is_of_session number event ≡ false → AreOther (life_events n read event) number
   unfolding life_events
   life_other (Calls i call) other = called_other i call (slice_get n.sessions i) (apart_from i number other)
   life_other (Moves i) other = moved_other i (slice_get n.sessions i) (apart_from i number other)
   life_other (Commits kind) other = tt
-  life_other Turns other = of_others (keeper_number n) (keeper_number n) _ (turn_asked_steps (keeper_number n) n.keeper) number (above_all number (keeper_number n) low)
-  life_other (KeeperMoves granted done) other = of_others (keeper_number n) (keeper_number n) _ (keeper_steps (keeper_number n) n.shape n.places granted done read n.keeper n.words) number (above_all number (keeper_number n) low)
+  life_other Turns other = of_others (keeper_number n) (keeper_now n) _ (turn_asked_steps (keeper_number n) n.keeper) number not_keeper (inr low)
+  life_other (KeeperMoves granted done) other = of_others (keeper_number n) (keeper_now n) _ (keeper_steps (keeper_number n) n.shape n.places granted done read n.keeper n.words) number not_keeper (inr low)
   life_other Crashes other = tt
 
   events_other : (event : Event) → is_of_session number event ≡ false → AreOther (guard_events n read event) number

@@ -22,7 +22,7 @@ use Rattle.law_world.proofs.OfGuardKeeper.Finds.{keeper_rests, keeper_after_repl
 use Rattle.fkv_world.specs.Actors.{session_slot_named, slot_asked, slot_named, slot_of_step}
 use Rattle.fkv_world.specs.Runs.{World, run}
 use Rattle.fkv_world.specs.World.{Event, Moves, KeeperMoves, Now, seat_at}
-use Rattle.law_world.specs.Guarded.GuardEvents.{keeper_number}
+use Rattle.law_world.specs.Guarded.GuardEvents.{keeper_now}
 use Rattle.law_world.specs.Guarded.Shows.{IsOpened, Shows, seen_by_guard}
 use Rattle.law_world.specs.Guarded.SlotsFound.{FindsSlot, SessionFindsSlot, FindsItsSlot, slot_ask}
 use Rattle.law_world.proofs.OfGuarded.Outer.{WriteOuter, write_outer}
@@ -48,7 +48,7 @@ module _ (n : Now) (actors : List Actor) (past : EpochPast) (shows : Shows n (wo
   session_at_none number s there = let seat = shows.sessions number s there in session_rests W number seat.actor s seat.sits
 
   pub keeper_at_none : slot_asked (keeper_ask n.shape n.places n.keeper) ≡ None
-  keeper_at_none = keeper_rests W (keeper_number n) shows.keeper.actor shows.keeper.seen n.keeper shows.keeper.keeps
+  keeper_at_none = keeper_rests W (keeper_now n) shows.keeper.actor shows.keeper.seen n.keeper shows.keeper.keeps
 
   -- what is found in a slot is there
   found_within : (slot : ℕ) (found : Option (Option Action)) (action : Action) → slice_get n.actions slot ≡ found → found_action found ≡ Some action → slot < drain_slots
@@ -90,10 +90,10 @@ module _ (n : Now) (actors : List Actor) (past : EpochPast) (shows : Shows n (wo
 
       by_behind : (ask : Ask KeeperTold) → behind ≡ ask → is_done (keeper_ask n.shape n.places n.keeper) ≡ false → IsFound n.actions ask
       by_behind (Put slot action) e asks =
-          let empty = keeper_puts W (keeper_number n) shows.keeper.actor shows.keeper.seen n.keeper granted shows.keeper.keeps slot (ap slot_put e) in
+          let empty = keeper_puts W (keeper_now n) shows.keeper.actor shows.keeper.seen n.keeper granted shows.keeper.keeps slot (ap slot_put e) in
           (empty.1, λ other named. subst (λ (i : ℕ). i < drain_slots) (some_same slot other named) empty.0)
       by_behind (Take slot) e asks =
-          let full = keeper_takes W (keeper_number n) shows.keeper.actor shows.keeper.seen n.keeper granted slot shows.keeper.keeps asks e in
+          let full = keeper_takes W (keeper_now n) shows.keeper.actor shows.keeper.seen n.keeper granted slot shows.keeper.keeps asks e in
           (full, λ other named. subst (λ (i : ℕ). i < drain_slots) (some_same slot other named) (found_within slot (slice_get n.actions slot) full.0 refl full.1))
       by_behind ask e asks = (tt, λ other named. cc)
 

@@ -1,5 +1,5 @@
 -- Up to its actor's next event a slot to which an event has turned is nobody else's.
-use Rattle.std.proofs.Common.{◌≡◌, ◌≢◌, ℕ, ◌<◌, ◌∙◌, refl, sym, ap, subst, arith, List, [], ◌∷◌, ◌++◌, length, Bool, true, false}
+use Rattle.std.proofs.Common.{◌≡◌, ◌≢◌, ℕ, ◌<◌, ◌≤◌, ◌∙◌, refl, sym, ap, subst, arith, inl, inr, List, [], ◌∷◌, ◌++◌, length, Bool, true, false}
 use Rattle.std.specs.Prelude.{◌==◌, if◌then◌else◌, Option, Some, None, slice_get, slice_set}
 use Rattle.std.proofs.lemmas.Bool.Decides.{nat_tests}
 use Rattle.fkv_base.specs.Limits.{drain_slots}
@@ -26,14 +26,14 @@ use Rattle.fkv_world.specs.Moves.{Near, keeper_asks, keeper_settled, session_ask
 use Rattle.fkv_world.specs.Runs.{World, read_by_keeper, run}
 use Rattle.fkv_world.proofs.Shown.{places_stay}
 use Rattle.fkv_world.specs.World.{Event, Calls, Moves, Commits, Turns, KeeperMoves, Crashes, Now, near, seat_at}
-use Rattle.law_world.specs.Guarded.GuardEvents.{called_events, guard_events, keeper_number, life_events, moved_events}
+use Rattle.law_world.specs.Guarded.GuardEvents.{called_events, guard_events, keeper_number, keeper_now, life_events, moved_events}
 use Rattle.law_world.specs.Guarded.Shows.{IsOpened, Shows, seen_by_guard}
 use Rattle.law_world.specs.Guarded.SlotsApart.{AreOfOthers}
 use Rattle.law_world.specs.Guarded.SlotsFound.{slot_ask}
 use Rattle.law_world.specs.GuardKeeper.KeeperEvents.{keeper_move_events}
 use Rattle.law_world.specs.GuardKeeper.Settled.{actions_settled}
 use Rattle.law_world.proofs.OfGuarded.Kept.{called_is, moved_is}
-use Rattle.law_world.proofs.OfGuarded.KeeperSteps.{keeper_steps, turn_asked_steps}
+use Rattle.law_world.proofs.OfGuarded.KeeperSteps.{actor_above, keeper_steps, turn_asked_steps}
 use Rattle.law_world.proofs.OfGuarded.LoadedSince.{life_on}
 use Rattle.law_world.proofs.OfGuarded.OneStep.{of_others}
 use Rattle.law_world.proofs.OfGuarded.Outer.{WriteOuter, write_outer}
@@ -109,15 +109,15 @@ module _ (n : Now) (actors : List Actor) (past : EpochPast) (shows : Shows n (wo
       step_turns (keeper_number n) i W (moved_events n i (Some s)) slot shows.sound (moved_is n i (Some s)) (λ e. changes (ap (λ (actions : List (Option Action)). action_at actions slot) (sym same) ∙ e))
 
   pub keeper_turns : (granted done : Bool) (read : List ℕ) (slot : ℕ) → slot_named n (KeeperMoves granted done) ≡ Some slot
-      → TurnsTo W (guard_run W (keeper_move_events (keeper_number n) n.shape n.places granted done read n.keeper n.words)) (keeper_number n) slot
+      → TurnsTo W (guard_run W (keeper_move_events (keeper_now n) n.shape n.places granted done read n.keeper n.words)) (keeper_now n) slot
   keeper_turns granted done read slot named =
-      let events : List GuardEvent = keeper_move_events (keeper_number n) n.shape n.places granted done read n.keeper n.words in
+      let events : List GuardEvent = keeper_move_events (keeper_now n) n.shape n.places granted done read n.keeper n.words in
       let ask : Ask KeeperTold = keeper_ask n.shape n.places n.keeper in
       let behind : Ask KeeperTold = keeper_ask n.shape n.places (keeper_next n.shape n.places n.keeper (reply_to n.words ask) granted) in
       let led = keeps n actors past shows granted done read in
       let same : (guard_run W events).now.actions ≡ actions_settled n.actions (slot_ask ask behind) = led.actions ∙ keeper_actions n.shape n.places granted done read (near n n.keeper) ask in
       let changes = found_moves n.actions (slot_ask ask behind) slot shows.sound.epochs.eight_slots (keeper_found n actors past shows granted) (sym (same_slot ask behind) ∙ named) in
-      step_turns (keeper_number n) (keeper_number n) W events slot shows.sound (keeper_steps (keeper_number n) n.shape n.places granted done read n.keeper n.words)
+      step_turns (keeper_number n) (keeper_now n) W events slot shows.sound (keeper_steps (keeper_number n) n.shape n.places granted done read n.keeper n.words)
       (λ e. changes (ap (λ (actions : List (Option Action)). action_at actions slot) (sym same) ∙ e))
 
   -- The guard's events of an event that isn't this session's are none of its actor, and so of the keeper.
@@ -135,33 +135,33 @@ module _ (n : Now) (actors : List Actor) (past : EpochPast) (shows : Shows n (wo
       apart : (j : ℕ) → (j == i) ≡ false → j ≢ i
       apart j e same = absurd (grind (arith, nat_tests, e, same))
 
-      above : keeper_number n ≢ i
-      above same = absurd (omega (arith, low, same))
+      above : keeper_now n ≢ i
+      above same = let up = actor_above (keeper_number n) n.keeper in absurd (omega (arith, low, same, up))
 
       by : (e : Event) → is_of_session i e ≡ false → AreOther (life_events n read e) i
-      by (Calls j call) its = of_others (keeper_number n) j _ (called_is n j call (slice_get n.sessions j)) i (apart j its)
-      by (Moves j) its = of_others (keeper_number n) j _ (moved_is n j (slice_get n.sessions j)) i (apart j its)
+      by (Calls j call) its = of_others (keeper_number n) j _ (called_is n j call (slice_get n.sessions j)) i (apart j its) (inr low)
+      by (Moves j) its = of_others (keeper_number n) j _ (moved_is n j (slice_get n.sessions j)) i (apart j its) (inr low)
       by (Commits kind) its = tt
-      by Turns its = of_others (keeper_number n) (keeper_number n) _ (turn_asked_steps (keeper_number n) n.keeper) i above
-      by (KeeperMoves granted done) its = of_others (keeper_number n) (keeper_number n) _ (keeper_steps (keeper_number n) n.shape n.places granted done read n.keeper n.words) i above
+      by Turns its = of_others (keeper_number n) (keeper_now n) _ (turn_asked_steps (keeper_number n) n.keeper) i above (inr low)
+      by (KeeperMoves granted done) its = of_others (keeper_number n) (keeper_now n) _ (keeper_steps (keeper_number n) n.shape n.places granted done read n.keeper n.words) i above (inr low)
       by Crashes its = tt
 
-  pub keeper_spared : (read : List ℕ) (event : Event) → is_of_keeper event ≡ false → AreOther (guard_events n read event) (keeper_number n)
+  pub keeper_spared : (read : List ℕ) (event : Event) (b : ℕ) → keeper_number n ≤ b → is_of_keeper event ≡ false → AreOther (guard_events n read event) b
   unfolding life_events
-  keeper_spared read event other = by_crash (keeper_number n) (life_events n read event) (by event other)
+  keeper_spared read event b up other = by_crash b (life_events n read event) (by event other)
     where
-      apart : (j : ℕ) → j < keeper_number n → j ≢ keeper_number n
-      apart j low same = absurd (omega (arith, low, same))
+      apart : (j : ℕ) → j < keeper_number n → j ≢ b
+      apart j low same = absurd (omega (arith, low, same, up))
 
-      called : (j : ℕ) (call : Call) (found : Option SessionState) → slice_get n.sessions j ≡ found → AreOther (called_events n j call found) (keeper_number n)
+      called : (j : ℕ) (call : Call) (found : Option SessionState) → slice_get n.sessions j ≡ found → AreOther (called_events n j call found) b
       called j call None there = tt
-      called j call (Some s) there = of_others (keeper_number n) j _ (called_is n j call (Some s)) (keeper_number n) (apart j (below j s there))
+      called j call (Some s) there = of_others (keeper_number n) j _ (called_is n j call (Some s)) b (apart j (below j s there)) (inl (below j s there))
 
-      moved : (j : ℕ) (found : Option SessionState) → slice_get n.sessions j ≡ found → AreOther (moved_events n j found) (keeper_number n)
+      moved : (j : ℕ) (found : Option SessionState) → slice_get n.sessions j ≡ found → AreOther (moved_events n j found) b
       moved j None there = tt
-      moved j (Some s) there = of_others (keeper_number n) j _ (moved_is n j (Some s)) (keeper_number n) (apart j (below j s there))
+      moved j (Some s) there = of_others (keeper_number n) j _ (moved_is n j (Some s)) b (apart j (below j s there)) (inl (below j s there))
 
-      by : (e : Event) → is_of_keeper e ≡ false → AreOther (life_events n read e) (keeper_number n)
+      by : (e : Event) → is_of_keeper e ≡ false → AreOther (life_events n read e) b
       by (Calls j call) its = called j call (slice_get n.sessions j) refl
       by (Moves j) its = moved j (slice_get n.sessions j) refl
       by Crashes its = tt
@@ -174,19 +174,19 @@ module _ (n : Now) (actors : List Actor) (past : EpochPast) (shows : Shows n (wo
       by : (found : Option SessionState) → slice_get n.sessions j ≡ found → session_slot_named n (seat_at n j) found ≡ Some slot → ⊥
       by None there its = cc
       by (Some s) there its = let same = (session_turns j slot s there outer its).alone i holder in absurd (grind (arith, nat_tests, other, same))
-  session_turns_not read i slot (KeeperMoves granted done) outer holder low other named = let same = (keeper_turns granted done read slot named).alone i holder in absurd (omega (arith, low, same))
+  session_turns_not read i slot (KeeperMoves granted done) outer holder low other named = let same = (keeper_turns granted done read slot named).alone i holder in let up = actor_above (keeper_number n) n.keeper in absurd (omega (arith, low, same, up))
   session_turns_not read i slot event outer holder low other named = cc
 
-  pub keeper_turns_not : (slot : ℕ) (event : Event) → WriteOuter n → IsHolder W.now (keeper_number n) slot → is_of_keeper event ≡ false → slot_named n event ≢ Some slot
-  keeper_turns_not slot (Moves j) outer holder other named = by (slice_get n.sessions j) refl named
+  pub keeper_turns_not : (slot : ℕ) (event : Event) (b : ℕ) → keeper_number n ≤ b → WriteOuter n → IsHolder W.now b slot → is_of_keeper event ≡ false → slot_named n event ≢ Some slot
+  keeper_turns_not slot (Moves j) b up outer holder other named = by (slice_get n.sessions j) refl named
     where
       by : (found : Option SessionState) → slice_get n.sessions j ≡ found → session_slot_named n (seat_at n j) found ≡ Some slot → ⊥
       by None there its = cc
       by (Some s) there its =
-          let same = (session_turns j slot s there outer its).alone (keeper_number n) holder in
+          let same = (session_turns j slot s there outer its).alone b holder in
           let low = below j s there in
-          absurd (omega (arith, low, same))
-  keeper_turns_not slot event outer holder other named = cc
+          absurd (omega (arith, low, same, up))
+  keeper_turns_not slot event b up outer holder other named = cc
 
 -- At the moments of a life.
 shown : (first : World) (start : ℕ) (events : List Event) → IsOpened first.now start
@@ -220,16 +220,15 @@ session_holds_on first start (event ∷ later) events i slot opened low others h
     (session_spared b.now w.now.actors w.past (shown first start (later ++ events) opened) (read_by_keeper b) i event (subst (λ (count : ℕ). i < count) (sym (same_keeper first (later ++ events))) low) others.0)
     (session_holds_on first start later events i slot opened low others.1 holder)
 
-keeper_holds_on : (first : World) (start : ℕ) (later events : List Event) (slot : ℕ) → IsOpened first.now start → NoneOfKeeper later
-    → IsHolder (seen_by_guard first start events).now (keeper_number first.now) slot → IsHolder (seen_by_guard first start (later ++ events)).now (keeper_number first.now) slot
-keeper_holds_on first start [] events slot opened others holder = holder
-keeper_holds_on first start (event ∷ later) events slot opened others holder =
-    let b : World = run first (later ++ events) in
+keeper_holds_on : (first : World) (start : ℕ) (later events : List Event) (b slot : ℕ) → IsOpened first.now start → keeper_number first.now ≤ b → NoneOfKeeper later
+    → IsHolder (seen_by_guard first start events).now b slot → IsHolder (seen_by_guard first start (later ++ events)).now b slot
+keeper_holds_on first start [] events b slot opened up others holder = holder
+keeper_holds_on first start (event ∷ later) events b slot opened up others holder =
+    let here : World = run first (later ++ events) in
     let w : GuardWorld = seen_by_guard first start (later ++ events) in
-    holder_on first start (later ++ events) event (keeper_number first.now) slot
-    (subst (λ (a : ℕ). AreOther (guard_events b.now (read_by_keeper b) event) a) (same_keeper first (later ++ events))
-    (keeper_spared b.now w.now.actors w.past (shown first start (later ++ events) opened) (read_by_keeper b) event others.0))
-    (keeper_holds_on first start later events slot opened others.1 holder)
+    holder_on first start (later ++ events) event b slot
+    (keeper_spared here.now w.now.actors w.past (shown first start (later ++ events) opened) (read_by_keeper here) event b (subst (λ (k : ℕ). k ≤ b) (sym (same_keeper first (later ++ events))) up) others.0)
+    (keeper_holds_on first start later events b slot opened up others.1 holder)
 
 -- an event that goes on and turns to a slot
 turned_on : (first : World) (start : ℕ) (before : List Event) (event : Event) (a slot : ℕ) → IsOpened first.now start → (run first before).now.crashed ≡ false
@@ -282,15 +281,16 @@ keeper_apart first start later before granted done its slot opened going named o
     let n : Now = (run first before).now in
     let w : GuardWorld = seen_by_guard first start before in
     let turned = keeper_turns n w.now.actors w.past (shown first start before opened) granted done (read_by_keeper (run first before)) slot named in
-    let here : IsHolder (seen_by_guard first start (KeeperMoves granted done ∷ before)).now (keeper_number n) slot =
-    turned_on first start before (KeeperMoves granted done) (keeper_number n) slot opened going turned in
-    let holder = subst (λ (a : ℕ). IsHolder (seen_by_guard first start (KeeperMoves granted done ∷ before)).now a slot) (same_keeper first before) here in
+    let a : ℕ = keeper_now n in
+    let up : keeper_number first.now ≤ a = subst (λ (k : ℕ). k ≤ a) (same_keeper first before) (actor_above (keeper_number n) n.keeper) in
+    let here : IsHolder (seen_by_guard first start (KeeperMoves granted done ∷ before)).now a slot =
+    turned_on first start before (KeeperMoves granted done) a slot opened going turned in
     let events : List Event = later ++ (KeeperMoves granted done ∷ before) in
     let b : World = run first events in
     let v : GuardWorld = seen_by_guard first start events in
-    let last = subst (λ (a : ℕ). IsHolder v.now a slot) (sym (same_keeper first events)) (keeper_holds_on first start later (KeeperMoves granted done ∷ before) slot opened others holder) in
-    let there = holder_shown first start events (keeper_number b.now) slot opened last in
-    keeper_turns_not b.now v.now.actors v.past (shown first start events opened) slot its (write_outer first start events opened) there other
+    let last = keeper_holds_on first start later (KeeperMoves granted done ∷ before) a slot opened up others here in
+    let there = holder_shown first start events a slot opened last in
+    keeper_turns_not b.now v.now.actors v.past (shown first start events opened) slot its a (subst (λ (k : ℕ). k ≤ a) (sym (same_keeper first events)) up) (write_outer first start events opened) there other
 
 pub life_apart : (first : World) (start : ℕ) (later before : List Event) (event its : Event) (slot : ℕ) → IsOpened first.now start → (run first before).now.crashed ≡ false
     → slot_named (run first before).now event ≡ Some slot → AreOfOthers event (its ∷ later) → slot_named (run first (later ++ (event ∷ before))).now its ≢ Some slot

@@ -117,6 +117,6 @@ step_turns keeper a w (event ∷ before) slot sound step moves = elim step.0.pla
       let so = step_turns keeper a w before slot sound step.1 (λ e. moves (ap (λ actions. action_at actions slot) (actions_stay (guard_run w before) event quiet) ∙ e)) in
       record { alone = so.alone; holder = quiet_holds (guard_run w before) event a slot quiet so.holder }
   | inr first ↦
-      subst (λ (b : List GuardEvent). action_at (guard_happens (guard_run w b) event).now.actions slot ≢ action_at w.now.actions slot → TurnsTo w (guard_happens (guard_run w b) event) a slot) (sym first)
-      (λ other. one_turns w event a slot step.0.own ((finds_slots w event sound).moves slot other)) moves
+      subst (λ (b : List GuardEvent). action_at (guard_happens (guard_run w b) event).now.actions slot ≢ action_at w.now.actions slot → TurnsTo w (guard_happens (guard_run w b) event) a slot) (sym first.0)
+      (λ other. one_turns w event a slot first.1 ((finds_slots w event sound).moves slot other)) moves
 ]

@@ -18,7 +18,7 @@ use Rattle.fkv_world.specs.Runs.{World, run}
 use Rattle.fkv_world.specs.World.{Event, Now, seat_at}
 use Rattle.fkv_world.proofs.Shown.{keeper_runs, places_stay, session_runs}
 use Rattle.law_world.proofs.OfRuns.Nothing.{none_ever}
-use Rattle.law_world.specs.Guarded.GuardEvents.{keeper_number}
+use Rattle.law_world.specs.Guarded.GuardEvents.{keeper_now}
 use Rattle.law_world.specs.Guarded.Shows.{IsOpened, Shows, seen_by_guard}
 use Rattle.law_world.proofs.OfGuarded.KeeperPlaces.{IsKeeperRow, run_row}
 use Rattle.law_world.proofs.OfGuarded.KeeperSeeks.{run_seeks}
@@ -35,7 +35,7 @@ session_here n actors past shows number k o came opened its same there =
     run_within (world_of n actors past) number seat.actor k o came opened its same seat.sits
 
 pub keeper_here : (n : Now) (actors : List Actor) (past : EpochPast) → Shows n (world_of n actors past) → n.keeper.seek.sessions ≤ n.places.sessions → IsKeeperRow n.places n.keeper → IsWithin n.places (keeper_ask n.shape n.places n.keeper)
-keeper_here n actors past shows few row = keeper_within (world_of n actors past) (keeper_number n) shows.keeper.actor shows.keeper.seen n.keeper shows.keeper.keeps few row
+keeper_here n actors past shows few row = keeper_within (world_of n actors past) (keeper_now n) shows.keeper.actor shows.keeper.seen n.keeper shows.keeper.keeps few row
 
 shown : (first : World) (start : ℕ) (events : List Event) → IsOpened first.now start
     → (let w : GuardWorld = seen_by_guard first start events in Shows (run first events).now (world_of (run first events).now w.now.actors w.past))

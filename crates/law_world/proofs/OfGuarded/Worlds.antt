@@ -1,17 +1,17 @@
 -- Each event of the engine is a list of the guard's events that keeps what the guard's world shows of it, and so is every life.
-use Rattle.std.proofs.Common.{◌≡◌, ◌≢◌, ℕ, zero, suc, ◌<◌, ◌∙◌, refl, sym, ap, subst, arith, List, [], ◌∷◌, ◌++◌, Bool, true, false}
+use Rattle.std.proofs.Common.{◌≡◌, ◌≢◌, ℕ, zero, suc, ◌<◌, ◌≤◌, ◌∙◌, refl, sym, ap, subst, arith, inl, inr, List, [], ◌∷◌, ◌++◌, Bool, true, false}
 use Rattle.std.specs.Prelude.{if◌then◌else◌, Option, Some, None, slice_get, slice_set, replicate}
 use Rattle.fkv_base.specs.declared.shapes.Shape.{Shape}
 use Rattle.fkv_map.specs.declared.operations.Call.{Call}
 use Rattle.fkv_plane.specs.declared.actions.Action.{Action}
 use Rattle.fkv_plane.specs.declared.places.Places.{Places}
 use Rattle.fkv_epoch.specs.EpochWorld.{EpochPast, own_epoch}
-use Rattle.fkv_epoch.proofs.Shown.{item_spared, some_same}
+use Rattle.fkv_epoch.proofs.Shown.{item_spared, item_written, some_same}
 use Rattle.fkv_flush.specs.GuardLevels.{levels_of, Rises}
-use Rattle.fkv_flush.specs.GuardSeen.{LastSeen}
-use Rattle.fkv_flush.specs.GuardWorld.{Actor, GuardNow, GuardNear, GuardWorld, GuardEvent, near, put_near, guard_happens, guard_run}
+use Rattle.fkv_flush.specs.GuardWorld.{Actor, GuardNow, GuardNear, GuardWorld, GuardEvent, near, put_near, with_actor, guard_happens, guard_run}
 use Rattle.fkv_flush.specs.Guarded.{first_actor}
 use Rattle.fkv_flush.proofs.Shown.{IsSound, run_sound, opening_sound, run_now, runs_now, put_there, events_calm, Fits}
+use Rattle.fkv_maintain.specs.Maintaining.{is_flush_resting}
 use Rattle.fkv_keeper.specs.declared.keepers.Keeping.{Keeping}
 use Rattle.fkv_keeper.specs.declared.keepers.Keeping.TheVariants as keeping
 use Rattle.fkv_keeper.specs.KeeperRun.{is_in_hand}
@@ -25,33 +25,35 @@ use Rattle.law_world.specs.GuardSessions.Rows.{SittingKnows}
 use Rattle.law_world.specs.GuardSessions.Sessions.{sitting_likeness, called_guard_events}
 use Rattle.law_world.proofs.OfGuardSessions.WorldSteps.{move_follows}
 use Rattle.law_world.proofs.OfGuardSessions.Followed.{call_follows}
-use Rattle.law_world.specs.GuardKeeper.Followed.{KeeperLed, likeness}
+use Rattle.law_world.specs.GuardKeeper.Followed.{KeeperGoes, likeness}
+use Rattle.law_world.specs.GuardKeeper.KeeperActors.{actor_by, is_aside, keeper_actor, keeping_aside, other_actor, other_by, work_by}
 use Rattle.law_world.specs.GuardKeeper.KeeperEvents.{keeper_move_events}
 use Rattle.law_world.specs.GuardKeeper.KeeperShown.{KeeperKnows, KeepingKnows, keeping_machine, keeping_work}
-use Rattle.law_world.proofs.OfGuardKeeper.WorldKept.{keeper_follows}
-use Rattle.law_world.proofs.OfGuardKeeper.Asked.{turn_asked_to, commit_asked_to, knowledge_stays}
+use Rattle.law_world.proofs.OfGuardKeeper.Asked.{knowledge_stays}
+use Rattle.law_world.proofs.OfGuardKeeper.Goes.{keeper_goes, turn_goes, commit_goes}
 use Rattle.fkv_world.specs.World as world
 use Rattle.fkv_world.specs.World.{Event, Calls, Moves, Commits, Turns, KeeperMoves, Crashes, Now, seat_at, with_session, with_keeper, session_called, session_calls, session_moves, life_goes, happens_now}
 use Rattle.fkv_world.specs.Moves.{Near, session_moved, keeper_moved}
 use Rattle.fkv_world.specs.Runs.{World, run, read_by_keeper}
-use Rattle.law_world.specs.Guarded.GuardEvents.{moved_events, called_events, keeper_number, life_events, guard_events, mapped}
+use Rattle.law_world.specs.Guarded.GuardEvents.{moved_events, called_events, actor_count, keeper_now, keeper_number, life_events, guard_events, mapped}
 use Rattle.law_world.specs.Guarded.Shows.{IsOpened, IsSeated, IsKept, Shows, guard_opening, seen_by_guard}
 use Rattle.law_world.proofs.OfGuarded.Outer.{WriteOuter, AllWriteOuter, all_write_outer}
 use Rattle.law_world.proofs.OfGuarded.OneStep.{IsStep, of_others}
 use Rattle.law_world.proofs.OfGuarded.SessionSteps.{session_steps, called_steps}
-use Rattle.law_world.proofs.OfGuarded.KeeperSteps.{keeper_steps, turn_asked_steps}
+use Rattle.law_world.proofs.OfGuarded.KeeperSteps.{actor_above, other_above, keeper_steps, turn_asked_steps}
 
--- what one actor's step leaves as it was, in another world of the guard
-pub record LeavesOthers (w v : GuardWorld) (a : ℕ) : Type 0 where
+-- what a step leaves as it was, in another world of the guard: all that is of actors apart from it
+pub record LeavesOthers (w v : GuardWorld) (Apart : ℕ → Type 0) : Type 0 where
   pub sound : IsSound v
   pub shape : v.now.shape ≡ w.now.shape
   pub places : v.now.places ≡ w.now.places
-  pub actors : (b : ℕ) → a ≢ b → slice_get v.now.actors b ≡ slice_get w.now.actors b
+  pub actors : (b : ℕ) → Apart b → slice_get v.now.actors b ≡ slice_get w.now.actors b
   pub offsets : Rises (levels_of w.now.words) (levels_of v.now.words)
-  pub epochs : (b : ℕ) → a ≢ b → b < w.now.places.sessions → own_epoch v.now.words b ≡ own_epoch w.now.words b
+  pub epochs : (b : ℕ) → Apart b → b < w.now.places.sessions → own_epoch v.now.words b ≡ own_epoch w.now.words b
 
-pub leaves_others : (w : GuardWorld) (keeper a : ℕ) (events : List GuardEvent) (here : GuardNear) → IsSound w → IsStep keeper a events → runs_now w.now events ≡ put_near w.now a here → LeavesOthers w (guard_run w events) a
-leaves_others w keeper a events here sound step led =
+-- one actor's step
+leaves_others : (w : GuardWorld) (keeper a : ℕ) (events : List GuardEvent) (here : GuardNear) → IsSound w → a < keeper → IsStep keeper a events → runs_now w.now events ≡ put_near w.now a here → LeavesOthers w (guard_run w events) (λ b. a ≢ b)
+leaves_others w keeper a events here sound below step led =
     let same : (guard_run w events).now ≡ put_near w.now a here = run_now w events ∙ led in
     let calm = events_calm w events sound in
     record {
@@ -60,12 +62,36 @@ leaves_others w keeper a events here sound step led =
       places = ap (λ (m : GuardNow). m.places) same;
       actors = λ b other. ap (λ (m : GuardNow). slice_get m.actors b) same ∙ item_spared w.now.actors a b here.actor (λ e. other (sym e));
       offsets = calm.offsets;
-      epochs = λ b other low. calm.others b low (of_others keeper a events step b other);
+      epochs = λ b other low. calm.others b low (of_others keeper a events step b other (inl below));
+    }
+
+below_other : (i j : ℕ) → i < j → i ≢ j
+below_other i j low e = absurd (omega (arith, low, e))
+
+above_other : (k a b : ℕ) → k ≤ a → b < k → b ≢ a
+above_other k a b up low e = absurd (omega (arith, up, low, e))
+
+-- the keeper's step, of its two actors
+keeper_leaves : (w : GuardWorld) (k a o : ℕ) (events : List GuardEvent) (other : Actor) (here : GuardNear) → IsSound w → (acts : ℕ) → k ≤ acts → IsStep k acts events → k ≤ a → k ≤ o
+    → runs_now w.now events ≡ put_near (with_actor w.now o other) a here → LeavesOthers w (guard_run w events) (λ b. b < k)
+keeper_leaves w k a o events other here sound acts up step above over led =
+    let same : (guard_run w events).now ≡ put_near (with_actor w.now o other) a here = run_now w events ∙ led in
+    let calm = events_calm w events sound in
+    record {
+      sound = run_sound w events sound;
+      shape = ap (λ (m : GuardNow). m.shape) same;
+      places = ap (λ (m : GuardNow). m.places) same;
+      actors = λ b low.
+          ap (λ (m : GuardNow). slice_get m.actors b) same
+          ∙ item_spared (slice_set w.now.actors o other) a b here.actor (above_other k a b above low)
+          ∙ item_spared w.now.actors o b other (above_other k o b over low);
+      offsets = calm.offsets;
+      epochs = λ b low seat. calm.others b seat (of_others k acts events step b (λ e. above_other k acts b up low (sym e)) (inr low));
     }
 
 -- so another session sits where it sat, and the keeper is where it was
-session_stays : (w v : GuardWorld) (a b : ℕ) (s : SessionState) → LeavesOthers w v a → a ≢ b → IsSeated w b s → IsSeated v b s
-session_stays w v a b s left other seat =
+session_stays : (w v : GuardWorld) (Apart : ℕ → Type 0) (b : ℕ) (s : SessionState) → LeavesOthers w v Apart → Apart b → IsSeated w b s → IsSeated v b s
+session_stays w v Apart b s left other seat =
     let sits = seat.sits in
     record {
       actor = seat.actor;
@@ -79,18 +105,19 @@ session_stays w v a b s left other seat =
       };
     }
 
-keeper_stays : (w v : GuardWorld) (a b : ℕ) (s : KeeperState) → LeavesOthers w v a → a ≢ b → IsKept w b s → IsKept v b s
-keeper_stays w v a b s left other there =
+keeper_stays : (w v : GuardWorld) (Apart : ℕ → Type 0) (k : ℕ) (s : KeeperState) → LeavesOthers w v Apart → ((b : ℕ) → k ≤ b → Apart b) → IsKept w k s → IsKept v k s
+keeper_stays w v Apart k s left apart there =
     let keeps = there.keeps in
     record {
       actor = there.actor;
       seen = there.seen;
       keeps = record {
         sound = left.sound;
-        got = left.actors b other ∙ keeps.got;
+        got = left.actors (keeper_actor k s) (apart (keeper_actor k s) (actor_above k s)) ∙ keeps.got;
         fits = keeps.fits;
         knows = subst (λ (p : Places). KeeperKnows (levels_of v.now.words) p s) (sym left.places) (knowledge_stays (levels_of w.now.words) (levels_of v.now.words) w.now.places s left.offsets keeps.knows);
       };
+      aside = record { other = there.aside.other; got = left.actors (other_actor k s) (apart (other_actor k s) (other_above k s)) ∙ there.aside.got; fits = there.aside.fits };
     }
 
 -- what an index has where an item was put
@@ -108,9 +135,6 @@ put_at (x ∷ xs) (suc i) (suc j) y z got = elim (put_at xs i j y z got) [
   | There other its ↦ There (λ e. other (omega (arith, e))) its
 ]
 
-below_other : (i j : ℕ) → i < j → i ≢ j
-below_other i j low e = absurd (omega (arith, low, e))
-
 -- one session has gone on, and its actor with it
 session_put : (n : Now) (w : GuardWorld) (i : ℕ) (s : SessionState) (its : Near SessionState) (events : List GuardEvent) → Shows n w → slice_get n.sessions i ≡ Some s → IsStep (keeper_number n) i events
     → SessionFollows w.now i events its.machine its.words its.actions → Shows (with_session n i its) (guard_run w events)
@@ -119,7 +143,8 @@ session_put n w i s its events shows there step f =
     let seat = shows.sessions i s there in
     let here : GuardNear = near its.words its.actions f.follows.actor in
     let same : v.now ≡ put_near w.now i here = run_now w events ∙ f.follows.same in
-    let left = leaves_others w (keeper_number n) i events here shows.sound step f.follows.same in
+    let low : i < keeper_number n = subst (λ (p : Places). i < p.sessions) shows.places seat.sits.below in
+    let left = leaves_others w (keeper_number n) i events here shows.sound low step f.follows.same in
     let sits_here : IsSeated v i its.machine = record {
       actor = f.follows.actor;
       sits = record {
@@ -139,20 +164,49 @@ session_put n w i s its events shows there step f =
       actions = ap (λ (m : GuardNow). m.actions) same;
       sessions = λ j t at. elim (put_at n.sessions i j its.machine t at) [
         | Here at_it is_it ↦ subst (λ (number : ℕ). IsSeated v number t) (sym at_it) (subst (λ (x : SessionState). IsSeated v i x) (sym is_it) sits_here)
-        | There other got ↦ session_stays w v i j t left other (shows.sessions j t got)
+        | There other got ↦ session_stays w v (λ b. i ≢ b) j t left other (shows.sessions j t got)
       ];
-      keeper = keeper_stays w v i (keeper_number n) n.keeper left (below_other i (keeper_number n) (subst (λ (p : Places). i < p.sessions) shows.places seat.sits.below)) shows.keeper;
+      keeper = keeper_stays w v (λ b. i ≢ b) (keeper_number n) n.keeper left (λ b up. below_other i b (omega (arith, low, up))) shows.keeper;
     }
 
--- the keeper has gone on, and its actor with it
-keeper_put : (n : Now) (w : GuardWorld) (its : Near KeeperState) (events : List GuardEvent) (seen : LastSeen) → Shows n w → IsStep (keeper_number n) (keeper_number n) events
-    → KeeperLed w.now (keeper_number n) events seen its.machine its.words its.actions → Shows (with_keeper n its) (guard_run w events)
-keeper_put n w its events seen shows step f =
+-- the keeper's two actors are there, before its step and behind it
+abbrev HasItem : List Actor → ℕ → Type 0
+HasItem actors i = (z : Actor) × (slice_get actors i ≡ Some z)
+
+first_item : (k : ℕ) (actors : List Actor) (aside : Bool) (x y : Actor) → slice_get actors (actor_by k aside) ≡ Some x → slice_get actors (other_by k aside) ≡ Some y → HasItem actors k
+first_item k actors true x y got other = (y, other)
+first_item k actors false x y got other = (x, got)
+
+second_item : (k : ℕ) (actors : List Actor) (aside : Bool) (x y : Actor) → slice_get actors (actor_by k aside) ≡ Some x → slice_get actors (other_by k aside) ≡ Some y → HasItem actors (suc k)
+second_item k actors true x y got other = (x, got)
+second_item k actors false x y got other = (y, other)
+
+next_other : (k : ℕ) → k ≢ suc k
+next_other k e = absurd (omega (arith, e))
+
+put_both : (k : ℕ) (actors : List Actor) (aside : Bool) (other actor : Actor) → HasItem actors k → HasItem actors (suc k)
+    → (let there : List Actor = slice_set (slice_set actors (other_by k aside) other) (actor_by k aside) actor in
+    (slice_get there (actor_by k aside) ≡ Some actor) × (slice_get there (other_by k aside) ≡ Some other))
+put_both k actors true other actor first second =
+    (item_written (slice_set actors k other) (suc k) second.0 actor (item_spared actors k (suc k) other (λ e. next_other k (sym e)) ∙ second.1),
+    item_spared (slice_set actors k other) (suc k) k actor (next_other k) ∙ item_written actors k first.0 other first.1)
+put_both k actors false other actor first second =
+    (item_written (slice_set actors (suc k) other) k first.0 actor (item_spared actors (suc k) k other (next_other k) ∙ first.1),
+    item_spared (slice_set actors (suc k) other) k (suc k) actor (λ e. next_other k (sym e)) ∙ item_written actors (suc k) second.0 other second.1)
+
+-- the keeper has gone on, and its two actors with it
+keeper_put : (n : Now) (w : GuardWorld) (its : Near KeeperState) (events : List GuardEvent) → Shows n w → IsStep (keeper_number n) (keeper_now n) events
+    → KeeperGoes w.now (keeper_number n) events its.machine its.words its.actions → Shows (with_keeper n its) (guard_run w events)
+keeper_put n w its events shows step f =
     let v : GuardWorld = guard_run w events in
-    let a : ℕ = keeper_number n in
-    let here : GuardNear = near its.words its.actions f.follows.actor in
-    let same : v.now ≡ put_near w.now a here = run_now w events ∙ f.follows.same in
-    let left = leaves_others w a a events here shows.sound step f.follows.same in
+    let k : ℕ = keeper_number n in
+    let a : ℕ = keeper_actor k its.machine in
+    let o : ℕ = other_actor k its.machine in
+    let here : GuardNear = near its.words its.actions f.actor in
+    let same : v.now ≡ put_near (with_actor w.now o f.other) a here = run_now w events ∙ f.same in
+    let left = keeper_leaves w k a o events f.other here shows.sound (keeper_now n) (actor_above k n.keeper) step (actor_above k its.machine) (other_above k its.machine) f.same in
+    let x = shows.keeper in
+    let both = put_both k w.now.actors (is_aside its.machine) f.other f.actor (first_item k w.now.actors (is_aside n.keeper) x.actor x.aside.other x.keeps.got x.aside.got) (second_item k w.now.actors (is_aside n.keeper) x.actor x.aside.other x.keeps.got x.aside.got) in
     record {
       sound = left.sound;
       shape = left.shape ∙ shows.shape;
@@ -162,16 +216,17 @@ keeper_put n w its events seen shows step f =
       sessions = λ j t at.
           let seat = shows.sessions j t at in
           let low = subst (λ (p : Places). j < p.sessions) shows.places seat.sits.below in
-          session_stays w v a j t left (λ e. below_other j a low (sym e)) seat;
+          session_stays w v (λ b. b < k) j t left low seat;
       keeper = record {
-        actor = f.follows.actor;
-        seen = seen;
+        actor = f.actor;
+        seen = f.seen;
         keeps = record {
           sound = left.sound;
-          got = ap (λ (m : GuardNow). slice_get m.actors a) same ∙ put_there w.now a shows.keeper.actor here shows.keeper.keeps.got;
-          fits = f.follows.fits;
+          got = ap (λ (m : GuardNow). slice_get m.actors a) same ∙ both.0;
+          fits = f.fits;
           knows = subst (λ (m : GuardNow). KeeperKnows (levels_of m.words) m.places its.machine) (sym same) f.knows;
         };
+        aside = record { other = f.other; got = ap (λ (m : GuardNow). slice_get m.actors o) same ∙ both.1; fits = f.aside };
       };
     }
 
@@ -231,12 +286,11 @@ module _ (n : Now) (actors : List Actor) (past : EpochPast) (shows : Shows n (wo
       session_put n W i s after _ shows there (session_steps (keeper_number n) (seat_at n i) n.words s after.machine) (move_follows W i seat.actor s seat.sits (outer i s there))
 
   pub keeps : (granted done : Bool) (read : List ℕ)
-      → Leads (with_keeper n (keeper_moved n.shape n.places granted done read (world.near n n.keeper))) (keeper_move_events (keeper_number n) n.shape n.places granted done read n.keeper n.words)
+      → Leads (with_keeper n (keeper_moved n.shape n.places granted done read (world.near n n.keeper))) (keeper_move_events (keeper_now n) n.shape n.places granted done read n.keeper n.words)
   keeps granted done read =
       let there = shows.keeper in
-      let its = there.keeps in
-      keeper_put n W (keeper_moved n.shape n.places granted done read (world.near n n.keeper)) _ there.seen shows (keeper_steps (keeper_number n) n.shape n.places granted done read n.keeper n.words)
-      (keeper_follows W (keeper_number n) there.actor there.seen n.keeper granted done read its.sound its.got its.fits its.knows)
+      keeper_put n W (keeper_moved n.shape n.places granted done read (world.near n n.keeper)) _ shows (keeper_steps (keeper_number n) n.shape n.places granted done read n.keeper n.words)
+      (keeper_goes W (keeper_number n) there.actor there.seen n.keeper granted done read there.keeps there.aside)
 
   goes : (read : List ℕ) (event : Event) → WriteOuter n → Leads (life_goes n read event) (life_events n read event)
   unfolding life_goes life_events guard_run
@@ -244,12 +298,10 @@ module _ (n : Now) (actors : List Actor) (past : EpochPast) (shows : Shows n (wo
   goes read (Moves i) outer = moves i (slice_get n.sessions i) refl outer
   goes read (Commits kind) outer =
       let there = shows.keeper in
-      let its = there.keeps in
-      keeper_put n W _ [] there.seen shows tt (commit_asked_to W.now (keeper_number n) there.actor there.seen n.keeper kind its.got its.fits its.knows)
+      keeper_put n W _ [] shows tt (commit_goes W (keeper_number n) there.actor there.seen n.keeper kind there.keeps there.aside)
   goes read Turns outer =
       let there = shows.keeper in
-      let its = there.keeps in
-      keeper_put n W _ _ there.seen shows (turn_asked_steps (keeper_number n) n.keeper) (turn_asked_to W.now (keeper_number n) there.actor there.seen n.keeper its.got its.fits its.knows)
+      keeper_put n W _ _ shows (turn_asked_steps (keeper_number n) n.keeper) (turn_goes W (keeper_number n) there.actor there.seen n.keeper there.keeps there.aside)
   goes read (KeeperMoves granted done) outer = keeps granted done read
   goes read Crashes outer = record { sound = shows.sound; shape = shows.shape; places = shows.places; words = shows.words; actions = shows.actions; sessions = shows.sessions; keeper = shows.keeper }
 
@@ -306,32 +358,46 @@ opened_session w i start closed s (Idle told) at idle sound got low awake saw = 
 }
 opened_session w i start closed s step at idle sound got low awake saw = cc
 
-opened_keeper : (w : GuardWorld) (a start closed : ℕ) (s : KeeperState) (step : Keeping) → s.step ≡ step → is_in_hand step ≡ false → IsSound w → slice_get w.now.actors a ≡ Some (first_actor start closed) → s.finish.sessions ≡ w.now.places.sessions → IsKept w a s
-opened_keeper w a start closed s (keeping.Ended told) at none sound got same = record {
-  actor = first_actor start closed;
-  seen = record { read_only = start; head = closed };
-  keeps = record {
-    sound = sound;
-    got = got;
-    fits = subst (λ (step : Keeping). Fits (likeness (record { read_only = start; head = closed }) (keeping_machine s step) (keeping_work s step)) (first_actor start closed)) (sym at) (record { machine = refl; work = refl; seen = refl; undecided = refl });
-    knows = record { sessions = same; its = subst (λ (step : Keeping). KeepingKnows (levels_of w.now.words) s step) (sym at) tt };
-  };
-}
-opened_keeper w a start closed s step at none sound got same = cc
+-- no flush rests as the store is opened
+opened_keeper : (w : GuardWorld) (k start closed : ℕ) (s : KeeperState) (step : Keeping) → s.step ≡ step → is_in_hand step ≡ false → is_flush_resting s.maintain ≡ false → IsSound w
+    → slice_get w.now.actors k ≡ Some (first_actor start closed) → slice_get w.now.actors (suc k) ≡ Some (first_actor start closed) → s.finish.sessions ≡ w.now.places.sessions → IsKept w k s
+opened_keeper w k start closed s (keeping.Ended told) at none awake sound got behind same =
+    let calm : is_aside s ≡ false = ap (λ (step : Keeping). keeping_aside s step) at ∙ awake in
+    record {
+      actor = first_actor start closed;
+      seen = record { read_only = start; head = closed };
+      keeps = record {
+        sound = sound;
+        got = ap (λ (b : Bool). slice_get w.now.actors (actor_by k b)) calm ∙ got;
+        fits = subst (λ (step : Keeping). Fits (likeness (record { read_only = start; head = closed }) (keeping_machine s step) (keeping_work s step)) (first_actor start closed)) (sym at) (record { machine = refl; work = refl; seen = refl; undecided = refl });
+        knows = record { sessions = same; its = subst (λ (step : Keeping). KeepingKnows (levels_of w.now.words) s step) (sym at) tt };
+      };
+      aside = record {
+        other = first_actor start closed;
+        got = ap (λ (b : Bool). slice_get w.now.actors (other_by k b)) calm ∙ behind;
+        fits = subst (λ (b : Bool). Fits (likeness (record { read_only = start; head = closed }) None (work_by b s.maintain)) (first_actor start closed)) (sym calm) (record { machine = refl; work = refl; seen = refl; undecided = refl });
+      };
+    }
+opened_keeper w k start closed s step at none awake sound got behind same = cc
 
 one_some : (x : ℕ) → x ≡ 1 → 0 < x
 one_some x e = omega (arith, e)
 
-later : (i m : ℕ) → i < m → i < suc m
+later : (i m : ℕ) → i < m → i < suc (suc m)
 later i m low = omega (arith, low)
 
-own_last : (m : ℕ) → m < suc m
-own_last m = omega arith
+first_own : (m : ℕ) → m < suc (suc m)
+first_own m = omega arith
+
+second_own : (m : ℕ) → suc m < suc (suc m)
+second_own m = omega arith
 
 pub opening_shows : (n : Now) (start : ℕ) → IsOpened n start → Shows n (guard_opening n start)
 opening_shows n start opened =
     let w : GuardWorld = guard_opening n start in
-    let sound = opening_sound n.shape n.places (suc (keeper_number n)) n.words start opened.words in
+    let k : ℕ = keeper_number n in
+    let first : Actor = first_actor start (levels_of n.words).closed in
+    let sound = opening_sound n.shape n.places (actor_count n) n.words start opened.words in
     record {
       sound = sound;
       shape = refl;
@@ -341,10 +407,10 @@ opening_shows n start opened =
       sessions = λ i s at.
           let its = opened.sessions i s at in
           let low = opened.seats i s at in
-          opened_session w i start (levels_of n.words).closed s s.step refl its.none_in_hand sound (replicated (suc (keeper_number n)) i (first_actor start (levels_of n.words).closed) (later i (keeper_number n) low)) low
+          opened_session w i start (levels_of n.words).closed s s.step refl its.none_in_hand sound (replicated (actor_count n) i first (later i k low)) low
           (one_some (own_epoch n.words i) (opened.words.epochs.awake i low)) (opened.seen i s at);
-      keeper = opened_keeper w (keeper_number n) start (levels_of n.words).closed n.keeper n.keeper.step refl opened.keeper.none_in_hand sound
-          (replicated (suc (keeper_number n)) (keeper_number n) (first_actor start (levels_of n.words).closed) (own_last (keeper_number n))) opened.finishes;
+      keeper = opened_keeper w k start (levels_of n.words).closed n.keeper n.keeper.step refl opened.keeper.none_in_hand opened.keeper.none_flushed sound
+          (replicated (actor_count n) k first (first_own k)) (replicated (actor_count n) (suc k) first (second_own k)) opened.finishes;
     }
 
 -- so what the guard sees of a life shows it

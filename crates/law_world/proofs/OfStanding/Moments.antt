@@ -18,8 +18,9 @@ use Rattle.fkv_manifest.specs.Made.{commit_run}
 use Rattle.fkv_keeper.specs.declared.answers.KeeperTold.{KeeperTold}
 use Rattle.fkv_keeper.specs.declared.answers.KeeperTold.TheVariants.{Turned}
 use Rattle.fkv_keeper.specs.declared.keepers.Keeping.{Keeping}
-use Rattle.fkv_keeper.specs.declared.keepers.Keeping.TheVariants.{Ended, Maintains, Writes, Finishes}
-use Rattle.fkv_keeper.specs.Keeping.{Finality, KeeperState, come_to}
+use Rattle.fkv_keeper.specs.declared.keepers.Keeping.TheVariants.{Ended, Starts, Maintains, LoadsPhase, Writes, Finishes}
+use Rattle.fkv_maintain.specs.Maintaining.{MaintainState, is_sync_due, flush_begun}
+use Rattle.fkv_keeper.specs.Keeping.{Finality, KeeperState, come_to, parts_begun}
 use Rattle.fkv_keeper.specs.KeeperLaws.{IsRefusal}
 use Rattle.fkv_keeper.specs.KeeperRun.{Writing}
 use Rattle.law_world.specs.Standing.Standing.{Standing, is_at_writes, IsOneInForce, TriplesStand, is_writing_after}
@@ -60,9 +61,14 @@ module _ (shape : Shape) (p : Places) (opened : List ℕ) where
   FlushKnows last its calls (flush.Syncs end) = IsFlushing shape opened last its calls
   FlushKnows last its calls step = IsCalm shape opened last its calls
 
+  -- elsewhere it may rest, before its sync
+  abbrev pub RestKnows : Finality → Standing → List Call → Flushing → Type 0
+  RestKnows last its calls (flush.Syncs end) = IsFlushing shape opened last its calls
+  RestKnows last its calls step = IsCalm shape opened last its calls
+
   abbrev pub MaintainKnows : Finality → Standing → List Call → Maintaining → Flushing → Type 0
   MaintainKnows last its calls part.Flushes flushing = FlushKnows last its calls flushing
-  MaintainKnows last its calls step flushing = IsCalm shape opened last its calls
+  MaintainKnows last its calls step flushing = RestKnows last its calls flushing
 
   -- a commit is written, and all of it is written
   pub record IsWritingNow (s : KeeperState) (its : Standing) (w : Writing) (calls : List Call) : Type 0 where
@@ -77,8 +83,12 @@ module _ (shape : Shape) (p : Places) (opened : List ℕ) where
     pub under_way : IsUnderWay shape opened s.last its commit s.used w calls
     pub answered : commit_answer (commit_run w.first w.answers) ≡ answer.Written
 
+  -- in a commit's parts no flush rests
   abbrev pub Knows : KeeperState → Standing → Writing → List Call → Keeping → Type 0
+  Knows s its w calls (Ended told) = RestKnows s.last its calls s.maintain.flushing
+  Knows s its w calls Starts = RestKnows s.last its calls s.maintain.flushing
   Knows s its w calls Maintains = MaintainKnows s.last its calls s.maintain.step s.maintain.flushing
+  Knows s its w calls LoadsPhase = RestKnows s.last its calls s.maintain.flushing
   Knows s its w calls Writes = IsWritingNow s its w calls
   Knows s its w calls Finishes = IsWrittenNow s its w calls
   Knows s its w calls step = IsCalm shape opened s.last its calls
@@ -128,9 +138,33 @@ module _ (shape : Shape) (p : Places) (opened : List ℕ) where
   calm_flush last its calls (flush.Syncs end) calm = calm_flushes shape opened last its calls calm
   calm_flush last its calls step calm = calm
 
+  pub calm_rest : (last : Finality) (its : Standing) (calls : List Call) (step : Flushing) → IsCalm shape opened last its calls → RestKnows last its calls step
+  calm_rest last its calls (flush.Syncs end) calm = calm_flushes shape opened last its calls calm
+  calm_rest last its calls step calm = calm
+
   pub calm_knows : (last : Finality) (its : Standing) (calls : List Call) (step : Maintaining) (flushing : Flushing) → IsCalm shape opened last its calls → MaintainKnows last its calls step flushing
   calm_knows last its calls part.Flushes flushing calm = calm_flush last its calls flushing calm
-  calm_knows last its calls step flushing calm = calm
+  calm_knows last its calls step flushing calm = calm_rest last its calls flushing calm
+
+  -- where no sync is due, none rests
+  pub awake_calm : (last : Finality) (its : Standing) (calls : List Call) (step : Flushing) → is_sync_due step ≡ false → RestKnows last its calls step → IsCalm shape opened last its calls
+  awake_calm last its calls (flush.Syncs end) awake knows = let clash : true ≡ false = awake in absurd (cc)
+  awake_calm last its calls step awake knows = knows
+
+  -- and where one is, a flush under way rests as it is
+  pub due_rests : (last : Finality) (its : Standing) (calls : List Call) (step : Flushing) → is_sync_due step ≡ true → FlushKnows last its calls step → RestKnows last its calls step
+  due_rests last its calls (flush.Syncs end) due knows = knows
+  due_rests last its calls step due knows = let clash : false ≡ true = due in absurd (cc)
+
+  -- one that rests is taken up, or one begins
+  pub begun_flushes : (last : Finality) (its : Standing) (calls : List Call) (step : Flushing) → RestKnows last its calls step → FlushKnows last its calls (flush_begun step)
+  begun_flushes last its calls (flush.Syncs end) knows = knows
+  begun_flushes last its calls step knows = knows
+
+  -- a turn begins
+  pub begun_knows : (last : Finality) (its : Standing) (calls : List Call) (alone : Bool) (m : MaintainState) → RestKnows last its calls m.flushing → MaintainKnows last its calls (parts_begun alone m).step (parts_begun alone m).flushing
+  begun_knows last its calls true m knows = knows
+  begun_knows last its calls false m knows = knows
 
   -- what a crash leaves in a turn
   pub flush_left : (last : Finality) (its : Standing) (calls : List Call) (step : Flushing) (image : List ℕ) → FlushKnows last its calls step → MayLeave opened calls image → Has shape last its image
@@ -139,9 +173,13 @@ module _ (shape : Shape) (p : Places) (opened : List ℕ) where
   flush_left last its calls (flush.Syncs end) image is left = flushing_left shape opened last its calls image is left
   flush_left last its calls step image is left = calm_left shape opened last its calls image is left
 
+  pub rest_left : (last : Finality) (its : Standing) (calls : List Call) (step : Flushing) (image : List ℕ) → RestKnows last its calls step → MayLeave opened calls image → Has shape last its image
+  rest_left last its calls (flush.Syncs end) image is left = flushing_left shape opened last its calls image is left
+  rest_left last its calls step image is left = calm_left shape opened last its calls image is left
+
   pub maintain_left : (last : Finality) (its : Standing) (calls : List Call) (step : Maintaining) (flushing : Flushing) (image : List ℕ) → MaintainKnows last its calls step flushing → MayLeave opened calls image → Has shape last its image
   maintain_left last its calls part.Flushes flushing image is left = flush_left last its calls flushing image is left
-  maintain_left last its calls step flushing image is left = calm_left shape opened last its calls image is left
+  maintain_left last its calls step flushing image is left = rest_left last its calls flushing image is left
 
   -- the slot that stands names the newest finished commit
   flush_named : (last : Finality) (its : Standing) (calls : List Call) (step : Flushing) → FlushKnows last its calls step → number_at its.slot 8 ≡ last.number.0
@@ -150,15 +188,41 @@ module _ (shape : Shape) (p : Places) (opened : List ℕ) where
   flush_named last its calls (flush.Syncs end) is = is.has.named
   flush_named last its calls step is = is.has.named
 
+  pub rest_named : (last : Finality) (its : Standing) (calls : List Call) (step : Flushing) → RestKnows last its calls step → number_at its.slot 8 ≡ last.number.0
+  rest_named last its calls (flush.Syncs end) is = is.has.named
+  rest_named last its calls step is = is.has.named
+
   pub maintain_named : (last : Finality) (its : Standing) (calls : List Call) (step : Maintaining) (flushing : Flushing) → MaintainKnows last its calls step flushing → number_at its.slot 8 ≡ last.number.0
   maintain_named last its calls part.Flushes flushing is = flush_named last its calls flushing is
-  maintain_named last its calls step flushing is = is.has.named
+  maintain_named last its calls step flushing is = rest_named last its calls flushing is
 
   pub plain_knows : (s : KeeperState) (its : Standing) (w : Writing) (calls : List Call) (step : Keeping) → IsPlain step → IsCalm shape opened s.last its calls → Knows s its w calls step
   plain_knows s its w calls Maintains plain calm = absurd plain
   plain_knows s its w calls Writes plain calm = absurd plain
   plain_knows s its w calls Finishes plain calm = absurd plain
+  plain_knows s its w calls (Ended told) plain calm = calm_rest s.last its calls s.maintain.flushing calm
+  plain_knows s its w calls Starts plain calm = calm_rest s.last its calls s.maintain.flushing calm
+  plain_knows s its w calls LoadsPhase plain calm = calm_rest s.last its calls s.maintain.flushing calm
   plain_knows s its w calls step plain calm = calm
+
+  -- between two parts of a commit a flush may rest
+  abbrev pub IsBetween : Keeping → Type 0
+  IsBetween (Ended told) = ⊤
+  IsBetween Starts = ⊤
+  IsBetween LoadsPhase = ⊤
+  IsBetween step = ⊥
+
+  between_plain : (step : Keeping) → IsBetween step → IsPlain step
+  between_plain (Ended told) between = tt
+  between_plain Starts between = tt
+  between_plain LoadsPhase between = tt
+  between_plain step between = absurd between
+
+  between_knows : (s : KeeperState) (its : Standing) (w : Writing) (calls : List Call) (step : Keeping) → IsBetween step → RestKnows s.last its calls s.maintain.flushing → Knows s its w calls step
+  between_knows s its w calls (Ended told) between knows = knows
+  between_knows s its w calls Starts between knows = knows
+  between_knows s its w calls LoadsPhase between knows = knows
+  between_knows s its w calls step between knows = absurd between
 
   pub plain_unwritten : (step : Keeping) (was : Bool) → IsPlain step → was ≡ false → is_writing_after step was ≡ is_at_writes step
   plain_unwritten Maintains was plain e = absurd plain
@@ -178,6 +242,18 @@ module _ (shape : Shape) (p : Places) (opened : List ℕ) where
         along_awake after (is_writing_after after.step was) its w calls works
         (subst (λ (k : Keeping). (is_writing_after k was ≡ is_at_writes k) × Knows after its w calls k) (sym e)
         (plain_unwritten to was plain now.unwritten, plain_knows after its w calls to plain (subst (λ (f : Finality). IsCalm shape opened f its calls) (sym same) calm)));
+  }
+
+  -- what leads to such a step with a flush at rest
+  pub goes_between : (s after : KeeperState) (was : Bool) (its : Standing) (w : Writing) (calls : List Call) (step to : Keeping) → IsAt s was step → RestKnows s.last its calls after.maintain.flushing → IsBetween to → after.step ≡ to → IsAwake after → after.last ≡ s.last
+      → CommitKnown s.last after.commit → CopyKnown after.copy → GoesTo was its w calls after
+  goes_between s after was its w calls step to now knows between e works same commit copy = record {
+    commit = subst (λ (f : Finality). CommitKnown f after.commit) (sym same) commit;
+    copy = copy;
+    along =
+        along_awake after (is_writing_after after.step was) its w calls works
+        (subst (λ (k : Keeping). (is_writing_after k was ≡ is_at_writes k) × Knows after its w calls k) (sym e)
+        (plain_unwritten to was (between_plain to between) now.unwritten, between_knows after its w calls to between (subst (λ (f : Finality). RestKnows f its calls after.maintain.flushing) (sym same) knows)));
   }
 
   -- and to a turn's parts

@@ -27,7 +27,7 @@ use Rattle.fkv_keeper.specs.declared.answers.KeeperTold.TheVariants.{Turned, Tur
 use Rattle.fkv_keeper.specs.declared.keepers.Keeping.{Keeping}
 use Rattle.fkv_keeper.specs.declared.keepers.Keeping.TheVariants.{Ended, Starts, Maintains, LoadsPhase, Enters, Copies, Seeks, Waits, Writes, Finishes}
 use Rattle.fkv_keeper.specs.declared.last_commits.Checkpoint.{Checkpoint}
-use Rattle.fkv_keeper.specs.Keeping.{Finality, KeeperState, come_to, parts_begun, ended, copy_driven, commit_asked, turn_asked, maintain_ledto, keeping_next, keeping_given, keeping_called, copy_told, asked_for}
+use Rattle.fkv_keeper.specs.Keeping.{Finality, KeeperState, come_to, parts_begun, ended, copy_driven, commit_asked, turn_asked, maintain_ledto, keeping_next, keeping_given, keeping_called, copy_told, asked_for, serves_alone}
 use Rattle.fkv_keeper.specs.KeeperAsks.{keeping_calls}
 use Rattle.fkv_keeper.specs.KeeperLaws.{IsRefusal, IsResting, MayRest}
 use Rattle.fkv_keeper.proofs.Shown.{BreaksInRest, EndsRest, rest_ends, rests_still, run_rests}
@@ -38,7 +38,7 @@ use Rattle.law_world.specs.Standing.Opening.{IsToldBy, IsNumberInTurn, AreNumber
 use Rattle.law_world.specs.Standing.Standing.{Standing, is_at_writes, IsOneInForce, TriplesStand, standing_opened, standing_after, standing, is_writing_after, is_writing}
 use Rattle.law_world.proofs.OfStanding.Fronts.{Has}
 use Rattle.law_world.proofs.OfStanding.Flushed.{IsCalm, calm_left}
-use Rattle.law_world.proofs.OfStanding.Moments.{IsRefused, CopyKnown, CommitKnown, MaintainKnows, IsWritingNow, IsWrittenNow, IsBrokenNow, Along, Knows, IsSound, GoesTo, IsAt, IsAwake, along_awake, calm_knows, maintain_left, maintain_named, goes_plain, goes_maintains, goes_broken}
+use Rattle.law_world.proofs.OfStanding.Moments.{IsRefused, CopyKnown, CommitKnown, MaintainKnows, IsWritingNow, IsWrittenNow, IsBrokenNow, Along, Knows, IsSound, GoesTo, IsAt, IsAwake, along_awake, calm_rest, begun_knows, rest_left, rest_named, maintain_left, maintain_named, goes_between, goes_maintains, goes_broken}
 use Rattle.law_world.proofs.OfStanding.Stepped.{maintain_on, start_on, phase_on, enter_on, copy_on, seek_on}
 use Rattle.law_world.proofs.OfStanding.Turned.{replied, given, called, failed}
 use Rattle.law_world.proofs.OfStanding.Written.{IsUnderWay, under_way_stands, under_way_triples, written_stands}
@@ -183,18 +183,18 @@ module _ (shape : Shape) (p : Places) (opened : List ℕ) (buckets : p.buckets �
 
       -- a turn or a commit is begun
       turn_on : (told : KeeperTold) (broken : Bool) → s.step ≡ Ended told → s.is_broken ≡ broken
-          → GoesTo shape p opened was its w calls (if broken then ended s (TurnRefused fault.Broken) else record s { maintain = parts_begun s.rests s.maintain; is_drain_full = false; step = Maintains })
+          → GoesTo shape p opened was its w calls (if broken then ended s (TurnRefused fault.Broken) else record s { maintain = parts_begun (serves_alone s) s.maintain; is_drain_full = false; step = Maintains })
       turn_on told true e b = let clash : true ≡ false = sym b ∙ works.0 in absurd (cc)
       turn_on told false e b =
-          let begun : KeeperState = record s { maintain = parts_begun s.rests s.maintain; is_drain_full = false; step = Maintains } in
-          goes_maintains shape p opened s begun was its w calls (knows_at (Ended told) e).0 refl works is.commit is.copy (calm_knows shape p opened s.last its calls begun.maintain.step begun.maintain.flushing (knows_at (Ended told) e).1)
+          let begun : KeeperState = record s { maintain = parts_begun (serves_alone s) s.maintain; is_drain_full = false; step = Maintains } in
+          goes_maintains shape p opened s begun was its w calls (knows_at (Ended told) e).0 refl works is.commit is.copy (begun_knows shape p opened s.last its calls (serves_alone s) s.maintain (knows_at (Ended told) e).1)
 
       commit_on : (kind : CommitKind) (told : KeeperTold) (broken rests : Bool) → s.step ≡ Ended told → s.is_broken ≡ broken → s.rests ≡ rests
           → GoesTo shape p opened was its w calls (if broken then ended s (CommitRefused fault.Broken) else (if rests then ended s (CommitRefused fault.CommitRunning) else record s { start = start_begun s.start (asked_for s kind); step = Starts }))
       commit_on kind told true rests e b awake = let clash : true ≡ false = sym b ∙ works.0 in absurd (cc)
       commit_on kind told false true e b awake = let clash : true ≡ false = sym awake ∙ works.1 in absurd (cc)
       commit_on kind told false false e b awake =
-          goes_plain shape p opened s (record s { start = start_begun s.start (asked_for s kind); step = Starts }) was its w calls (Ended told) Starts (at (Ended told) e refl) (knows_at (Ended told) e).1 tt refl works refl is.commit is.copy
+          goes_between shape p opened s (record s { start = start_begun s.start (asked_for s kind); step = Starts }) was its w calls (Ended told) Starts (at (Ended told) e refl) (knows_at (Ended told) e).1 tt refl works refl is.commit is.copy
 
       begins_turn_on : (step : Keeping) → s.step ≡ step → Shows step (begins s (is_in_hand step) (turn_asked s)) (writing_after step BeginsTurn (begins s (is_in_hand step) (turn_asked s)) w) calls
       begins_turn_on (Ended told) e = turn_on told s.is_broken e refl
@@ -229,7 +229,7 @@ module _ (shape : Shape) (p : Places) (opened : List ℕ) (buckets : p.buckets �
             (subst (λ (b : Bool). IsBrokenNow shape p opened (ended s told) b its w calls) (sym same) (record { refused = refusal; stands = broken_now.stands; triples = broken_now.triples; named = broken_now.named }));
       }
 
-      refuses_turn : (b : Bool) → s.is_broken ≡ b → GoesTo shape p opened was its w calls (if b then ended s (TurnRefused fault.Broken) else record s { maintain = parts_begun s.rests s.maintain; is_drain_full = false; step = Maintains })
+      refuses_turn : (b : Bool) → s.is_broken ≡ b → GoesTo shape p opened was its w calls (if b then ended s (TurnRefused fault.Broken) else record s { maintain = parts_begun (serves_alone s) s.maintain; is_drain_full = false; step = Maintains })
       refuses_turn true e = refuses (TurnRefused fault.Broken) tt refl
       refuses_turn false e = let clash : true ≡ false = sym broken ∙ e in absurd (cc)
 
@@ -410,6 +410,9 @@ module _ (shape : Shape) (p : Places) (opened : List ℕ) (buckets : p.buckets �
           subst (λ (b : Bool). IsOneInForce b s.last its w.first image) (sym e) (under_way_stands shape opened s.last its knows.commit s.used w calls knows.under_way image left),
           under_way_triples shape opened s.last its knows.commit s.used w calls knows.under_way image left,
         )
+        by_step (Ended told) e knows = has_it (rest_left shape p opened s.last its calls s.maintain.flushing image knows left) e
+        by_step Starts e knows = has_it (rest_left shape p opened s.last its calls s.maintain.flushing image knows left) e
+        by_step LoadsPhase e knows = has_it (rest_left shape p opened s.last its calls s.maintain.flushing image knows left) e
         by_step step e knows = has_it (calm_left shape opened s.last its calls image knows left) e
 
         by_broken : (b : Bool) → Along shape p opened s was its w calls b → IsOneInForce was s.last its w.first image × TriplesStand shape s.last.checkpoint its image
@@ -423,6 +426,9 @@ module _ (shape : Shape) (p : Places) (opened : List ℕ) (buckets : p.buckets �
         by_step Maintains knows = maintain_named shape p opened s.last its calls s.maintain.step s.maintain.flushing knows
         by_step Writes knows = knows.under_way.has.named
         by_step Finishes knows = knows.under_way.has.named
+        by_step (Ended told) knows = rest_named shape p opened s.last its calls s.maintain.flushing knows
+        by_step Starts knows = rest_named shape p opened s.last its calls s.maintain.flushing knows
+        by_step LoadsPhase knows = rest_named shape p opened s.last its calls s.maintain.flushing knows
         by_step step knows = knows.has.named
 
         by_broken : (b : Bool) → Along shape p opened s was its w calls b → number_at its.slot 8 ≡ s.last.number.0
@@ -493,7 +499,7 @@ module _ (shape : Shape) (p : Places) (opened : List ℕ) (opening : KeeperState
   }
     where
       by_step : (step : Keeping) → is_in_hand step ≡ false → (false ≡ is_at_writes step) × Knows shape p opened opening first_standing first_writing [] step
-      by_step (Ended its) none = (refl, opening_calm)
+      by_step (Ended its) none = (refl, calm_rest shape p opened opening.last first_standing [] opening.maintain.flushing opening_calm)
       by_step step none = absurd (cc)
 
   -- each event goes on so

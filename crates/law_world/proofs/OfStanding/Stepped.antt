@@ -1,5 +1,5 @@
 -- What each step of the keeper leads to.
-use Rattle.std.proofs.Common.{◌≡◌, ℕ, List, [], ◌∷◌, Bool, true, false, refl, ◌∙◌, ap}
+use Rattle.std.proofs.Common.{◌≡◌, ℕ, List, [], ◌∷◌, Bool, true, false, refl, sym, subst, ◌∙◌, ap}
 use Rattle.std.specs.Prelude.{if◌then◌else◌, Option, Some, None, ◌||◌}
 use Rattle.fkv_base.specs.declared.faults.Fault.TheVariants as fault
 use Rattle.fkv_base.specs.declared.numbers.Addr.{Addr}
@@ -27,16 +27,16 @@ use Rattle.fkv_keeper.specs.declared.answers.KeeperTold.{KeeperTold}
 use Rattle.fkv_keeper.specs.declared.answers.KeeperTold.TheVariants.{Turned, TurnRefused, Begun, CommitRefused}
 use Rattle.fkv_keeper.specs.declared.keepers.Keeping.{Keeping}
 use Rattle.fkv_keeper.specs.declared.keepers.Keeping.TheVariants.{Ended, Starts, Maintains, LoadsPhase, Enters, Copies, Seeks, Waits}
-use Rattle.fkv_keeper.specs.Keeping.{Finality, KeeperState, copied, copy_driven, points_known, ended, start_ledto, maintain_ledto, copies, part_begun, writes_taken_up, phase_ledto, enter_ledto, copy_ledto, seek_ledto, is_copy_resting}
+use Rattle.fkv_keeper.specs.Keeping.{Finality, KeeperState, copied, copy_driven, points_known, ended, turned, unless_flush_rests, start_ledto, maintain_ledto, copies, part_begun, writes_taken_up, phase_ledto, enter_ledto, copy_ledto, seek_ledto, is_copy_resting}
 use Rattle.fkv_keeper.specs.KeeperRun.{Writing}
 use Rattle.fkv_maintain.specs.declared.maintaining.MaintainAnswer.{MaintainAnswer}
 use Rattle.fkv_maintain.specs.declared.maintaining.MaintainAnswer.TheVariants as maintain
-use Rattle.fkv_maintain.specs.Maintaining.{MaintainState, maintain_ask}
+use Rattle.fkv_maintain.specs.Maintaining.{MaintainState, is_sync_due, maintain_ask}
 use Rattle.law_world.specs.Standing.Opening.{IsNumberInTurn}
 use Rattle.law_world.specs.Standing.Standing.{Standing}
-use Rattle.law_world.proofs.OfStanding.Flushed.{IsCalm, calm_left}
-use Rattle.law_world.proofs.OfStanding.Moments.{IsAwake, IsPlain, CopyKnown, CommitKnown, MaintainKnows, GoesTo, IsAt, goes_plain, goes_maintains, goes_broken}
-use Rattle.law_world.proofs.OfStanding.Turned.{calm_at_end}
+use Rattle.law_world.proofs.OfStanding.Flushed.{IsCalm}
+use Rattle.law_world.proofs.OfStanding.Moments.{IsAwake, IsPlain, IsBetween, CopyKnown, CommitKnown, RestKnows, MaintainKnows, GoesTo, IsAt, goes_plain, goes_between, goes_maintains, goes_broken, awake_calm, rest_left, rest_named}
+use Rattle.law_world.proofs.OfStanding.Turned.{rests_at_end}
 
 module _ (shape : Shape) (p : Places) (opened : List ℕ) where
   -- a commit that is known keeps its number
@@ -56,14 +56,18 @@ module _ (shape : Shape) (p : Places) (opened : List ℕ) where
     pub maintain_on : (m : MaintainState) (ask : Ask MaintainAnswer) → step ≡ Maintains → MaintainKnows shape p opened s.last its calls m.step m.flushing → maintain_ask shape p m ≡ ask → Goes (maintain_ledto (record s { maintain = m }) ask)
     unfolding maintain_ledto
     maintain_on m (Done maintain.Through) e is asks =
-        goes_plain shape p opened s _ was its w calls step LoadsPhase now (calm_at_end shape p opened s.last its calls m (Done maintain.Through) is asks (λ on. on)) tt refl now.works refl now.commit now.copy
+        goes_between shape p opened s _ was its w calls step LoadsPhase now (rests_at_end shape p opened s.last its calls m (Done maintain.Through) is asks (λ on. on)) tt refl now.works refl now.commit now.copy
     maintain_on m (Done maintain.Spent) e is asks =
-        goes_plain shape p opened s _ was its w calls step (Ended (TurnRefused fault.EpochsSpent)) now (calm_at_end shape p opened s.last its calls m (Done maintain.Spent) is asks (λ on. on)) tt refl now.works refl now.commit now.copy
+        goes_between shape p opened s _ was its w calls step (Ended (TurnRefused fault.EpochsSpent)) now (rests_at_end shape p opened s.last its calls m (Done maintain.Spent) is asks (λ on. on)) tt refl now.works refl now.commit now.copy
     maintain_on m (Done maintain.Broken) e is asks =
         goes_broken shape p opened _ was its w calls (TurnRefused fault.Device) now.unwritten refl tt refl now.commit now.copy
-        (calm_at_end shape p opened s.last its calls m (Done maintain.Broken) is asks (λ on. on)).has.named
-        (λ image left. calm_left shape opened s.last its calls image (calm_at_end shape p opened s.last its calls m (Done maintain.Broken) is asks (λ on. on)) left)
+        (rest_named shape p opened s.last its calls m.flushing (rests_at_end shape p opened s.last its calls m (Done maintain.Broken) is asks (λ on. on)))
+        (λ image left. rest_left shape p opened s.last its calls m.flushing image (rests_at_end shape p opened s.last its calls m (Done maintain.Broken) is asks (λ on. on)) left)
     maintain_on m ask e is asks = goes_maintains shape p opened s (record s { maintain = m }) was its w calls now.unwritten (now.at ∙ e) now.works now.commit now.copy is
+
+    either_on : (t : Bool) (a b : KeeperState) → Goes a → Goes b → Goes (if t then a else b)
+    either_on true a b one other = one
+    either_on false a b one other = other
 
     module _ (calm : IsCalm shape opened s.last its calls) where
       on : (after : KeeperState) (to : Keeping) → IsPlain to → after.step ≡ to → IsAwake shape p opened after → after.last ≡ s.last → CommitKnown shape p opened s.last after.commit → CopyKnown shape p opened after.copy → Goes after
@@ -72,22 +76,11 @@ module _ (shape : Shape) (p : Places) (opened : List ℕ) where
       ends : (told : KeeperTold) → Goes (ended s told)
       ends told = on (ended s told) (Ended told) tt refl now.works refl now.commit now.copy
 
-      pub start_on : (x : StartState) (ask : Ask StartAnswer) → IsPlain step → IsNumberInTurn s.last.number Starts (start_ledto (record s { start = x }) ask).step → Goes (start_ledto (record s { start = x }) ask)
-      unfolding start_ledto
-      start_on x (Done (start.Begun number first)) plain turn = on _ (Ended (Begun number)) tt refl (now.works.0, refl) refl (record { next = turn.0; fits = turn.1 }) tt
-      start_on x (Done (start.Refused why)) plain turn = on _ (Ended (CommitRefused why)) tt refl now.works refl now.commit now.copy
-      start_on x (Done start.Idle) plain turn = on _ (Ended (CommitRefused fault.CommitRunning)) tt refl now.works refl now.commit now.copy
-      start_on x ask plain turn = on _ step plain now.at now.works refl now.commit now.copy
-
       -- what the phase calls for
       taken_known : (rests : Bool) → CopyKnown shape p opened (if rests then s.copy else Some (copy_begun p))
       unfolding copying_after copied_after
       taken_known true = now.copy
       taken_known false = record { replies = []; is = refl }
-
-      either_on : (t : Bool) (a b : KeeperState) → Goes a → Goes b → Goes (if t then a else b)
-      either_on true a b one other = one
-      either_on false a b one other = other
 
       copies_on : (granted : Bool) → Goes (copies p s granted)
       copies_on granted =
@@ -100,15 +93,6 @@ module _ (shape : Shape) (p : Places) (opened : List ℕ) where
           either_on c.is_copied _ _ (on (record s { seek = seek_begun s.seek c.number s.last.points; has_points = false; step = Seeks }) Seeks tt refl now.works refl now.commit now.copy) (copies_on granted)
       part_on c (Says phase.WaitFlush version) granted = either_on s.has_points _ _ (on _ Waits tt refl now.works refl now.commit now.copy) (ends (Turned false s.is_drain_full))
       part_on c said granted = ends (Turned false s.is_drain_full)
-
-      pub phase_on : (found : Option Commit) (said : PhaseSaid) (granted : Bool) → Goes (phase_ledto p s found said granted)
-      unfolding phase_ledto
-      phase_on None said granted = ends (Turned false s.is_drain_full)
-      phase_on (Some c) said granted = by s.rests now.works.1
-        where
-          by : (rests : Bool) → rests ≡ false → Goes (if rests then writes_taken_up s granted else part_begun p s c said granted)
-          by true awake = cc
-          by false awake = part_on c said granted
 
       pub enter_on : (x : EnterState) (ask : Ask EnterAnswer) → IsPlain step → Goes (enter_ledto (record s { enter = x }) ask)
       unfolding enter_ledto
@@ -136,3 +120,35 @@ module _ (shape : Shape) (p : Places) (opened : List ℕ) where
       seek_on x (Done seek.Owing) plain = on _ (Ended (Turned false s.is_drain_full)) tt refl now.works refl now.commit now.copy
       seek_on x (Done seek.Idle) plain = on _ (Ended (Turned false s.is_drain_full)) tt refl now.works refl now.commit now.copy
       seek_on x ask plain = on _ step plain now.at now.works refl now.commit now.copy
+
+    -- a flush may rest
+    module _ (knows : RestKnows shape p opened s.last its calls s.maintain.flushing) where
+      between : (after : KeeperState) (to : Keeping) → IsBetween shape p opened to → after.step ≡ to → IsAwake shape p opened after → after.last ≡ s.last → after.maintain ≡ s.maintain → CommitKnown shape p opened s.last after.commit → CopyKnown shape p opened after.copy → Goes after
+      between after to is_between e works same kept commit copy =
+          goes_between shape p opened s after was its w calls step to now (subst (λ (m : MaintainState). RestKnows shape p opened s.last its calls m.flushing) (sym kept) knows) is_between e works same commit copy
+
+      pub start_on : (x : StartState) (ask : Ask StartAnswer) → IsBetween shape p opened step → IsNumberInTurn s.last.number Starts (start_ledto (record s { start = x }) ask).step → Goes (start_ledto (record s { start = x }) ask)
+      unfolding start_ledto
+      start_on x (Done (start.Begun number first)) plain turn = between _ (Ended (Begun number)) tt refl (now.works.0, refl) refl refl (record { next = turn.0; fits = turn.1 }) tt
+      start_on x (Done (start.Refused why)) plain turn = between _ (Ended (CommitRefused why)) tt refl now.works refl refl now.commit now.copy
+      start_on x (Done start.Idle) plain turn = between _ (Ended (CommitRefused fault.CommitRunning)) tt refl now.works refl refl now.commit now.copy
+      start_on x ask plain turn = between _ step plain now.at now.works refl refl now.commit now.copy
+
+      over : Goes (turned s)
+      over = between _ (Ended (Turned false s.is_drain_full)) tt refl now.works refl refl now.commit now.copy
+
+      lets : (granted : Bool) → Goes (turned (record s { is_granted = granted }))
+      lets granted = between _ (Ended (Turned false s.is_drain_full)) tt refl now.works refl refl now.commit now.copy
+
+      lets_part : (c : Commit) (said : PhaseSaid) (granted rests : Bool) → is_sync_due s.maintain.flushing ≡ rests → Goes (if rests then turned (record s { is_granted = granted }) else part_begun p s c said granted)
+      lets_part c said granted true e = lets granted
+      lets_part c said granted false e = part_on (awake_calm shape p opened s.last its calls s.maintain.flushing e knows) c said granted
+
+      pub phase_on : (found : Option Commit) (said : PhaseSaid) (granted : Bool) → Goes (phase_ledto p s found said granted)
+      unfolding phase_ledto
+      phase_on None said granted = either_on (is_sync_due s.maintain.flushing) _ _ (lets granted) over
+      phase_on (Some c) said granted = by s.rests now.works.1
+        where
+          by : (rests : Bool) → rests ≡ false → Goes (if rests then writes_taken_up s granted else unless_flush_rests s granted (part_begun p s c said granted))
+          by true awake = cc
+          by false awake = lets_part c said granted (is_sync_due s.maintain.flushing) refl

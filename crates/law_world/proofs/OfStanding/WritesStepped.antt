@@ -33,7 +33,7 @@ use Rattle.fkv_keeper.specs.Keeping.{Finality, KeeperState, triples_copied, byte
 use Rattle.fkv_keeper.specs.KeeperRun.{Writing}
 use Rattle.law_world.specs.Standing.Standing.{Standing, is_at_writes, IsOneInForce, standing_after, is_writing_after}
 use Rattle.law_world.proofs.OfStanding.Flushed.{IsCalm}
-use Rattle.law_world.proofs.OfStanding.Moments.{CopyKnown, CommitKnown, IsWritingNow, IsWrittenNow, Along, Knows, IsSound, GoesTo, IsAt, IsAwake, along_awake, goes_plain}
+use Rattle.law_world.proofs.OfStanding.Moments.{CopyKnown, CommitKnown, IsWritingNow, IsWrittenNow, Along, Knows, IsSound, GoesTo, IsAt, IsAwake, along_awake, calm_rest, goes_plain}
 use Rattle.law_world.proofs.OfStanding.Written.{IsNext, Lies, IsUnderWay, slot_names, writes_begin, under_way_stands, under_way_triples, finished_calm}
 
 -- sixteen bytes for each triple
@@ -214,7 +214,7 @@ module _ (shape : Shape) (p : Places) (opened : List ℕ) (buckets : p.buckets �
     finished_on x (Some c) in_hand e known = record {
       commit = tt;
       copy = copy;
-      along = along_awake shape p opened (finished (record s { finish = x }) (Some c)) false (standing_after Finishes (Ended (Turned true s.is_drain_full)) (Some c) w.first its) w calls works (refl, calm);
+      along = along_awake shape p opened (finished (record s { finish = x }) (Some c)) false (standing_after Finishes (Ended (Turned true s.is_drain_full)) (Some c) w.first its) w calls works (refl, calm_rest shape p opened (finished (record s { finish = x }) (Some c)).last (standing_after Finishes (Ended (Turned true s.is_drain_full)) (Some c) w.first its) calls s.maintain.flushing calm);
     }
       where
         same : known.commit ≡ c

@@ -13,7 +13,7 @@ use Rattle.fkv_keeper.specs.declared.answers.KeeperTold.{KeeperTold}
 use Rattle.fkv_keeper.specs.declared.answers.KeeperTold.TheVariants.{Device}
 use Rattle.fkv_keeper.specs.declared.keepers.Keeping.{Keeping}
 use Rattle.fkv_keeper.specs.declared.keepers.Keeping.TheVariants as keeping
-use Rattle.fkv_keeper.specs.Keeping.{KeeperState, keeper_ask, keeper_next}
+use Rattle.fkv_keeper.specs.Keeping.{KeeperState, serves_alone, keeper_ask, keeper_next}
 use Rattle.fkv_keeper.specs.KeeperRun.{is_in_hand}
 use Rattle.law_world.specs.GuardKeeper.CommitEvents.{enter_begins, seek_begins, starting_events, entering_events, seeking_events, finishing_events}
 use Rattle.law_world.specs.GuardKeeper.MaintainEvents.{maintain_events, maintain_called_events}
@@ -55,10 +55,10 @@ keeper_events_at a shape p granted done read s words ask = keeping_events a shap
 abbrev pub keeper_move_events : ℕ → Shape → Places → Bool → Bool → List ℕ → KeeperState → List ℕ → List GuardEvent
 keeper_move_events a shape p granted done read s words = keeper_events_at a shape p granted done read s words (keeper_ask shape p s)
 
--- A turn scans first. Where writes rest it serves alone, of a log that begins at this address.
+-- A turn scans first, or serves alone, of a log that begins at this address.
 abbrev pub turn_task : ℕ → Bool → GuardTask
-turn_task begin rests = if rests then ToServe begin else ToDo ToScan
+turn_task begin alone = if alone then ToServe begin else ToDo ToScan
 
 -- It begins where no call is in hand and the device has not failed. A commit that begins is nothing to the guard yet.
 abbrev pub turn_asked_events : ℕ → KeeperState → List GuardEvent
-turn_asked_events a s = if is_in_hand s.step then [] else (if s.is_broken then [] else Begins a (turn_task s.maintain.begin.0 s.rests) ∷ [])
+turn_asked_events a s = if is_in_hand s.step then [] else (if s.is_broken then [] else Begins a (turn_task s.maintain.begin.0 (serves_alone s)) ∷ [])

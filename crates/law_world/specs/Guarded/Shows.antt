@@ -1,5 +1,5 @@
 -- How the guard's world shows the engine's, how a life begins for that, and when its steps are permitted.
-use Rattle.std.specs.Prelude.{◌≡◌, ◌^◌, ◌<◌, ⊤, ℕ, suc, List, [], ◌∷◌, replicate, slice_get, Option, Some, None}
+use Rattle.std.specs.Prelude.{◌≡◌, ◌^◌, ◌<◌, ⊤, ℕ, List, [], ◌∷◌, replicate, slice_get, Option, Some, None}
 use Rattle.fkv_base.specs.Limits.{drain_slots}
 use Rattle.fkv_flush.specs.Guarded as guard
 use Rattle.fkv_flush.specs.GuardLevels.{levels_of}
@@ -13,15 +13,16 @@ use Rattle.fkv_session.specs.Sessions.{SessionState}
 use Rattle.law_world.specs.GuardSessions.Followed.{Sits}
 use Rattle.law_world.specs.GuardSessions.Likenesses.{last_seen}
 use Rattle.law_world.specs.GuardSessions.InPlace.{IsBelowTail, SessionMayChange}
-use Rattle.law_world.specs.GuardKeeper.Followed.{IsKeepers}
+use Rattle.law_world.specs.GuardKeeper.Followed.{IsKeepers, IsAside}
+use Rattle.law_world.specs.GuardKeeper.KeeperActors.{keeper_actor}
 use Rattle.fkv_world.specs.World.{Event, Moves, Now}
 use Rattle.fkv_world.specs.Runs.{World, run}
-use Rattle.law_world.specs.Guarded.GuardEvents.{mapped, keeper_number}
+use Rattle.law_world.specs.Guarded.GuardEvents.{mapped, keeper_number, actor_count}
 
 -- The store was just opened, with its records' end at `start`: its words and places are as the guard has them then, the drain slots are empty, each session is
 -- as its store was opened and has seen where the records end, and so is the keeper, which finishes commits for as many sessions as the store has.
 pub record IsOpened (n : Now) (start : ℕ) : Type 0 where
-  pub words : guard.IsOpened n.shape n.places (suc (keeper_number n)) n.words start
+  pub words : guard.IsOpened n.shape n.places (actor_count n) n.words start
   pub buckets : n.places.buckets ≡ 2 ^ n.shape.bucket_bits
   pub slots : n.actions ≡ replicate drain_slots None
   pub seats : (number : ℕ) (s : SessionState) → slice_get n.sessions number ≡ Some s → number < n.places.sessions
@@ -35,14 +36,15 @@ pub record IsSeated (w : GuardWorld) (number : ℕ) (s : SessionState) : Type 0 
   pub actor : Actor
   pub sits : Sits w number actor s
 
--- the keeper is at the actor of this number
+-- the keeper is at the actor that works for it, of the two from this number on, and the other one is at what rests
 pub record IsKept (w : GuardWorld) (number : ℕ) (s : KeeperState) : Type 0 where
   pub actor : Actor
   pub seen : LastSeen
-  pub keeps : IsKeepers w number actor seen s
+  pub keeps : IsKeepers w (keeper_actor number s) actor seen s
+  pub aside : IsAside w number s
 
 -- The guard's world is sound, and has the shape, the places, the words and the actions of the engine's; each session sits at its actor, and the keeper is at its
--- own.
+-- own two.
 pub record Shows (n : Now) (w : GuardWorld) : Type 0 where
   pub sound : IsSound w
   pub shape : w.now.shape ≡ n.shape
@@ -82,7 +84,7 @@ AreBelowTail opening (event ∷ before) = ChangesBelowTail (run opening before).
 
 -- what the guard has as a life begins, and what it has of that life
 abbrev pub guard_opening : Now → ℕ → GuardWorld
-guard_opening n start = guard.opening n.shape n.places (suc (keeper_number n)) n.words start
+guard_opening n start = guard.opening n.shape n.places (actor_count n) n.words start
 
 abbrev pub seen_by_guard : World → ℕ → List Event → GuardWorld
 seen_by_guard opening start events = guard_run (guard_opening opening.now start) (mapped opening events)

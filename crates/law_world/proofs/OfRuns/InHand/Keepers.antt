@@ -41,13 +41,13 @@ use Rattle.fkv_manifest.specs.declared.answers.WriteAnswer.TheVariants as write
 use Rattle.fkv_manifest.specs.Committing.{commit_answer, commit_next}
 use Rattle.fkv_maintain.specs.declared.maintaining.MaintainAnswer.{MaintainAnswer}
 use Rattle.fkv_maintain.specs.declared.maintaining.MaintainAnswer.TheVariants as maintain
-use Rattle.fkv_maintain.specs.Maintaining.{maintain_ask, maintain_called, maintain_given, maintain_next}
+use Rattle.fkv_maintain.specs.Maintaining.{maintain_ask, maintain_called, maintain_given, maintain_next, is_flush_resting}
 use Rattle.fkv_keeper.specs.declared.answers.KeeperTold.{KeeperTold}
 use Rattle.fkv_keeper.specs.declared.answers.KeeperTold.TheVariants.{Device}
 use Rattle.fkv_keeper.specs.declared.keepers.Keeping.{Keeping}
 use Rattle.fkv_keeper.specs.declared.keepers.Keeping.TheVariants.{Ended, Starts, Maintains, LoadsPhase, Enters, Copies, Seeks, Waits, Writes, Finishes}
 use Rattle.fkv_keeper.specs.KeeperRun.{KeeperEvent, BeginsTurn, BeginsCommit, Replies, Gets, Calls, begins, is_in_hand, keeper_happens, keeper_run}
-use Rattle.fkv_keeper.specs.Keeping.{must_rest, parts_begun, KeeperState, commit_asked, copies, copies_next, copy_asked, copy_driven, copy_ledto, device_passed, enter_ledto, finish_ledto, finished, keeper_ask, keeper_next, keeping_ask, keeping_called, keeping_given, keeping_next, maintain_ledto, part_begun, phase_ledto, seek_ledto, start_ledto, turn_asked, turn_over, turned, wait_ledto, write_asked, write_ledto, writes_begun, is_copy_resting}
+use Rattle.fkv_keeper.specs.Keeping.{must_rest, parts_begun, KeeperState, commit_asked, copies, copies_next, copy_asked, copy_driven, copy_ledto, device_passed, enter_ledto, finish_ledto, finished, keeper_ask, keeper_next, keeping_ask, keeping_called, keeping_given, keeping_next, maintain_ledto, part_begun, phase_ledto, seek_ledto, start_ledto, turn_asked, turn_over, turned, wait_ledto, write_asked, write_ledto, writes_begun, is_copy_resting, serves_alone}
 use Rattle.fkv_world.specs.Actors.{slot_asked, slot_of_step}
 use Rattle.fkv_world.specs.Moves.{Near, keeper_asks, keeper_gets, keeper_replied, keeper_settled}
 use Rattle.law_world.proofs.OfRuns.NoSlots.{IsOffSlots, passed_off}
@@ -104,8 +104,8 @@ part_now shape p s c said granted = tt
 
 phased : (shape : Shape) (p : Places) (s : KeeperState) (c : Option Commit) (said : PhaseSaid) (granted : Bool) → KeeperNow shape p (phase_ledto p s c said granted)
 unfolding phase_ledto
-phased shape p s None said granted = tt
-phased shape p s (Some c) said granted = either shape p s.rests _ _ (either shape p granted _ _ tt tt) (part_now shape p s c said granted)
+phased shape p s None said granted = either shape p (is_flush_resting s.maintain) _ _ tt tt
+phased shape p s (Some c) said granted = either shape p s.rests _ _ (either shape p granted _ _ tt tt) (either shape p (is_flush_resting s.maintain) _ _ tt (part_now shape p s c said granted))
 
 entered : (shape : Shape) (p : Places) (s : KeeperState) (ask : Ask EnterAnswer) → s.step ≡ Enters → EnterNow s.enter → KeeperNow shape p (enter_ledto s ask)
 unfolding enter_ledto
@@ -186,7 +186,7 @@ begins_now shape p s t true now begun = now
 begins_now shape p s t false now begun = begun
 
 turn_now : (shape : Shape) (p : Places) (s : KeeperState) → KeeperNow shape p (turn_asked s)
-turn_now shape p s = either shape p s.is_broken _ _ tt (parts_now s.rests)
+turn_now shape p s = either shape p s.is_broken _ _ tt (parts_now (serves_alone s))
   where
     parts_now : (rests : Bool) → MaintainNow shape p (parts_begun rests s.maintain)
     parts_now true = serving_now shape p s.maintain

@@ -1,5 +1,5 @@
 -- Behind an action that it has put, or been given, a turn of the keeper goes on.
-use Rattle.std.proofs.Common.{◌≡◌, ℕ, ◌∙◌, refl, ap, sym, subst, Bool, true, false}
+use Rattle.std.proofs.Common.{◌≡◌, ℕ, List, ◌∙◌, refl, ap, sym, subst, Bool, true, false}
 use Rattle.fkv_base.specs.declared.shapes.Shape.{Shape}
 use Rattle.fkv_plane.specs.declared.actions.Action.{Action}
 use Rattle.fkv_plane.specs.declared.asks.Ask.{Ask}
@@ -26,7 +26,7 @@ use Rattle.fkv_log.specs.Turning.{turn_ask, turn_next, turn_next_ask, turning_as
 use Rattle.fkv_maintain.specs.declared.maintaining.MaintainAnswer.TheVariants as answer
 use Rattle.fkv_maintain.specs.declared.maintaining.Maintaining.{Maintaining}
 use Rattle.fkv_maintain.specs.declared.maintaining.Maintaining.TheVariants.{Through, Spent, Broken, Scans, Claims, Flushes, Shifts, Turns, Serves}
-use Rattle.fkv_maintain.specs.Maintaining.{MaintainState, maintain_begun, maintain_serving, device_asked, maintain_ask, maintain_given, maintain_next, maintain_called, maintaining_ask, maintaining_given, maintaining_next, maintaining_called, scan_ledto, claim_ledto, flush_ledto, shift_ledto, serve_ledto, serve_begun, turn_ledto}
+use Rattle.fkv_maintain.specs.Maintaining.{MaintainState, maintain_begun, maintain_serving, device_asked, maintain_ask, maintain_given, maintain_next, maintain_called, maintaining_ask, maintaining_given, maintaining_next, maintaining_called, scan_ledto, claim_ledto, flush_ledto, shift_ledto, serve_ledto, serve_begun, turn_ledto, flush_begun, bytes_begun}
 use Rattle.law_world.proofs.OfRuns.NoSlots.{IsOffSlots, passed_off}
 use Rattle.law_world.proofs.OfRuns.InHand.Asks.{AtSlot, RunsNext, at_more, claim_at, off_at, passed_at, scan_off}
 use Rattle.law_world.proofs.OfRuns.InHand.Moved.{ShiftAt, ShiftStays, TurnAt, TurnStays, shift_next_at, turn_next_at}
@@ -117,9 +117,14 @@ unfolding scan_ledto maintaining_ask claim_ask passed
 scanned shape p s (Done its) at = tt
 scanned shape p s ask at = off_now shape p s Scans at (passed_off (scan_ask s.scanning) answer.Through (scan_off s.scanning))
 
+-- a flush that begins, or is taken up
+flush_begins : (shape : Shape) (p : Places) (s : MaintainState) (step : Flushing) (bytes : List ℕ) → MaintainNow shape p (record s { bytes = bytes; flushing = flush_begun step; step = Flushes })
+unfolding maintaining_ask
+flush_begins shape p s step bytes = let begun : MaintainState = record s { bytes = bytes; flushing = flush_begun step; step = Flushes } in off_now shape p begun Flushes refl (device_off (flush_ask p (flush_begun step)) (flush_off p (flush_begun step)))
+
 claimed : (shape : Shape) (p : Places) (s : MaintainState) (ask : Ask (Unit {0})) → s.step ≡ Claims → MaintainNow shape p (claim_ledto s ask)
-unfolding claim_ledto maintaining_ask flush_ask device_asked passed
-claimed shape p s (Done its) at = tt
+unfolding claim_ledto maintaining_ask
+claimed shape p s (Done its) at = flush_begins shape p s s.flushing (bytes_begun s.flushing s.bytes)
 claimed shape p s ask at = there shape p s Claims at (claims_at shape p s at)
 
 flushed : (shape : Shape) (p : Places) (s : MaintainState) (ask : Ask DeviceAnswer) → s.step ≡ Flushes → MaintainNow shape p (flush_ledto s ask)

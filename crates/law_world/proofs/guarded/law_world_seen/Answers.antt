@@ -1,11 +1,11 @@
 -- The law, by what the guard's world shows of a life.
-use Rattle.std.proofs.Common.{ℕ, suc, List, subst}
+use Rattle.std.proofs.Common.{ℕ, List, subst}
 use Rattle.fkv_flush.specs.GuardLevels.{levels_of}
 use Rattle.fkv_flush.specs.GuardSeen.{SeenIsSafe}
 use Rattle.fkv_flush.specs.GuardWorld.{GuardWorld}
 use Rattle.fkv_flush.specs.Guarded.{GoesBy, seen_of}
 use Rattle.fkv_flush.proofs.Shown.{opening_sound, run_apart, opening_apart, undecided_fresh}
-use Rattle.law_world.specs.Guarded.GuardEvents.{keeper_number, mapped}
+use Rattle.law_world.specs.Guarded.GuardEvents.{actor_count, mapped}
 use Rattle.law_world.specs.Guarded.Shows.{guard_opening, seen_by_guard}
 use Rattle.law_world.proofs.OfGuarded.Worlds.{life_shows}
 use Rattle.law_world.proofs.guarded.law_world_seen.Goals as goal
@@ -21,5 +21,5 @@ returns-clause-fresh c = λ first start events opened. undecided_fresh (seen_by_
 
 pub returns-clause-apart : goal.returns-clause-apart
 returns-clause-apart c = λ first start events opened.
-    run_apart (guard_opening first.now start) (mapped first events) (opening_sound first.now.shape first.now.places (suc (keeper_number first.now)) first.now.words start opened.words)
-    (opening_apart first.now.shape first.now.places (suc (keeper_number first.now)) first.now.words start)
+    run_apart (guard_opening first.now start) (mapped first events) (opening_sound first.now.shape first.now.places (actor_count first.now) first.now.words start opened.words)
+    (opening_apart first.now.shape first.now.places (actor_count first.now) first.now.words start)
