@@ -22,7 +22,7 @@ use Rattle.fkv_flush.specs.declared.flushing.Flushing.{Flushing}
 use Rattle.fkv_flush.specs.declared.flushing.Flushing.TheVariants as flush
 use Rattle.fkv_flush.specs.Flushing.{bytes_done, flush_ask, flush_done}
 use Rattle.fkv_flush.specs.GuardSeen.{LastSeen}
-use Rattle.fkv_flush.specs.GuardWorld.{Actor, Calls, Begins, Flushes, GuardEvent, GuardNear, GuardNow, GuardWorld, Moves, Shifts, ToShift, Work, guard_happens_now, is_idle, near, put_near, started, with_actor}
+use Rattle.fkv_flush.specs.GuardWorld.{Actor, Calls, Begins, Flushes, GuardEvent, GuardNear, GuardNow, GuardWorld, Moves, Shifts, ToShift, Work, guard_happens_now, is_idle, near, put_near, with_actor}
 use Rattle.fkv_flush.proofs.Shown.{Fits, begins, calls, runs_now}
 use Rattle.fkv_maintain.specs.declared.maintaining.MaintainAnswer.{MaintainAnswer}
 use Rattle.fkv_maintain.specs.declared.maintaining.MaintainAnswer.TheVariants as answer
@@ -36,8 +36,8 @@ use Rattle.fkv_keeper.specs.declared.keepers.Keeping.TheVariants as keeping
 use Rattle.fkv_keeper.specs.Keeping.{KeeperState, commit_asked, device_passed, keeper_ask, keeper_called, keeper_next, keeping_ask, keeping_called, keeping_next, maintain_ledto, turn_asked, turn_over}
 use Rattle.fkv_world.specs.Moves.{Near, keeper_asks, keeper_moved, keeper_replied, keeper_settled}
 use Rattle.fkv_world.specs.World.{keeper_asked}
-use Rattle.law_world.specs.GuardKeeper.Followed.{IsAside, IsKeepers, KeeperGoes, KeeperLed, aside_likeness, keeper_likeness, likeness, near_keeper}
-use Rattle.law_world.specs.GuardKeeper.KeeperActors.{actor_by, aside_work, is_aside, keeper_actor, other_actor, other_by, work_by}
+use Rattle.law_world.specs.GuardKeeper.Followed.{IsAside, IsKeepers, KeeperGoes, KeeperLed, aside_likeness, likeness, near_keeper}
+use Rattle.law_world.specs.GuardKeeper.KeeperActors.{actor_by, keeper_actor, other_actor, other_by}
 use Rattle.law_world.specs.GuardKeeper.KeeperEvents.{keeper_events_at, keeper_move_events, keeping_called_events, keeping_events, turn_asked_events}
 use Rattle.law_world.specs.GuardKeeper.MaintainEvents.{claim_events, flush_events, maintain_called_events, maintain_events, shifter}
 use Rattle.law_world.specs.GuardKeeper.Settled.{is_of_slot}
@@ -188,15 +188,15 @@ taken_goes w k x seen s end granted done read keeps aside up =
     by_reply w k here granted done read (device_passed inner (turn_over here)) asks.0 asks.1
     (taken_asks n.shape n.places here (reply_to n.words (device_passed inner (turn_over here))) granted up)
     (turn_step (λ reply words. is_done (claim_ask (claim_next c reply)) ≡ true
-        → KeeperGoes n k (claim_events (suc k) (flush.Syncs end) (claim_ask (claim_next c reply))) (claims_led n.shape n.places s end (claim_next c reply) (claim_ask (claim_next c reply))) words n.actions) n.words inner (turn_over here)
+    → KeeperGoes n k (claim_events (suc k) (flush.Syncs end) (claim_ask (claim_next c reply))) (claims_led n.shape n.places s end (claim_next c reply) (claim_ask (claim_next c reply))) words n.actions) n.words inner (turn_over here)
     (passed_step (λ reply words. is_done (claim_ask (claim_next c reply)) ≡ true
-        → KeeperGoes n k (claim_events (suc k) (flush.Syncs end) (claim_ask (claim_next c reply))) (claims_led n.shape n.places s end (claim_next c reply) (claim_ask (claim_next c reply))) words n.actions) n.words (claim_ask c) answer.Through
+    → KeeperGoes n k (claim_events (suc k) (flush.Syncs end) (claim_ask (claim_next c reply))) (claims_led n.shape n.places s end (claim_next c reply) (claim_ask (claim_next c reply))) words n.actions) n.words (claim_ask c) answer.Through
     (λ over.
-        let words : List ℕ = words_after n.words (claim_ask c) in
-        let next : Claiming = claim_next c (reply_to n.words (claim_ask c)) in
-        takes_by n.shape n.places n k s end next words (claim_ask next) over
-        (takes_to n k x aside.other seen s end next words keeps.got aside.got keeps.fits.work keeps.fits.undecided aside.fits keeps.knows.sessions (claim_ended next over)
-        (ended_led n (suc k) x words next over (one_ask n (suc k) x (Claims c) keeps.got keeps.fits.machine keeps.fits.work refl))))) up)
+    let words : List ℕ = words_after n.words (claim_ask c) in
+    let next : Claiming = claim_next c (reply_to n.words (claim_ask c)) in
+    takes_by n.shape n.places n k s end next words (claim_ask next) over
+    (takes_to n k x aside.other seen s end next words keeps.got aside.got keeps.fits.work keeps.fits.undecided aside.fits keeps.knows.sessions (claim_ended next over)
+    (ended_led n (suc k) x words next over (one_ask n (suc k) x (Claims c) keeps.got keeps.fits.machine keeps.fits.work refl))))) up)
 
 -- ---- a flush comes to rest
 abbrev Resting : GuardNow → ℕ → KeeperState → ℕ → List ℕ → List GuardEvent → Type 0

@@ -1,6 +1,6 @@
 -- Over every run of a keeper the buckets that its copy of the index is at are there, and so are the sessions whose points it seeks.
 use Rattle.std.proofs.Common.{◌≡◌, ℕ, ◌+◌, ◌-◌, ◌<◌, ◌≤◌, refl, sym, subst, arith, List, [], ◌∷◌, length, Bool, true, false, ◌∙◌, ap, inl, inr}
-use Rattle.std.specs.Prelude.{◌&&◌, ◌==◌, ◌++◌, nat_lt, nat_le, max, ⊤, if◌then◌else◌, Option, Some, None, ◌||◌, not}
+use Rattle.std.specs.Prelude.{◌&&◌, ◌==◌, nat_lt, nat_le, max, ⊤, if◌then◌else◌, Option, Some, None, ◌||◌, not}
 use Rattle.std.proofs.lemmas.Bool.Decides.{nat_tests}
 use Rattle.fkv_base.specs.declared.numbers.Addr.{Addr}
 use Rattle.fkv_plane.specs.Places.{bucket_place}

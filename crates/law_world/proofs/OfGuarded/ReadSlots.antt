@@ -1,5 +1,5 @@
 -- What holds of slots, words and asks over each list of events, whatever reads of the device give.
-use Rattle.std.proofs.Common.{◌≡◌, ◌≢◌, ℕ, ◌<◌, ◌≤◌, ◌∙◌, refl, sym, ap, subst, List, [], ◌∷◌, ◌++◌, length, Bool, true, false}
+use Rattle.std.proofs.Common.{◌≡◌, ◌≢◌, ℕ, ◌<◌, ◌≤◌, ◌∙◌, refl, sym, ap, subst, List, [], ◌∷◌, ◌++◌, length, Bool, false}
 use Rattle.std.specs.Prelude.{if◌then◌else◌, Option, Some, None, slice_get}
 use Rattle.std.proofs.lemmas.Nat.{pow_pos}
 use Rattle.fkv_base.specs.Limits.{drain_slots}
@@ -7,8 +7,6 @@ use Rattle.fkv_base.specs.declared.shapes.Shape.{Shape}
 use Rattle.fkv_plane.specs.declared.places.Places.{Places}
 use Rattle.fkv_plane.specs.Asked.{asked_place}
 use Rattle.fkv_plane.specs.Places.{word_count}
-use Rattle.fkv_epoch.proofs.Shown.{some_same}
-use Rattle.fkv_flush.specs.GuardCalm.{AreOther}
 use Rattle.fkv_flush.specs.GuardSlots.{IsHolder}
 use Rattle.fkv_flush.specs.GuardWorld.{GuardEvent, GuardWorld, guard_run}
 use Rattle.fkv_keeper.specs.KeeperAsks.{keeper_asks_left}

@@ -187,12 +187,14 @@ next_other k e = absurd (omega (arith, e))
 put_both : (k : ℕ) (actors : List Actor) (aside : Bool) (other actor : Actor) → HasItem actors k → HasItem actors (suc k)
     → (let there : List Actor = slice_set (slice_set actors (other_by k aside) other) (actor_by k aside) actor in
     (slice_get there (actor_by k aside) ≡ Some actor) × (slice_get there (other_by k aside) ≡ Some other))
-put_both k actors true other actor first second =
-    (item_written (slice_set actors k other) (suc k) second.0 actor (item_spared actors k (suc k) other (λ e. next_other k (sym e)) ∙ second.1),
-    item_spared (slice_set actors k other) (suc k) k actor (next_other k) ∙ item_written actors k first.0 other first.1)
-put_both k actors false other actor first second =
-    (item_written (slice_set actors (suc k) other) k first.0 actor (item_spared actors (suc k) k other (next_other k) ∙ first.1),
-    item_spared (slice_set actors (suc k) other) k (suc k) actor (λ e. next_other k (sym e)) ∙ item_written actors (suc k) second.0 other second.1)
+put_both k actors true other actor first second = (
+  item_written (slice_set actors k other) (suc k) second.0 actor (item_spared actors k (suc k) other (λ e. next_other k (sym e)) ∙ second.1),
+  item_spared (slice_set actors k other) (suc k) k actor (next_other k) ∙ item_written actors k first.0 other first.1,
+)
+put_both k actors false other actor first second = (
+  item_written (slice_set actors (suc k) other) k first.0 actor (item_spared actors (suc k) k other (next_other k) ∙ first.1),
+  item_spared (slice_set actors (suc k) other) k (suc k) actor (λ e. next_other k (sym e)) ∙ item_written actors (suc k) second.0 other second.1,
+)
 
 -- the keeper has gone on, and its two actors with it
 keeper_put : (n : Now) (w : GuardWorld) (its : Near KeeperState) (events : List GuardEvent) → Shows n w → IsStep (keeper_number n) (keeper_now n) events
