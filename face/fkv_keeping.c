@@ -45,9 +45,8 @@ struct run {
     uint64_t copied;       /* entries that it has written */
     bool is_full;          /* it writes them all */
     uint32_t idle;         /* so many turns in a row had nothing to do */
-    bool has_called;       /* the last turn has called the file, so the next one may have something to do */
-    uint64_t helped;       /* turns that sessions' threads had made by its last one */
-    bool is_helped;        /* and some of them since the one before */
+    bool has_called;       /* by the last turn the next one may have something to do, which nobody else does */
+    uint64_t helped;       /* turns that sessions' threads had made by the last turn */
     bool is_put_off;       /* a commit was due, and has to wait for more turns */
     bool has_told;         /* the hook `stopped` was called */
 };
@@ -206,7 +205,7 @@ static uint32_t rest_us(const struct run *run) {
 static void rest(const struct run *run) {
     fkv_file *file = run->file;
     const struct warmer *warmer = &file->warmer;
-    if (file->rests || file->nudged || file->stops || (run->has_called && !run->is_helped)) return;
+    if (run->has_called || file->rests || file->nudged || file->stops) return;
     struct timespec until = fkv_later(fkv_now(), rest_us(run));
     if (warmer->has_more && fkv_is_before(warmer->rests_until, until)) until = warmer->rests_until;
     if (goes_by_clock(file) && !run->is_put_off && fkv_is_before(run->next, until)) until = run->next;
@@ -246,8 +245,7 @@ static void go_on(struct run *run) {
     /* What rests goes on once it was synced ahead. What comes to rest in this turn wasn't yet. */
     bool goes_on = file->rests && (file->sync_why || file->synced == file->writes);
     bool is_stirred = file->nudged || file->is_stirred || commits || file->abandoned;
-    /* Who waits for a read makes its turns, and would only find this thread in the way. A commit goes on by this thread's turns alone. */
-    run->is_helped = file->helped != run->helped && !commits;
+    bool is_helped = file->helped != run->helped;
     run->helped = file->helped;
     run->idle = is_stirred ? 0 : run->idle < UINT16_MAX ? run->idle + 1 : run->idle;
     file->nudged = file->is_stirred = false;
@@ -257,8 +255,8 @@ static void go_on(struct run *run) {
     int32_t result = goes_on ? fkv_make_turn(file, &turn, tell, run) : fkv_serve_turn(file, &turn, tell, run);
     run->written += turn.written;
     run->copied += turn.copied;
-    /* What was let go on does so in the next turn. */
-    run->has_called = turn.has_called || goes_on;
+    /* What was let go on does so in the next turn. Who waits for a read makes its turns, and would only find this thread in the way. */
+    run->has_called = goes_on || (turn.has_called && (turn.written > 0 || commits || !is_helped));
     pthread_mutex_lock(&file->lock);
     bool is_finished = result == FKV_OVER && turn.turned.finished;
     if (is_finished) file->in_hand = false;
