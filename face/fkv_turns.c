@@ -3,6 +3,7 @@
 #include "fkv_file.h"
 
 #include <errno.h>
+#include <string.h>
 #include <unistd.h>
 
 enum {
@@ -124,6 +125,14 @@ static int make_sync(fkv_file *file) {
     return failed;
 }
 
+/* No record's header is 0. By one that is a session would take the record for one that the log has given back. */
+static int check_header(const uint8_t record[FKV_READ_SIZE]) {
+    static const uint8_t none[sizeof(uint64_t)];
+    if (memcmp(record, none, sizeof none)) return 0;
+    errno = EIO;
+    return -1;
+}
+
 /* Makes a call that a turn has posted. 0, or -1 where it has failed, with errno. */
 static int make_call(fkv_file *file, int32_t call, const fkv_turned *turned, uint8_t into[FKV_READ_SIZE]) {
     if (call == FKV_SYNC) return make_sync(file);
@@ -132,7 +141,7 @@ static int make_call(fkv_file *file, int32_t call, const fkv_turned *turned, uin
     struct timespec begun = fkv_now();
     int failed = fkv_read_mapped(file, turned->place, into) ? 0 : fkv_call_file(file->fd, call, turned, into);
     fkv_note_read(file, begun);
-    return failed;
+    return failed ? failed : check_header(into);
 }
 
 /* Makes the calls of a turn that has begun, up to its end. `call` is what it has posted. */
