@@ -47,7 +47,7 @@ use Rattle.law_world.specs.Below.fkv_log.ShiftAnswer.TheVariants as shift
 use Rattle.law_world.specs.Below.fkv_log.Shifting.{shift_ask, shift_next, shift_next_ask}
 use Rattle.law_world.specs.Below.fkv_log.Turning.{turn_ask, turn_next, turn_next_ask}
 use Rattle.law_world.specs.Below.fkv_maintain.MaintainAnswer.TheVariants as answer
-use Rattle.law_world.specs.Below.fkv_maintain.Maintaining.{MaintainState, claim_ledto, device_asked, flush_ledto, maintain_called, maintain_given, maintain_next, maintaining_ask, maintaining_called, maintaining_given, maintaining_next, scan_ledto, serve_begun, serve_ledto, shift_ledto, turn_ledto}
+use Rattle.law_world.specs.Below.fkv_maintain.Maintaining.{MaintainState, claim_ledto, device_asked, flush_ledto, flush_told, is_flush_resting, maintain_called, maintain_given, maintain_next, maintaining_ask, maintaining_called, maintaining_given, maintaining_next, scan_ledto, serve_begun, serve_ledto, shift_ledto, turn_ledto}
 use Rattle.law_world.specs.Below.fkv_maintain.TheMaintaining.{Maintaining}
 use Rattle.law_world.specs.Below.fkv_maintain.TheMaintaining.TheVariants.{Through, Spent, Broken, Scans, Claims, Flushes, Shifts, Turns, Serves}
 use Rattle.law_world.specs.Below.fkv_manifest.Committing.{commit_answer, commit_next}
@@ -69,7 +69,6 @@ use Rattle.fkv_keeper.specs.WholeCalls.{calls_told}
 use Rattle.fkv_table.specs.Desks.{Slot, Knows}
 use Rattle.fkv_table.specs.Keeps.{KeeperReplied, KeeperSettled}
 use Rattle.fkv_table.specs.Turns.{IsCounted, ended_by_device, told_by_device}
-use Rattle.fkv_maintain.specs.Maintaining.{is_flush_resting, flush_told}
 
 -- ---- what every turn does
 -- the device has failed in none of its parts
