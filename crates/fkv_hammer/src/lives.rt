@@ -74,7 +74,7 @@ fn found_on(alloc: Global, disk: MemDisk) -> Result<Found, Fault> {
     })
 }
 
-/// The store with its begin moved. It has no pair that it had not.
+/// The store with its begin moved. Its log begins there, and it has no pair that it had not.
 fn begun_later(alloc: Global, draws: &mut Draws, found: Found) -> Result<Found, Wrong> {
     let Found {
         disk,
@@ -82,8 +82,11 @@ fn begun_later(alloc: Global, draws: &mut Draws, found: Found) -> Result<Found, 
         pairs,
     } = found;
     let mut disk = disk;
-    move_begin(&mut disk, draws, &opened)?;
+    let begin = move_begin(&mut disk, draws, &opened)?;
     let after = found_on(alloc, disk)?;
+    if after.opened.begin != begin {
+        return Err(Wrong::Begin);
+    }
     for pair in &after.pairs {
         if !pairs.contains(pair) {
             return Err(Wrong::Pairs);
