@@ -29,10 +29,7 @@ pub(crate) fn move_begin(
     }
     let begin = Addr(from.saturating_add(count));
     let slot: u64 = if opened.number.0 % 2 == 0 { 512 } else { 1024 };
-    disk.write(
-        slot.saturating_add(BEGIN_IN_SLOT),
-        &begin.0.to_le_bytes(),
-    )?;
+    disk.write(slot.saturating_add(BEGIN_IN_SLOT), &begin.0.to_le_bytes())?;
     disk.write(slot.saturating_add(FORMAT_IN_SLOT), &4u64.to_le_bytes())?;
     disk.sync()?;
     Ok(begin)
