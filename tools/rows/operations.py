@@ -382,6 +382,8 @@ MERGES = [
             k turn      | k turn rest 1
             0 refresh   | 0 refresh rest 1
             k turn      | k turn rest 1
+            0 refresh   | 0 refresh rest 1
+            k turn      | k turn rest 1
             0 up 8 80   | 0 #8 done
             0 sub 1 2   | 0 #9 pending
             0 keep 2    | 0 #10 pending

@@ -68,14 +68,16 @@ class Asked:
         self.part()
 
     def turn(self):
-        self.say("k turn", "k turn rest 1")
+        """A turn, and one that makes the sync before which a flush rests."""
+        for _ in range(2):
+            self.say("k turn", "k turn rest 1")
         self.part()
 
     def poll(self, rounds, with_turns):
         """All sessions poll until nothing waits. Then the keeper empties the drain."""
         for _ in range(rounds):
             self.script += [f"{session} poll" for session in range(self.sessions)]
-            self.script += ["k turn", *(f"{session} refresh" for session in range(self.sessions))] if with_turns else []
+            self.script += ["k turn", "k turn", *(f"{session} refresh" for session in range(self.sessions))] if with_turns else []
         self.answers += self.waiting
         self.waiting = []
         self.part()

@@ -119,10 +119,11 @@ fn rests(rt: &impl Abort, alloc: Global, begins: Line, more: u64) -> Result<(), 
     crashes_leave_a_commit(rt, alloc, true, begins, living)
 }
 
-/// The gate of the second commit's slot stands open. So a full commit rests before four syncs, and a log commit before three: it has no triples.
+/// The gate of the second commit's slot stands open. So a full commit rests before four syncs of its own writes, and a log commit before three: it has no
+/// triples. And its flush rests before one.
 #[test]
 fn a_commit_rests_before_each_sync(rt: HostRuntime) -> Result<(), Fail> {
-    rests(&rt, rt.alloc(), Commit, 4)?;
-    rests(&rt, rt.alloc(), LogCommit, 3)?;
+    rests(&rt, rt.alloc(), Commit, 5)?;
+    rests(&rt, rt.alloc(), LogCommit, 4)?;
     Ok(())
 }
