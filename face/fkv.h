@@ -457,8 +457,8 @@ int32_t fkv_turn(fkv_keeper *keeper, fkv_turned *turned, uint64_t *points, size_
 
 /*
  * A commit of a living store rests before each sync of its writes: there the turn is over, and fkv_rests answers 1 up to the turn that goes on.
- * fkv_serve makes a turn that serves reads of the file, and leaves the writes at rest. It answers as fkv_turn does, and where nothing rests it is
- * fkv_turn. fkv_turn serves too, and then goes on with the writes: it posts the sync.
+ * fkv_serve makes a turn that serves reads of the file, and leaves the writes at rest. It answers as fkv_turn does, and where nothing rests, nor
+ * comes to rest in that turn, it is fkv_turn. fkv_turn serves too, and then goes on with the writes: it posts the sync.
  *
  * What is flushed of a living store's log rests before its sync, too. Where fkv_serve makes the turn that writes it, fkv_rests answers 1 from then on,
  * and turns by fkv_serve only serve, up to one by fkv_turn: the turn behind that one posts the sync. Where fkv_turn makes the turn that writes it, the

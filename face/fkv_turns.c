@@ -181,6 +181,8 @@ void fkv_sync_ahead(fkv_file *file) {
     uint64_t writes = file->writes;
     if (file->synced == writes || file->sync_why) return;
     file->is_syncing = true;
+    /* (that may take long) */
+    atomic_store(&file->is_behind, false);
     if (file->waiting) pthread_cond_broadcast(&file->served);
     pthread_mutex_unlock(&file->lock);
     int why = fdatasync(file->fd) ? errno : 0;
