@@ -105,16 +105,16 @@ static void make(void) {
     must(fkv_close_file(file), "close");
 }
 
-/* Rounds of both ways, each by 1, 2 and 4 threads. */
+/* Rounds of both ways in turn, each by 1, 2 and 4 threads. */
 static void time_rounds(const char *where, int is_on_disk) {
     fkv_how how = {.mapped = strcmp(where, "mapped") == 0, .warm = FKV_COLD};
     fkv_keeping keeping = {.no_warmer = 1};
     must(fkv_open_file(path, &how, &file), "open");
     must(fkv_start(file, &keeping), "start");
     blocks = is_on_disk ? DISK_BLOCKS : BLOCKS;
-    for (is_many = 0; is_many < 2; is_many++) {
-        for (int threads = 1; threads <= MOST_THREADS; threads *= 2) {
-            for (int round = 0; round < ROUNDS; round++) {
+    for (int threads = 1; threads <= MOST_THREADS; threads *= 2) {
+        for (int round = 0; round < ROUNDS; round++) {
+            for (is_many = 0; is_many < 2; is_many++) {
                 if (is_on_disk) forget_file();
                 time_round(where, threads);
             }
