@@ -36,11 +36,15 @@ static void close_store(void) {
     WANTS("closing", fkv_close_file(file), 0);
 }
 
-/* A key has its records in the order in which it was put: the newest ones are those of the greatest keys. */
+/*
+ * Keys have their records in the order in which they were put: the newest ones are those of the greatest keys. (So nothing keeps memory warm
+ * meanwhile, by newer records of old keys.)
+ */
 static void make(const char *name, uint64_t keys) {
+    fkv_keeping keeping = {.no_warmer = 1};
     WANTS("making", fkv_make_file(path_of(name), &SHAPE), 0);
     open_warm(name, 0);
-    start();
+    WANTS("starting the keeper", fkv_start(file, &keeping), 0);
     for (uint64_t key = 0; key < keys; key++) {
         WANTS("a put", fkv_put(file, session, key, 3 * key + 1, NULL), FKV_DONE);
         WANTS("a tick", fkv_tick(file, session), 0);
