@@ -78,8 +78,8 @@ impl<D: Device + Drop> KeeperSeat<D> {
     }
 
     /// Begins a turn, and carries it on up to its next call of the device, which isn't made, or to its end. So it ends with any of the turn's faults but
-    /// `Device`. Where a call of the device is due nothing changes, and `Device` is answered again. While the writes of a commit rest, or a flush does, a turn serves and
-    /// does nothing else. If the caller says so, writes go on behind that, and a flush in the next turn.
+    /// `Device`. Where a call of the device is due nothing changes, and `Device` is answered again. While the writes of a commit rest, or a flush
+    /// does, a turn serves and does nothing else. If the caller says so, writes go on behind that, and a flush in the next turn.
     pub fn drive(&mut self, goes_on: bool) -> TurnAsk
         ensures driven { said.IsDriven D.Device self.old result self.new }
     {
@@ -94,7 +94,8 @@ impl<D: Device + Drop> KeeperSeat<D> {
         next
     }
 
-    /// Whether the next turn only serves: the writes of the commit in hand rest before a sync, or a flush does, and weren't let go on. (A hint: no clause speaks of it.)
+    /// Whether the next turn only serves: the writes of the commit in hand rest before a sync, or a flush does, and weren't let go on. (A hint:
+    /// no clause speaks of it.)
     pub fn rests(&self) -> bool {
         self.keeper.rests()
     }
