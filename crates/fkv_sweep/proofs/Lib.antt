@@ -1,4 +1,9 @@
 pub mod AsksLeft
-mod Reading
+mod Finds
+mod Loads
+pub mod Reading
+mod Same
 mod Searches
 mod Sound
+mod Within
+pub mod Shown
