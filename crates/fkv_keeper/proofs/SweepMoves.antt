@@ -106,14 +106,14 @@ part_left p s c (Says phase.WaitFlush version) granted = either s s.has_points _
 part_left p s c said granted = (refl, refl, λ e. cc, stay s.commit)
 
 -- its turn begins with no commit in hand
+abbrev Next : KeeperState → KeeperState → Type 0
+Next s a = IsSweepLeft s a ⊎ IsSweepBegun s a
+
 sweeps_begun : (s : KeeperState) (granted : Bool) → s.commit ≡ None → IsSweepLeft s (sweeps_next s granted) ⊎ IsSweepBegun s (sweeps_next s granted)
 sweeps_begun s granted none = cases granted (is_sweeping s.sweep) refl
   where
-    abbrev Next : KeeperState → Type 0
-    Next a = IsSweepLeft s a ⊎ IsSweepBegun s a
-
     cases : (granted goes_on : Bool) → is_sweeping s.sweep ≡ goes_on
-        → Next (if granted && goes_on then record s { sweep = sweeping.turn_begun s.sweep; is_granted = true; step = Sweeps } else turned (record s { is_granted = granted }))
+        → Next s (if granted && goes_on then record s { sweep = sweeping.turn_begun s.sweep; is_granted = true; step = Sweeps } else turned (record s { is_granted = granted }))
     cases true true at = inr (record { comes = refl; no_commit = none; goes_on = at; same = refl })
     cases true false at = inl (is_left s _ (refl, refl, λ e. cc, stay s.commit))
     cases false goes_on at = inl (is_left s _ (refl, refl, λ e. cc, stay s.commit))
