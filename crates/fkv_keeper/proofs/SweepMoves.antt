@@ -292,12 +292,12 @@ either_stays : (found : Option Commit) (c : Bool) (a b : KeeperState) → Stays 
 either_stays found true a b one other = one
 either_stays found false a b one other = other
 
+none_stays : (p : Places) (s : KeeperState) (said : PhaseSaid) (granted : Bool) → Stays s.commit (phase_ledto p s None said granted).commit
+unfolding phase_ledto
+none_stays p s said granted = either_stays s.commit (is_flush_resting s.maintain) _ _ (stay s.commit) (either_stays s.commit (granted && is_sweeping s.sweep) _ _ (stay s.commit) (stay s.commit))
+
 phase_stays : (p : Places) (s : KeeperState) (found : Option Commit) (said : PhaseSaid) (granted : Bool) → Stays s.commit (phase_ledto p s found said granted).commit
 phase_stays p s None said granted = none_stays p s said granted
-  where
-    none_stays : (p : Places) (s : KeeperState) (said : PhaseSaid) (granted : Bool) → Stays s.commit (phase_ledto p s None said granted).commit
-    unfolding phase_ledto
-    none_stays p s said granted = either_stays s.commit (is_flush_resting s.maintain) _ _ (stay s.commit) (either_stays s.commit (granted && is_sweeping s.sweep) _ _ (stay s.commit) (stay s.commit))
 phase_stays p s (Some c) said granted = (some_left p s c said granted).3
 
 finished_after : (s t : KeeperState) (found : Option Commit) → t.commit ≡ found → IsBeginAfter found s (finished t found)
