@@ -2,7 +2,6 @@
 use Rattle.std.proofs.Common.{◌≡◌, ◌≢◌, ℕ, refl, sym, ap, subst, ◌∙◌, Bool, true, false, true≢false, List, [], ◌∷◌, ◌++◌, append_assoc, eq-zero-or-pos, inl, inr, map}
 use Rattle.std.specs.Prelude.{Some, None}
 use Rattle.atomic_table.specs.Table.{Me}
-use Rattle.fkv_disk.specs.Bytes.{bytes_at}
 use Rattle.fkv_disk.specs.Calls.{AllDone, reads_as}
 use Rattle.fkv_disk.specs.Calls as device
 use Rattle.fkv_disk.specs.Device.{IsAfter}
