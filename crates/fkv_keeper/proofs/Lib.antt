@@ -36,5 +36,6 @@ mod PointsWritten
 mod Rests
 pub mod Shown
 mod SweepMoves
+mod SweepRuns
 mod TurnRun
 mod WholeCalls
