@@ -49,7 +49,7 @@ use Rattle.fkv_manifest.specs.Committing.{commit_answer, commit_next}
 use Rattle.fkv_keeper.specs.declared.keepers.Keeping.{Keeping}
 use Rattle.fkv_keeper.specs.declared.keepers.Keeping.TheVariants.{Ended, Starts, Maintains, LoadsPhase, Enters, Copies, Seeks, Waits, Writes, Finishes, Sweeps}
 use Rattle.fkv_keeper.specs.declared.answers.KeeperTold.{KeeperTold}
-use Rattle.fkv_keeper.specs.Keeping.{Finality, KeeperState, begin_next, is_full, is_swept, may_set, sweep_called, sweep_ledto, sweep_set, sweeps_next, must_rest, commit_asked, turn_asked, parts_begun, copied, points_known, copies, copies_next, copy_driven, copy_ledto, copy_told, enter_ledto, finish_ledto, finished, is_copy_resting, keeping_called, keeping_given, keeping_next, maintain_ledto, part_begun, phase_ledto, seek_ledto, start_ledto, turned, wait_ledto, write_ledto, writes_begun, writes_called, serves_alone}
+use Rattle.fkv_keeper.specs.Keeping.{Finality, KeeperState, begin_next, finality_of, is_full, is_swept, may_set, sweep_called, sweep_ledto, sweep_set, sweeps_next, must_rest, commit_asked, turn_asked, parts_begun, copied, points_known, copies, copies_next, copy_driven, copy_ledto, copy_told, enter_ledto, finish_ledto, finished, is_copy_resting, keeping_called, keeping_given, keeping_next, maintain_ledto, part_begun, phase_ledto, seek_ledto, start_ledto, turned, wait_ledto, write_ledto, writes_begun, writes_called, serves_alone}
 use Rattle.fkv_keeper.specs.KeeperRun.{BeginsCommit, BeginsTurn, Calls, Gets, IsOpened, KeeperEvent, Replies, begins, is_in_hand, keeper_happens, keeper_run}
 use Rattle.fkv_keeper.specs.SlotLaws.{HasBegin, HasMoved}
 
@@ -85,10 +85,6 @@ some_same its c both = cc
 
 none_some : {X : Type 0} (c : Commit) → None ≡ Some c → X
 none_some c e = cc
-
--- where it does anything but sweep
-stops : {X : Type 0} (step : Keeping) → step ≡ Sweeps → (Sweeps ≡ step → ⊥) → X
-stops step e other = absurd (other (sym e))
 
 either : (c : Bool) (a b : KeeperState) → Good a → Good b → Good (if c then a else b)
 either true a b one other = one
@@ -311,14 +307,125 @@ fourth_true true true false d e t = cc
 fourth_true true false c d e t = cc
 fourth_true false b c d e t = cc
 
-finished_holds : (s : KeeperState) (c : Commit) → s.commit ≡ Some c → HoldsAll s → Holds (maintain_from c.begin s.maintain) (sweep_set s c) (record { number = c.number; begin = c.begin; points = s.seek.points; checkpoint = s.used; gates = s.last.gates }) None
-finished_holds s c in_hand holds = ?
+finished_holds : (s : KeeperState) (c : Commit) → s.commit ≡ Some c → HoldsAll s → Holds (maintain_from c.begin s.maintain) (sweep_set s c) (finality_of s c) None
+finished_holds s c in_hand holds = cases (may_set s c) refl
+  where
+    stays : (c.begin ≡ s.last.begin) ⊎ IsMoved s.sweep s.last c → (s.sweep.from ≡ s.last.begin) ⊎ ((is_swept s.sweep ≡ true) × (s.sweep.to ≡ s.last.begin))
+        → (s.sweep.from ≡ c.begin) ⊎ ((is_swept s.sweep ≡ true) × (s.sweep.to ≡ c.begin))
+    stays (inl same) (inl from) = inl (from ∙ sym same)
+    stays (inl same) (inr swept) = inr (swept.0, swept.1 ∙ sym same)
+    stays (inr moved) its = inr (moved.swept, sym moved.to)
+
+    cases : (b : Bool) → may_set s c ≡ b → Holds (maintain_from c.begin s.maintain) (if b then sweep_begun s.sweep.shape s.sweep.places c.begin c.first else s.sweep) (finality_of s c) None
+    cases true set =
+        let t = fourth_true (not (is_specified s.start.asked.class)) (is_full c.kind) (s.sweep.at.0 == s.sweep.from.0 || s.sweep.to.0 == c.begin.0) (nat_le c.begin.0 c.first.0) (nat_le c.first.0 (2 ^ 48)) set in
+        record { serves = refl; reads = from_above c.begin s.maintain s.maintain.step; on = grind (arith, nat_tests, t); sweeps = inl refl; commit = λ c e. none_some c e }
+    cases false none = record { serves = refl; reads = from_above c.begin s.maintain s.maintain.step; on = holds.on; sweeps = stays (holds.commit c in_hand) holds.sweeps; commit = λ c e. none_some c e }
 
 finished_good : (s : KeeperState) (found : Option Commit) → s.commit ≡ found → Good s → Good (finished s found)
 finished_good s None in_hand was = (was.0, λ e. cc)
-finished_good s (Some c) in_hand was = (?, λ e. cc)
+finished_good s (Some c) in_hand was = (finished_holds s c in_hand was.0, λ e. cc)
 
 finish_good : (s : KeeperState) (ask : Ask FinishAnswer) → Good s → Good (finish_ledto s ask)
 unfolding finish_ledto
 finish_good s (Done its) was = finished_good s s.commit refl was
 finish_good s ask was = was
+
+-- ---- a sweep's turn goes on
+led_good : (s : KeeperState) (ask : Ask SweepAnswer) → Good s → Good (sweep_ledto s ask)
+unfolding sweep_ledto
+led_good s (Done sweep.Through) was = (was.0, λ e. cc)
+led_good s ask was = was
+
+-- by another sweep of the same records
+sweep_good : (s : KeeperState) (after : Sweeper) (ask : Ask SweepAnswer) → s.step ≡ Sweeps → IsSameSweep s.sweep after → Good s → Good (sweep_ledto (record s { sweep = after }) ask)
+sweep_good s after ask at same was =
+    let alone = was.1 at in
+    led_good (record s { sweep = after }) ask (sweep_holds s.maintain s.sweep after s.last s.commit same alone was.0, λ e. still_alone s.sweep after s.last s.commit same alone)
+
+read_good : (s : KeeperState) (done : Bool) (bytes : List ℕ) → s.step ≡ Sweeps → Good s → Good (sweep_called s done bytes)
+read_good s true bytes at was = sweep_good s (sweep_read s.sweep bytes) (sweep_ask (sweep_read s.sweep bytes)) at (sweep_read_same s.sweep bytes) was
+read_good s false bytes at was = (sweep_holds s.maintain s.sweep (sweep_failed s.sweep) s.last s.commit (sweep_failed_same s.sweep) (was.1 at) was.0, λ e. cc)
+
+-- ---- each event of the keeper
+turn_good : (shape : Shape) (p : Places) (s : KeeperState) (after : MaintainState) (ask : Ask MaintainAnswer) → s.step ≡ Maintains → after.begin ≡ s.maintain.begin → (ReadsAbove s.maintain → ReadsAbove after) → Good s → Good (maintain_ledto (record s { maintain = after }) ask)
+turn_good shape p s after ask at same above was =
+    maintain_good (record s { maintain = after }) ask (maintain_holds s.maintain after s.sweep s.last s.commit same above was.0, λ e. let clash : Maintains ≡ Sweeps = sym at ∙ e in cc)
+
+reply_good : (shape : Shape) (p : Places) (s : KeeperState) (step : Keeping) (reply : ℕ) (granted : Bool) → s.step ≡ step → Good s → Good (keeping_next shape p s step reply granted)
+unfolding keeping_next
+reply_good shape p s (Ended its) reply granted at was = was
+reply_good shape p s Starts reply granted at was = start_good _ (start_ask (start_next s.start reply)) was
+reply_good shape p s Maintains reply granted at was =
+    turn_good shape p s (maintain_next shape p s.maintain reply) (maintain_ask shape p (maintain_next shape p s.maintain reply)) at (maintain_next_begin shape p s.maintain reply) (maintain_next_above shape p s.maintain reply) was
+reply_good shape p s LoadsPhase reply granted at was = phase_good p s s.commit (phase_said reply) granted refl was
+reply_good shape p s Enters reply granted at was = enter_good _ (enter_ask (enter_next s.enter reply)) was
+reply_good shape p s Copies reply granted at was = copy_good _ (copy_told (copy_driven s.copy reply)) was
+reply_good shape p s Seeks reply granted at was = seek_good _ (seek_ask (seek_next s.seek reply)) was
+reply_good shape p s Waits reply granted at was = wait_good shape _ (wait_ask (wait_next s.wait reply)) was
+reply_good shape p s Writes reply granted at was = was
+reply_good shape p s Finishes reply granted at was = finish_good _ (finish_ask s.seek.points (finish_next s.finish reply)) was
+reply_good shape p s Sweeps reply granted at was = sweep_good s (sweep_next s.sweep reply) (sweep_ask (sweep_next s.sweep reply)) at (sweep_next_same s.sweep reply) was
+
+given_good : (shape : Shape) (p : Places) (s : KeeperState) (step : Keeping) (action : Action) → s.step ≡ step → Good s → Good (keeping_given shape p s step action)
+unfolding keeping_given
+given_good shape p s Maintains action at was = turn_good shape p s (maintain_given s.maintain action) (maintain_ask shape p (maintain_given s.maintain action)) at (maintain_given_begin s.maintain action) (maintain_given_above s.maintain action) was
+given_good shape p s step action at was = was
+
+device_good : (shape : Shape) (p : Places) (s : KeeperState) (step : Keeping) (done : Bool) (bytes : List ℕ) → s.step ≡ step → Good s → Good (keeping_called shape p s step done bytes)
+unfolding keeping_called
+device_good shape p s Maintains done bytes at was =
+    turn_good shape p s (maintain_called shape p s.maintain done bytes) (maintain_ask shape p (maintain_called shape p s.maintain done bytes)) at (maintain_called_begin shape p s.maintain done bytes) (maintain_called_above shape p s.maintain done bytes) was
+device_good shape p s Writes done bytes at was = called_good s done was
+device_good shape p s Sweeps done bytes at was = read_good s done bytes at was
+device_good shape p s step done bytes at was = was
+
+-- the parts of a turn begin
+parts_holds : (alone : Bool) (m : MaintainState) (w : Sweeper) (last : Finality) (found : Option Commit) → Holds m w last found → Holds (parts_begun alone m) w last found
+parts_holds true m w last found holds = record { serves = holds.serves; reads = tt; on = holds.on; sweeps = holds.sweeps; commit = holds.commit }
+parts_holds false m w last found holds = record { serves = holds.serves; reads = tt; on = holds.on; sweeps = holds.sweeps; commit = holds.commit }
+
+happens_good : (shape : Shape) (p : Places) (s : KeeperState) (event : KeeperEvent) → Good s → Good (keeper_happens shape p s event)
+unfolding keeper_happens
+happens_good shape p s BeginsTurn was = begins_good s (turn_asked s) (is_in_hand s.step) was (either s.is_broken _ _ (was.0, λ e. cc) (parts_holds (serves_alone s) s.maintain s.sweep s.last s.commit was.0, λ e. cc))
+happens_good shape p s (BeginsCommit kind) was = begins_good s (commit_asked s kind) (is_in_hand s.step) was (either s.is_broken _ _ (was.0, λ e. cc) (either s.rests _ _ (was.0, λ e. cc) (was.0, λ e. cc)))
+happens_good shape p s (Replies reply granted) was = reply_good shape p s s.step reply granted refl was
+happens_good shape p s (Gets action) was = given_good shape p s s.step action refl was
+happens_good shape p s (Calls done bytes) was = device_good shape p s s.step done bytes refl was
+
+run_good : (shape : Shape) (p : Places) (opening : KeeperState) (events : List KeeperEvent) → Good opening → Good (keeper_run shape p opening events)
+unfolding keeper_run
+run_good shape p opening [] was = was
+run_good shape p opening (event ∷ before) was = happens_good shape p (keeper_run shape p opening before) event (run_good shape p opening before was)
+
+-- as it is opened
+opened_good : (opening : KeeperState) → IsOpened opening → Good opening
+opened_good opening opened = (record {
+  serves = opened.serves_from;
+  reads = subst (λ (step : Maintaining). AboveAt opening.maintain step) (sym opened.turns_rest) tt;
+  on = subst (λ (w : Sweeper). w.from.0 ≤ w.to.0) (sym opened.none_swept.2) (omega arith);
+  sweeps = inl (ap (λ (w : Sweeper). w.from) opened.none_swept.2);
+  commit = λ c in_hand. none_some c (sym opened.no_commit ∙ in_hand);
+}, λ e. let clash : true ≡ false = sym (ap is_in_hand e) ∙ opened.none_in_hand in cc)
+
+-- it says what crates above speak of
+begin_on : (w : Sweeper) (last : Finality) (c : Commit) → w.from.0 ≤ w.to.0 → IsMoved w last c → last.begin.0 ≤ c.begin.0
+begin_on w last c on moved = let from = ap (λ (a : Addr). a.0) moved.from in let to = ap (λ (a : Addr). a.0) moved.to in omega (arith, from, to, on)
+
+has_begin : (s : KeeperState) → Good s → HasBegin s
+has_begin s good = record {
+  serves = good.0.serves;
+  reads = good.0.reads;
+  on = good.0.on;
+  sweeps = good.0.sweeps;
+  alone = λ e. (good.1 e).none;
+  from = λ e. (good.1 e).from;
+  commit = λ c in_hand. moves c (good.0.commit c in_hand);
+}
+  where
+    moves : (c : Commit) → (c.begin ≡ s.last.begin) ⊎ IsMoved s.sweep s.last c → (c.begin ≡ s.last.begin) ⊎ HasMoved s c
+    moves c (inl same) = inl same
+    moves c (inr moved) = inr (record { swept = moved.swept; from = moved.from; to = moved.to; on = begin_on s.sweep s.last c good.0.on moved; in_force = moved.in_force; before = moved.before })
+
+pub run_begins : (shape : Shape) (p : Places) (opening : KeeperState) (events : List KeeperEvent) → IsOpened opening → HasBegin (keeper_run shape p opening events)
+run_begins shape p opening events opened = has_begin (keeper_run shape p opening events) (run_good shape p opening events (opened_good opening opened))

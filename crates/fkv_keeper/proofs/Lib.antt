@@ -1,4 +1,4 @@
-mod BeginKept
+mod BeginMoves
 mod BeginRun
 mod CheckpointAsks
 mod CheckpointMoves
@@ -35,5 +35,6 @@ mod PointsFound
 mod PointsWritten
 mod Rests
 pub mod Shown
+mod SweepMoves
 mod TurnRun
 mod WholeCalls
