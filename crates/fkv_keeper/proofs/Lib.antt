@@ -1,4 +1,5 @@
 mod BeginMoves
+mod BeginRises
 mod BeginRun
 mod CheckpointAsks
 mod CheckpointMoves
