@@ -300,7 +300,7 @@ from_above : (begin : Addr) (m : MaintainState) (step : Maintaining) → AboveAt
 from_above begin m Serves = tt
 from_above begin m step = tt
 
-fourth_true : (a b c d e : Bool) → (a && b && c && d && e) ≡ true → d ≡ true
+pub fourth_true : (a b c d e : Bool) → (a && b && c && d && e) ≡ true → d ≡ true
 fourth_true true true true true e t = refl
 fourth_true true true true false e t = cc
 fourth_true true true false d e t = cc

@@ -234,7 +234,7 @@ run_used shape p opening (event ∷ before) opened behind = by_step (λ goes. ru
     from_rest : s.rests ≡ true → (is : Bool) → a.rests ≡ is → IsBehindWait (if is then Writes else a.step) → IsBeingWritten p replies told.begun w s → Written
     from_rest rests true is goes its =
         let was = run_rests shape p opening before opened rests in
-        let kept = rests_still shape p s event rests was.rests was.serves is in
+        let kept = rests_still shape p s event rests (ap is_some was.in_hand) was.rests was.serves is in
         still kept.commit kept.used kept.last (resting_first s.step event a w was.rests) (resting_replies (is_copy_resting s.copy) s.step event a.step replies was.rests (no_copies a.step kept.rests)) its
     from_rest rests false is goes its =
         let was = run_rests shape p opening before opened rests in

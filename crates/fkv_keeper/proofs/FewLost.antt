@@ -150,7 +150,7 @@ unfolding start_ledto
 started t (Done (start.Begun number first)) asks its known = record {
   starts = λ now. absurd (not_starts _ _ refl now);
   commit = λ c in_hand.
-      subst (λ (x : Commit). MayBegin (asked_for t x.kind) x.number) (some_same (commit_begun number t.start.asked.kind t.last.begin first) c in_hand)
+      subst (λ (x : Commit). MayBegin (asked_for t x.kind) x.number) (some_same (commit_begun number t.start.asked.kind (begin_next t first) first) c in_hand)
       (subst (λ (x : StartAsked). MayBegin x number) its.1 (begun_may t.start t.start.step number first asks its.0));
 }
 started t (Done (start.Refused why)) asks its known = record { starts = λ now. absurd (not_starts _ _ refl now); commit = known }

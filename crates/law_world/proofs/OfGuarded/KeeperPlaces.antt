@@ -393,8 +393,7 @@ run_both : (shape : Shape) (p : Places) (first : KeeperState) (events : List Kee
 unfolding keeper_run
 run_both shape p first [] buckets of opened = (opened_row p first first.step opened.none_in_hand, λ c is rests. let wrong : None ≡ Some c = sym opened.no_commit ∙ is in cc)
 run_both shape p first (event ∷ before) buckets of opened =
-    let both = run_both shape p first before buckets of opened in
-    (
+    let both = run_both shape p first before buckets of opened in (
       happens_row shape p (keeper_run shape p first before) event buckets (run_of_store shape p shape p first before of) both.1 both.0,
       happens_rest shape p (keeper_run shape p first before) event both.0 both.1,
     )
