@@ -1,6 +1,6 @@
 -- What one event leaves of the commit in hand, of the lists, and which step follows.
 use Rattle.std.proofs.Common.{◌≡◌, ℕ, ◌∙◌, ◌⊎◌, inl, inr, List, refl, ap, sym, subst, Bool, true, false}
-use Rattle.std.specs.Prelude.{not, ◌||◌, Option, Some, None, if◌then◌else◌}
+use Rattle.std.specs.Prelude.{◌&&◌, not, ◌||◌, Option, Some, None, if◌then◌else◌}
 use Rattle.fkv_base.specs.declared.faults.Fault.TheVariants as fault
 use Rattle.fkv_base.specs.declared.numbers.Addr.{Addr}
 use Rattle.fkv_base.specs.declared.phases.Phase.TheVariants as phase
@@ -39,11 +39,14 @@ use Rattle.fkv_keeper.specs.declared.answers.KeeperTold.{KeeperTold}
 use Rattle.fkv_keeper.specs.declared.answers.KeeperTold.TheVariants.{TurnRefused}
 use Rattle.fkv_keeper.specs.declared.keepers.Keeping.{Keeping}
 use Rattle.fkv_keeper.specs.declared.keepers.Keeping.TheVariants.{Ended, Starts, Maintains, LoadsPhase, Enters, Copies, Seeks, Waits, Writes, Finishes, Sweeps}
-use Rattle.fkv_keeper.specs.Keeping.{KeeperState, is_copy_resting, copy_driven, copy_told, copied, points_known, ended, turned, turn_asked, commit_asked, start_ledto, maintain_ledto, copies, part_begun, must_rest, writes_taken_up, phase_ledto, enter_ledto, copy_ledto, seek_ledto, writes_begun, wait_ledto, finished, finish_ledto, keeping_next, keeping_given, write_ledto, writes_called, keeping_called, unless_flush_rests}
+use Rattle.fkv_keeper.specs.Keeping.{KeeperState, is_copy_resting, copy_driven, copy_told, copied, points_known, ended, turned, turn_asked, commit_asked, start_ledto, maintain_ledto, copies, part_begun, must_rest, writes_taken_up, phase_ledto, enter_ledto, copy_ledto, seek_ledto, writes_begun, wait_ledto, finished, finish_ledto, keeping_next, keeping_given, write_ledto, writes_called, keeping_called, unless_flush_rests, sweeps_next, sweep_ledto, sweep_called}
 use Rattle.fkv_keeper.specs.KeeperRun.{KeeperEvent, BeginsTurn, BeginsCommit, Replies, Gets, Calls, begins, keeper_happens}
 use Rattle.fkv_keeper.specs.CheckpointLaws.{IsCopyPhase, IsCopyTakenUp, IsCopyBegun, IsBegun, IsFinished, IsCommitAfter, CopiesOnce, KeepsLists, MayFollow, MayStep, IsPhaseLoaded, DoesOneThing}
 use Rattle.fkv_keeper.proofs.Happens.{happens_at, happens_so}
 use Rattle.fkv_keeper.proofs.Rests.{come_follows, each_rests, may_step}
+use Rattle.fkv_sweep.specs.Sweeping.{is_sweeping, sweep_ask, sweep_next, sweep_read, sweep_failed}
+use Rattle.fkv_sweep.specs.declared.sweeping.SweepAnswer.{SweepAnswer}
+use Rattle.fkv_sweep.specs.declared.sweeping.SweepAnswer.TheVariants as sweep
 
 -- the step of one event
 record IsStepped (s : KeeperState) (event : KeeperEvent) (a : KeeperState) : Type 0 where

@@ -55,13 +55,18 @@ use Rattle.fkv_maintain.specs.Maintaining.{device_asked, maintaining_ask, mainta
 use Rattle.fkv_keeper.specs.declared.answers.KeeperTold.{KeeperTold}
 use Rattle.fkv_keeper.specs.declared.keepers.Keeping.{Keeping}
 use Rattle.fkv_keeper.specs.declared.keepers.Keeping.TheVariants.{Ended, Starts, Maintains, LoadsPhase, Enters, Copies, Seeks, Waits, Writes, Finishes, Sweeps}
-use Rattle.fkv_keeper.specs.Keeping.{KeeperState, copy_asked, device_passed, write_asked, keeping_ask, keeper_ask}
+use Rattle.fkv_keeper.specs.Keeping.{KeeperState, copy_asked, device_passed, write_asked, keeping_ask, keeper_ask, sweep_passed}
 use Rattle.fkv_keeper.specs.KeeperRun.{KeeperEvent, keeper_run, IsOpened}
 use Rattle.fkv_keeper.specs.CheckpointLaws.{MayChange, MayStore, ChangesOnly, ChangesItsWords, SparesWord, SparesDurable}
 use Rattle.fkv_keeper.proofs.CheckpointAsks.{HasDrain, HasOffsets, passed_changes, defer_changes, shift_changes, turn_changes, scan_changes, claim_changes, flush_changes, serve_changes}
 use Rattle.fkv_keeper.proofs.CheckpointParts.{IsStartAt, IsEnterAt, IsSeekAt}
 use Rattle.fkv_keeper.proofs.CheckpointTurns.{IsMaintainAt, IsKeepingIn, run_in}
 use Rattle.fkv_keeper.proofs.SweepRuns.{run_loading}
+use Rattle.fkv_sweep.specs.Sweeping.{sweep_ask}
+use Rattle.fkv_sweep.proofs.Shown.{IsLoading, sweep_loads}
+use Rattle.fkv_sweep.specs.Swept.{IsLoadOrEnd}
+use Rattle.fkv_sweep.specs.declared.sweeping.SweepAnswer.{SweepAnswer}
+use Rattle.fkv_sweep.specs.declared.sweeping.SweepAnswer.TheVariants as sweep
 
 -- by the machine inside
 start_drain : HasDrain (MayChange Starts)

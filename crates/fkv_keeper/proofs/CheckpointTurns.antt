@@ -1,6 +1,6 @@
 -- At every moment of a run the drain slots of the machines inside are among the eight.
 use Rattle.std.proofs.Common.{◌≡◌, ℕ, ◌<◌, ◌∙◌, List, [], ◌∷◌, refl, ap, sym, subst, arith, Bool, true, false}
-use Rattle.std.specs.Prelude.{◌||◌, Option, Some, None, ⊤, if◌then◌else◌}
+use Rattle.std.specs.Prelude.{◌&&◌, ◌||◌, Option, Some, None, ⊤, if◌then◌else◌}
 use Rattle.fkv_base.specs.Limits.{drain_slots}
 use Rattle.fkv_base.specs.declared.phases.Phase.TheVariants as phase
 use Rattle.fkv_base.specs.declared.shapes.Shape.{Shape}
@@ -48,11 +48,14 @@ use Rattle.fkv_maintain.specs.declared.maintaining.Maintaining.TheVariants as pa
 use Rattle.fkv_maintain.specs.Maintaining.{is_flush_resting, MaintainState, maintain_ask, maintain_next, maintain_given, maintain_called, scan_ledto, claim_ledto, flush_ledto, shift_ledto, serve_ledto, turn_ledto, maintaining_next, maintaining_given, maintaining_called, flush_told}
 use Rattle.fkv_keeper.specs.declared.keepers.Keeping.{Keeping}
 use Rattle.fkv_keeper.specs.declared.keepers.Keeping.TheVariants.{Ended, Starts, Maintains, LoadsPhase, Enters, Copies, Seeks, Waits, Writes, Finishes, Sweeps}
-use Rattle.fkv_keeper.specs.Keeping.{KeeperState, must_rest, parts_begun, is_copy_resting, copy_driven, copy_told, turn_asked, commit_asked, start_ledto, maintain_ledto, part_begun, phase_ledto, enter_ledto, copy_ledto, seek_ledto, writes_begun, wait_ledto, finished, finish_ledto, keeping_next, keeping_given, write_ledto, writes_called, keeping_called, serves_alone}
+use Rattle.fkv_keeper.specs.Keeping.{KeeperState, must_rest, parts_begun, is_copy_resting, copy_driven, copy_told, turn_asked, commit_asked, start_ledto, maintain_ledto, part_begun, phase_ledto, enter_ledto, copy_ledto, seek_ledto, writes_begun, wait_ledto, finished, finish_ledto, keeping_next, keeping_given, write_ledto, writes_called, keeping_called, serves_alone, sweep_ledto}
 use Rattle.fkv_keeper.specs.KeeperRun.{KeeperEvent, BeginsTurn, BeginsCommit, Replies, Gets, Calls, is_in_hand, begins, keeper_run, IsOpened}
 use Rattle.fkv_keeper.proofs.CheckpointRanges.{IsShiftedIn, IsTurnedIn, shift_in, turn_in, claim_in, given_in}
 use Rattle.fkv_keeper.proofs.CheckpointParts.{IsStartIn, start_in, IsEnterIn, enter_in, IsSeekIn, seek_begun_in, seek_in}
 use Rattle.fkv_keeper.proofs.Happens.{happens_at, happens_so}
+use Rattle.fkv_sweep.specs.Sweeping.{is_sweeping, sweep_ask, sweep_next, sweep_read}
+use Rattle.fkv_sweep.specs.declared.sweeping.SweepAnswer.{SweepAnswer}
+use Rattle.fkv_sweep.specs.declared.sweeping.SweepAnswer.TheVariants as sweep
 
 -- what every turn does
 abbrev pub IsMaintainAt : Maintaining → MaintainState → Type 0

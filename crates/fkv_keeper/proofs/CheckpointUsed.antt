@@ -22,6 +22,7 @@ use Rattle.fkv_keeper.proofs.Rests.{begins_rest, rests_still}
 use Rattle.fkv_keeper.proofs.CheckpointRuns.{run_copied}
 use Rattle.fkv_keeper.proofs.CheckpointMoves.{IsMove, each_move}
 use Rattle.fkv_keeper.proofs.CheckpointWrites.{run_writes}
+use Rattle.std.specs.Option.{is_some}
 
 -- what comes before a step behind the wait
 before_it : (step next : Keeping) → MayFollow step next → IsBehindWait next → ((step ≡ Waits) × (next ≡ Writes)) ⊎ IsBehindWait step

@@ -38,7 +38,7 @@ use Rattle.fkv_manifest.proofs.Shown.{newest_spelled}
 use Rattle.fkv_keeper.specs.declared.answers.KeeperTold.{KeeperTold}
 use Rattle.fkv_keeper.specs.declared.keepers.Keeping.{Keeping}
 use Rattle.fkv_keeper.specs.declared.keepers.Keeping.TheVariants.{Ended, Starts, Waits, Writes}
-use Rattle.fkv_keeper.specs.Keeping.{Finality, KeeperState, asked_for, lost_left, start_ledto, keeping_next, keeping_given, keeping_called}
+use Rattle.fkv_keeper.specs.Keeping.{Finality, KeeperState, asked_for, lost_left, start_ledto, keeping_next, keeping_given, keeping_called, begin_next}
 use Rattle.fkv_keeper.specs.KeeperRun.{KeeperEvent, Replies, is_in_hand, keeper_happens, keeper_run, IsOpened}
 use Rattle.fkv_keeper.specs.LastCommits.{point_written, slot_said, slot_written}
 use Rattle.fkv_keeper.specs.CheckpointLaws.{IsCommitAfter, IsFinished, IsWrittenAs, AreWritesBegun, copy_replies, begun_with}

@@ -1,6 +1,6 @@
 -- Each reply, action and call of the device leaves a call of the keeper fewer.
 use Rattle.std.proofs.Common.{◌≡◌, ℕ, ◌+◌, ◌<◌, ◌≤◌, ◌∙◌, refl, sym, ap, arith, List, Bool, true, false}
-use Rattle.std.specs.Prelude.{◌||◌, if◌then◌else◌, Option, Some, None}
+use Rattle.std.specs.Prelude.{◌&&◌, ◌||◌, if◌then◌else◌, Option, Some, None}
 use Rattle.fkv_base.specs.declared.faults.Fault.TheVariants as fault
 use Rattle.fkv_base.specs.declared.phases.Phase.TheVariants as phase
 use Rattle.fkv_base.specs.declared.shapes.Shape.{Shape}
@@ -48,8 +48,8 @@ use Rattle.fkv_keeper.specs.declared.keepers.Keeping.TheVariants.{Ended, Starts,
 use Rattle.fkv_maintain.specs.declared.maintaining.MaintainAnswer.{MaintainAnswer}
 use Rattle.fkv_maintain.specs.declared.maintaining.MaintainAnswer.TheVariants as maintain
 use Rattle.fkv_maintain.specs.AsksLeft.{maintain_asks_left}
-use Rattle.fkv_keeper.specs.KeeperAsks.{committing_calls_left, writes_left, copy_left, most_copy_asks, most_write_asks, most_part_asks, keeping_asks_left, keeper_asks_left, keeping_made, keeper_calls_asked}
-use Rattle.fkv_keeper.specs.Keeping.{KeeperState, device_passed, write_asked, turn_over, is_copy_resting, copy_asked, copy_told, copy_driven, keeping_ask, keeper_ask, ended, start_ledto, maintain_ledto, copies, part_begun, phase_ledto, enter_ledto, copy_ledto, seek_ledto, writes_begun, wait_ledto, finished, finish_ledto, keeping_next, keeper_next, keeping_given, keeper_given, must_rest, turned, write_ledto, keeping_called, keeper_called, writes_of, checkpoint_used}
+use Rattle.fkv_keeper.specs.KeeperAsks.{committing_calls_left, writes_left, copy_left, most_copy_asks, most_write_asks, most_part_asks, keeping_asks_left, keeper_asks_left, keeping_made, keeper_calls_asked, most_behind_phase}
+use Rattle.fkv_keeper.specs.Keeping.{KeeperState, device_passed, write_asked, turn_over, is_copy_resting, copy_asked, copy_told, copy_driven, keeping_ask, keeper_ask, ended, start_ledto, maintain_ledto, copies, part_begun, phase_ledto, enter_ledto, copy_ledto, seek_ledto, writes_begun, wait_ledto, finished, finish_ledto, keeping_next, keeper_next, keeping_given, keeper_given, must_rest, turned, write_ledto, keeping_called, keeper_called, writes_of, checkpoint_used, sweeps_next, sweep_ledto, sweep_passed, writes_taken_up, unless_flush_rests}
 use Rattle.fkv_maintain.specs.declared.maintaining.Maintaining.TheVariants.{Broken}
 use Rattle.fkv_maintain.specs.Maintaining.{is_flush_resting, MaintainState, maintaining_ask, maintain_ask, maintain_next, maintain_given, maintain_called}
 use Rattle.fkv_keeper.proofs.KeeperDevice.{keeper_asked_calls}
@@ -58,6 +58,12 @@ use Rattle.fkv_keeper.proofs.KeeperTakes.{starting_takes, entering_takes, copy_t
 use Rattle.fkv_maintain.proofs.Shown.{passed_takes}
 use Rattle.fkv_plane.proofs.Shown.{some_sum, sum_most, sum_whole}
 use Rattle.fkv_maintain.proofs.Shown.{maintain_fewer, maintain_given_fewer, maintain_called_fewer}
+use Rattle.fkv_sweep.specs.Sweeping.{is_sweeping, sweep_ask, sweep_next, sweep_read, turn_begun}
+use Rattle.fkv_sweep.specs.AsksLeft.{steps_asked, is_through, most_sweep_asks, sweep_asks_left}
+use Rattle.fkv_sweep.proofs.Shown.{sweep_asked, sweep_fewer, sweep_read_fewer, sweep_turn_bounded}
+use Rattle.fkv_plane.specs.AsksLeft.{sum_left}
+use Rattle.fkv_sweep.specs.declared.sweeping.SweepAnswer.{SweepAnswer}
+use Rattle.fkv_sweep.specs.declared.sweeping.SweepAnswer.TheVariants as sweep
 
 write_done : (answer : WriteAnswer) (told : KeeperTold) → is_done (write_asked answer told) ≡ true
 write_done write.Device told = refl

@@ -34,10 +34,16 @@ use Rattle.fkv_maintain.specs.declared.maintaining.MaintainAnswer.TheVariants as
 use Rattle.fkv_keeper.specs.Answers.{is_busy}
 use Rattle.fkv_maintain.specs.AsksLeft.{GoesOnWhereLeft, maintain_asks_left}
 use Rattle.fkv_keeper.specs.KeeperAsks.{committing_calls_left, writes_left, copy_left, most_write_asks, most_behind_phase, keeping_asks_left, keeper_asks_left, IsBusyWhereLeft}
-use Rattle.fkv_keeper.specs.Keeping.{KeeperState, device_passed, end_told, write_asked, turn_over, copy_asked, keeping_ask, keeper_ask, finished}
+use Rattle.fkv_keeper.specs.Keeping.{KeeperState, device_passed, end_told, write_asked, turn_over, copy_asked, keeping_ask, keeper_ask, finished, sweep_passed}
 use Rattle.fkv_maintain.specs.Maintaining.{maintain_ask}
 use Rattle.fkv_plane.proofs.Shown.{some_sum, some_inside}
 use Rattle.fkv_maintain.proofs.Shown.{maintain_left}
+use Rattle.fkv_sweep.specs.Sweeping.{sweep_ask}
+use Rattle.fkv_sweep.specs.AsksLeft.{sweep_asks_left}
+use Rattle.fkv_sweep.proofs.Shown.{sweep_asked}
+use Rattle.fkv_sweep.specs.declared.sweeping.SweepAnswer.{SweepAnswer}
+use Rattle.fkv_sweep.specs.declared.sweeping.SweepAnswer.TheVariants as sweep
+use Rattle.fkv_sweep.specs.AsksLeft.{GoesOnWhereLeft as SweepsWhereLeft}
 
 pub never : {X : Type 0} → true ≡ false → X
 never e = cc

@@ -37,6 +37,7 @@ use Rattle.fkv_keeper.proofs.KeeperDevice.{keeper_asked_calls}
 use Rattle.fkv_keeper.proofs.Classes.{happens_class}
 use Rattle.fkv_keeper.proofs.Rests.{BeginsRest, RestsStill, begins_rest, rests_still}
 use Rattle.fkv_keeper.proofs.KeeperSound.{IsRefused, IsGoing, Knows, KnowsWrites, IsStep, works_not, kept_writes, stays, reply_step, given_step, called_step, turn_step, commit_step}
+use Rattle.std.specs.Option.{is_some}
 
 -- what holds at every moment
 pub record IsSound (shape : Shape) (failed : Bool) (w : Writing) (opened : Option Version) (s : KeeperState) : Type 0 where

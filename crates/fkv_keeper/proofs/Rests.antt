@@ -41,11 +41,15 @@ use Rattle.fkv_keeper.specs.declared.answers.KeeperTold.{KeeperTold}
 use Rattle.fkv_keeper.specs.declared.answers.KeeperTold.TheVariants.{TurnRefused, CommitRefused}
 use Rattle.fkv_keeper.specs.declared.keepers.Keeping.{Keeping}
 use Rattle.fkv_keeper.specs.declared.keepers.Keeping.TheVariants.{Ended, Starts, Maintains, LoadsPhase, Enters, Copies, Seeks, Waits, Writes, Finishes, Sweeps}
-use Rattle.fkv_keeper.specs.Keeping.{KeeperState, come_to, is_copy_resting, copy_driven, copy_told, asked_for, ended, turned, parts_begun, turn_asked, commit_asked, start_ledto, maintain_ledto, copies, copies_next, part_begun, writes_taken_up, phase_ledto, enter_ledto, copy_ledto, seek_ledto, writes_begun, wait_ledto, finished, finish_ledto, keeping_next, keeping_given, must_rest, rested, write_ledto, writes_called, keeping_called, unless_flush_rests, serves_alone}
+use Rattle.fkv_keeper.specs.Keeping.{KeeperState, come_to, is_copy_resting, copy_driven, copy_told, asked_for, ended, turned, parts_begun, turn_asked, commit_asked, start_ledto, maintain_ledto, copies, copies_next, part_begun, writes_taken_up, phase_ledto, enter_ledto, copy_ledto, seek_ledto, writes_begun, wait_ledto, finished, finish_ledto, keeping_next, keeping_given, must_rest, rested, write_ledto, writes_called, keeping_called, unless_flush_rests, serves_alone, sweeps_next, sweep_ledto}
 use Rattle.fkv_keeper.specs.KeeperRun.{KeeperEvent, BeginsTurn, BeginsCommit, Replies, Gets, Calls, keeper_happens}
 use Rattle.fkv_keeper.specs.KeeperLaws.{MayRest}
 use Rattle.fkv_keeper.specs.CheckpointLaws.{MayFollow, MayStep}
 use Rattle.fkv_keeper.proofs.Happens.{happens_at, happens_so}
+use Rattle.fkv_sweep.specs.Sweeping.{is_sweeping, sweep_ask, sweep_next, sweep_read}
+use Rattle.std.specs.Option.{is_some}
+use Rattle.fkv_sweep.specs.declared.sweeping.SweepAnswer.{SweepAnswer}
+use Rattle.fkv_sweep.specs.declared.sweeping.SweepAnswer.TheVariants as sweep
 
 -- Writes begin to rest by a call of theirs that succeeds, behind which a sync is due.
 pub record BeginsRest (s : KeeperState) (event : KeeperEvent) (a : KeeperState) : Type 0 where

@@ -110,11 +110,11 @@ run_loading shape p opening events opened =
 
 -- it is of the same store
 pub record IsOfStore (shape : Shape) (p : Places) (w : Sweeper) : Type 0 where
-  pub shape : w.shape ≡ shape
-  pub places : w.places ≡ p
+  pub its_shape : w.shape ≡ shape
+  pub its_places : w.places ≡ p
 
 of_store : (shape : Shape) (p : Places) (w after : Sweeper) → IsSameSweep w after → IsOfStore shape p w → IsOfStore shape p after
-of_store shape p w after same its = record { shape = same.shape ∙ its.shape; places = same.places ∙ its.places }
+of_store shape p w after same its = record { its_shape = same.shape ∙ its.its_shape; its_places = same.places ∙ its.its_places }
 
 store_kept : (shape : Shape) (p : Places) → IsKept (IsOfStore shape p)
 store_kept shape p = record {
@@ -122,7 +122,7 @@ store_kept shape p = record {
   next = λ w reply was. of_store shape p w (sweep_next w reply) (sweep_next_same w reply) was;
   read = λ w bytes was. of_store shape p w (sweep_read w bytes) (sweep_read_same w bytes) was;
   failed = λ w was. of_store shape p w (sweep_failed w) (sweep_failed_same w) was;
-  begun = λ w from to low was. record { shape = was.shape; places = was.places };
+  begun = λ w from to low was. record { its_shape = was.its_shape; its_places = was.its_places };
 }
 
 pub run_of_store : (its : Shape) (places : Places) (shape : Shape) (p : Places) (opening : KeeperState) (events : List KeeperEvent) → IsOfStore its places opening.sweep → IsOfStore its places (keeper_run shape p opening events).sweep

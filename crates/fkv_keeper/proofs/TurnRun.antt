@@ -1,6 +1,6 @@
 -- A turn tells a finished commit just where it has finished the one in hand; else that one and the newest finished commit stay.
 use Rattle.std.proofs.Common.{inl, inr, ◌≡◌, ℕ, ◌∙◌, refl, sym, ap, List, Bool, true, false}
-use Rattle.std.specs.Prelude.{◌⊎◌, ◌||◌, if◌then◌else◌, Option, Some, None, Result}
+use Rattle.std.specs.Prelude.{◌&&◌, ◌⊎◌, ◌||◌, if◌then◌else◌, Option, Some, None, Result}
 use Rattle.fkv_base.specs.declared.faults.Fault.{Fault}
 use Rattle.fkv_base.specs.declared.numbers.Addr.{Addr}
 use Rattle.fkv_keeper.specs.declared.answers.Turn.{Turn}
@@ -37,9 +37,12 @@ use Rattle.fkv_keeper.specs.declared.keepers.Keeping.{Keeping}
 use Rattle.fkv_keeper.specs.declared.keepers.Keeping.TheVariants.{Ended, Starts, Maintains, LoadsPhase, Enters, Copies, Seeks, Waits, Writes, Finishes, Sweeps}
 use Rattle.fkv_maintain.specs.declared.maintaining.MaintainAnswer.{MaintainAnswer}
 use Rattle.fkv_maintain.specs.declared.maintaining.MaintainAnswer.TheVariants as maintain
-use Rattle.fkv_keeper.specs.Keeping.{KeeperState, device_passed, write_asked, is_copy_resting, copy_asked, copy_driven, keeping_ask, keeper_ask, ended, maintain_ledto, copies, part_begun, phase_ledto, enter_ledto, copy_ledto, seek_ledto, writes_begun, wait_ledto, finished, finish_ledto, keeping_next, keeper_next, keeping_given, keeper_given, must_rest, parts_begun, write_ledto, copied, points_known, turn_asked, Finality, keeping_called, keeper_called, serves_alone}
+use Rattle.fkv_keeper.specs.Keeping.{KeeperState, device_passed, write_asked, is_copy_resting, copy_asked, copy_driven, keeping_ask, keeper_ask, ended, maintain_ledto, copies, part_begun, phase_ledto, enter_ledto, copy_ledto, seek_ledto, writes_begun, wait_ledto, finished, finish_ledto, keeping_next, keeper_next, keeping_given, keeper_given, must_rest, parts_begun, write_ledto, copied, points_known, turn_asked, Finality, keeping_called, keeper_called, serves_alone, sweep_ledto, sweep_passed}
 use Rattle.fkv_maintain.specs.Maintaining.{is_flush_resting, maintain_ask, maintain_next, maintain_given, maintain_called}
 use Rattle.fkv_keeper.proofs.KeeperLeft.{never, nor}
+use Rattle.fkv_sweep.specs.Sweeping.{is_sweeping, sweep_ask, sweep_next, sweep_read}
+use Rattle.fkv_sweep.specs.declared.sweeping.SweepAnswer.{SweepAnswer}
+use Rattle.fkv_sweep.specs.declared.sweeping.SweepAnswer.TheVariants as sweep
 
 abbrev pub TurnRuns : KeeperState → KeeperState → Keeping → Type 0
 TurnRuns before s (Ended (Turned true full)) = IsCommitFinished before s
