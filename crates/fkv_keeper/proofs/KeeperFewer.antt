@@ -1,5 +1,5 @@
 -- Each reply, action and call of the device leaves a call of the keeper fewer.
-use Rattle.std.proofs.Common.{◌≡◌, ℕ, ◌+◌, ◌<◌, ◌≤◌, ◌∙◌, refl, sym, ap, arith, List, Bool, true, false}
+use Rattle.std.proofs.Common.{◌≡◌, ℕ, ◌+◌, ◌-◌, ◌<◌, ◌≤◌, ◌∙◌, refl, sym, ap, arith, List, Bool, true, false}
 use Rattle.std.specs.Prelude.{◌&&◌, ◌||◌, if◌then◌else◌, Option, Some, None}
 use Rattle.fkv_base.specs.declared.faults.Fault.TheVariants as fault
 use Rattle.fkv_base.specs.declared.phases.Phase.TheVariants as phase
@@ -54,7 +54,7 @@ use Rattle.fkv_maintain.specs.declared.maintaining.Maintaining.TheVariants.{Brok
 use Rattle.fkv_maintain.specs.Maintaining.{is_flush_resting, MaintainState, maintaining_ask, maintain_ask, maintain_next, maintain_given, maintain_called}
 use Rattle.fkv_keeper.proofs.KeeperDevice.{keeper_asked_calls}
 use Rattle.fkv_keeper.proofs.KeeperLeft.{never, nor, copy_where, write_busy}
-use Rattle.fkv_keeper.proofs.KeeperTakes.{starting_takes, entering_takes, copy_takes, seeking_takes, waiting_takes, finishing_takes}
+use Rattle.fkv_keeper.proofs.KeeperTakes.{starting_takes, entering_takes, copy_takes, seeking_takes, waiting_takes, finishing_takes, sweeping_takes}
 use Rattle.fkv_maintain.proofs.Shown.{passed_takes}
 use Rattle.fkv_plane.proofs.Shown.{some_sum, sum_most, sum_whole}
 use Rattle.fkv_maintain.proofs.Shown.{maintain_fewer, maintain_given_fewer, maintain_called_fewer}
@@ -276,7 +276,6 @@ unfolding phase_ledto
 phase_led shape p s None said granted = either shape p (is_flush_resting s.maintain) _ _ _
     (over shape p (record s { is_granted = granted }) (turn_over s) _ (some_behind (most_part_asks s.seek.sessions s.finish.sessions) (most_sweep_asks s.sweep.places))) (sweeps_led shape p s granted)
 phase_led shape p s (Some c) said granted = within_part _ (most_part_asks s.seek.sessions s.finish.sessions) (most_sweep_asks s.sweep.places) (commit_led shape p s c said granted)
-
 
 inside_enter : (shape : Shape) (p : Places) (s : KeeperState) (old : ℕ) → s.step ≡ Enters → enter_asks_left s.enter < old → keeper_asks_left shape p s < old
 unfolding keeping_asks_left
