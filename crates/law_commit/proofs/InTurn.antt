@@ -11,7 +11,7 @@ use Rattle.law_refine.specs.Below.fkv_manifest.TheGating.{Gating}
 use Rattle.law_refine.specs.Below.fkv_manifest.TheGating.TheVariants as gate
 use Rattle.law_refine.specs.Below.fkv_keeper.KeeperTold.TheVariants.{Turned, Begun}
 use Rattle.law_refine.specs.Below.fkv_keeper.TheKeeping.{Keeping}
-use Rattle.law_refine.specs.Below.fkv_keeper.TheKeeping.TheVariants.{Ended, Starts, Maintains, LoadsPhase, Enters, Copies, Seeks, Waits, Writes, Finishes}
+use Rattle.law_refine.specs.Below.fkv_keeper.TheKeeping.TheVariants.{Ended, Starts, Maintains, LoadsPhase, Enters, Copies, Seeks, Waits, Writes, Finishes, Sweeps}
 use Rattle.law_refine.specs.Below.fkv_keeper.CheckpointLaws.{GoesOn, IsBegun, IsCommitAfter, IsFinished}
 use Rattle.law_refine.specs.Below.fkv_keeper.Keeping.{KeeperState}
 use Rattle.law_refine.specs.Below.fkv_keeper.KeeperLaws.{MayRest}
@@ -121,6 +121,7 @@ event_turn s begun Maintains event after next at its = its
 event_turn s begun LoadsPhase event after next at its = its
 event_turn s begun Enters event after next at its = its
 event_turn s begun Copies event after next at its = its
+event_turn s begun Sweeps event after next at its = its
 event_turn s begun Seeks event after next at its = its
 event_turn s begun Waits event after next at its = its
 

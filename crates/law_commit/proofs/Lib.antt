@@ -29,6 +29,7 @@ mod SessionSteps
 pub mod Shown
 mod Sights
 mod Stamps
+mod Sweeps
 mod Telling
 mod ToldFinished
 mod WorkedPast
