@@ -6,6 +6,7 @@ mod Counted
 mod Goes
 mod InRest
 mod InTurn
+mod Lasts
 mod LifeBegun
 mod Measured
 mod NewestWritten
