@@ -1,4 +1,5 @@
-mod BeginKept
+mod BeginMoves
+mod BeginRises
 mod BeginRun
 mod CheckpointAsks
 mod CheckpointMoves
@@ -35,5 +36,6 @@ mod PointsFound
 mod PointsWritten
 mod Rests
 pub mod Shown
+mod SweepMoves
 mod TurnRun
 mod WholeCalls

@@ -1,6 +1,7 @@
 -- What the crates above may cite of these proofs.
 pub use Rattle.fkv_maintain.proofs.Shown.{IsLoadOrCall}
-pub use Rattle.fkv_keeper.proofs.BeginKept.{run_begins}
+pub use Rattle.fkv_keeper.proofs.BeginMoves.{run_begins}
+pub use Rattle.fkv_keeper.proofs.BeginRises.{run_rises}
 pub use Rattle.fkv_keeper.proofs.GoesOn.{due_asks, kept_asks}
 pub use Rattle.fkv_keeper.proofs.HandBusy.{run_ended}
 pub use Rattle.fkv_keeper.proofs.KeeperBegun.{begin_bounded, turn_bounded}
@@ -18,3 +19,4 @@ pub use Rattle.fkv_keeper.proofs.CheckpointMoves.{each_move, WasInHand, was_in_h
 pub use Rattle.fkv_keeper.proofs.CheckpointStores.{run_spares, run_stores}
 pub use Rattle.fkv_keeper.proofs.CheckpointUsed.{come_behind, run_used}
 pub use Rattle.fkv_keeper.proofs.CheckpointWrites.{run_holds, run_writes}
+pub use Rattle.fkv_keeper.proofs.SweepMoves.{begin_moves, sweep_moves}

@@ -1,4 +1,5 @@
 pub mod AsksLeft
+mod Finds
 mod Loads
 pub mod Reading
 mod Same

@@ -14,5 +14,6 @@ mod Outside
 pub mod OwnTurns
 mod Serves
 pub mod Sessions
+mod Sweeps
 mod Tries
 mod Walks

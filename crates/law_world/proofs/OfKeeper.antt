@@ -1,3 +1,4 @@
+pub mod BeginRises
 pub mod OneCommit
 pub mod OwnCalls
 pub mod OwnRun

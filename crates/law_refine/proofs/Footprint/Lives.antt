@@ -4,6 +4,8 @@ use Rattle.std.proofs.Common.{◌≡◌, ℕ, ◌∙◌, refl, sym, subst, List,
 use Rattle.std.specs.Prelude.{Option, Some, None, slice_get}
 use Rattle.fkv_base.specs.declared.shapes.Shape.{Shape}
 use Rattle.fkv_plane.specs.declared.places.Places.{Places}
+use Rattle.fkv_sweep.specs.Swept.{IsLoadOrEnd}
+use Rattle.fkv_sweep.specs.Sweeping.{sweep_ask}
 use Rattle.law_world.specs.Below.fkv_keeper.TheKeeping.TheVariants.{Finishes}
 use Rattle.law_world.specs.Below.fkv_keeper.KeeperRun as keeper
 use Rattle.law_world.specs.Below.fkv_keeper.Keeping.{KeeperState, keeper_ask}
@@ -19,6 +21,7 @@ use Rattle.law_refine.specs.Mail.Servers.{serving_of}
 use Rattle.law_refine.proofs.Footprint.Commits.{IsStoredNot}
 use Rattle.law_refine.proofs.Footprint.Keepers.{IsKeeperSparing, keeper_stores, keeper_asks_spares, keeper_run_spares}
 use Rattle.law_refine.proofs.Footprint.Serves.{IsServedNot}
+use Rattle.law_refine.proofs.Footprint.Sweeps.{run_loads}
 
 -- an item of a list is one
 no_item : {X : Type 0} {A : Type 0} (found : Option X) (its : X) → found ≡ None → found ≡ Some its → A
@@ -47,11 +50,16 @@ keeper_spared opening events opened =
     let ran = keeper_run_spares count opening.now.shape opening.now.places opening.now.keeper (keeper_events opening events) opened refl in
     subst (λ (s : KeeperState). IsKeeperSparing opening.now.shape.sessions count s) (sym (keeper_runs opening events)) ran
 
+-- its sweep asks for loads alone
+sweep_loaded : (opening : World) (events : List Event) → keeper.IsOpened opening.now.keeper → IsLoadOrEnd (sweep_ask (run opening events).now.keeper.sweep)
+sweep_loaded opening events opened =
+    subst (λ (s : KeeperState). IsLoadOrEnd (sweep_ask s.sweep)) (sym (keeper_runs opening events)) (run_loads opening.now.shape opening.now.places opening.now.keeper (keeper_events opening events) opened)
+
 pub keeper_spares : (part : Part) (opening : World) (events : List Event) → (part ≡ ThePhase → keeper_stores (run opening events).now.keeper (run opening events).now.keeper.step ≡ false) → keeper.IsOpened opening.now.keeper → HasSeats part opening.now.places opening.now.shape.sessions → HasSeats part opening.now.places opening.now.keeper.finish.sessions
     → IsServedNot part (serving_of (run opening events).now.keeper) → ((run opening events).now.keeper.step ≡ Finishes → IsStoredNot part (run opening events).now.keeper.finish.step)
     → Spares part (run opening events).now.places (keeper_ask (run opening events).now.shape (run opening events).now.places (run opening events).now.keeper)
 keeper_spares part opening events apart opened served finished none other =
     let s : KeeperState = (run opening events).now.keeper in
-    let its : Spares part opening.now.places (keeper_ask opening.now.shape opening.now.places s) = keeper_asks_spares part opening.now.shape opening.now.places opening.now.keeper.finish.sessions s apart served finished (keeper_spared opening events opened) none other in
+    let its : Spares part opening.now.places (keeper_ask opening.now.shape opening.now.places s) = keeper_asks_spares part opening.now.shape opening.now.places opening.now.keeper.finish.sessions s apart served finished (keeper_spared opening events opened) none other (sweep_loaded opening events opened) in
     subst (λ (shape : Shape). Spares part (run opening events).now.places (keeper_ask shape (run opening events).now.places s)) (sym (shape_stays opening events))
     (subst (λ (p : Places). Spares part p (keeper_ask opening.now.shape p s)) (sym (places_stay opening events)) its)

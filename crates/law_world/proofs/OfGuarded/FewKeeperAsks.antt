@@ -12,7 +12,7 @@ use Rattle.fkv_maintain.specs.Maintaining.{MaintainState, maintain_begun}
 use Rattle.fkv_maintain.proofs.Shown.{maintain_begun_left, maintain_serving_left}
 use Rattle.fkv_keeper.specs.declared.keepers.Keeping.{Keeping}
 use Rattle.fkv_keeper.specs.declared.keepers.Keeping.TheVariants.{Ended}
-use Rattle.fkv_keeper.specs.KeeperAsks.{keeper_asks_left, keeping_asks_left, most_part_asks}
+use Rattle.fkv_keeper.specs.KeeperAsks.{keeper_asks_left, keeping_asks_left, most_behind_phase}
 use Rattle.fkv_keeper.specs.KeeperRun.{is_in_hand}
 use Rattle.fkv_keeper.specs.Keeping.{parts_begun, KeeperState, commit_asked, turn_asked, serves_alone}
 use Rattle.fkv_keeper.proofs.Shown.{begin_bounded}
@@ -41,7 +41,7 @@ turn_most : (shape : Shape) (p : Places) (s : KeeperState) → keeper_asks_left 
 unfolding keeping_asks_left
 turn_most shape p s =
     let begun = parts_begun_left shape (serves_alone s) s.maintain in
-    let most = sum_most (maintain_asks_left shape (parts_begun (serves_alone s) s.maintain)) (most_part_asks s.seek.sessions s.finish.sessions + 1) in
+    let most = sum_most (maintain_asks_left shape (parts_begun (serves_alone s) s.maintain)) (most_behind_phase p s.seek.sessions s.finish.sessions + 1) in
     either shape p s.is_broken _ _ _ (omega arith) (omega (arith, begun, most))
 
 commit_most : (shape : Shape) (p : Places) (s : KeeperState) (kind : CommitKind) → keeper_asks_left shape p (commit_asked s kind) ≤ most_keeper_asks shape p s
