@@ -300,7 +300,7 @@ from_above : (begin : Addr) (m : MaintainState) (step : Maintaining) → AboveAt
 from_above begin m Serves = tt
 from_above begin m step = tt
 
-fourth_true : (a b c d e : Bool) → (a && b && c && d && e) ≡ true → d ≡ true
+pub fourth_true : (a b c d e : Bool) → (a && b && c && d && e) ≡ true → d ≡ true
 fourth_true true true true true e t = refl
 fourth_true true true true false e t = cc
 fourth_true true true false d e t = cc
@@ -400,13 +400,16 @@ run_good shape p opening (event ∷ before) was = happens_good shape p (keeper_r
 
 -- as it is opened
 opened_good : (opening : KeeperState) → IsOpened opening → Good opening
-opened_good opening opened = (record {
-  serves = opened.serves_from;
-  reads = subst (λ (step : Maintaining). AboveAt opening.maintain step) (sym opened.turns_rest) tt;
-  on = subst (λ (w : Sweeper). w.from.0 ≤ w.to.0) (sym opened.none_swept.2) (omega arith);
-  sweeps = inl (ap (λ (w : Sweeper). w.from) opened.none_swept.2);
-  commit = λ c in_hand. none_some c (sym opened.no_commit ∙ in_hand);
-}, λ e. let clash : true ≡ false = sym (ap is_in_hand e) ∙ opened.none_in_hand in cc)
+opened_good opening opened = (
+  record {
+    serves = opened.serves_from;
+    reads = subst (λ (step : Maintaining). AboveAt opening.maintain step) (sym opened.turns_rest) tt;
+    on = subst (λ (w : Sweeper). w.from.0 ≤ w.to.0) (sym opened.none_swept.2) (omega arith);
+    sweeps = inl (ap (λ (w : Sweeper). w.from) opened.none_swept.2);
+    commit = λ c in_hand. none_some c (sym opened.no_commit ∙ in_hand);
+  },
+  λ e. let clash : true ≡ false = sym (ap is_in_hand e) ∙ opened.none_in_hand in cc,
+)
 
 -- it says what crates above speak of
 begin_on : (w : Sweeper) (last : Finality) (c : Commit) → w.from.0 ≤ w.to.0 → IsMoved w last c → last.begin.0 ≤ c.begin.0

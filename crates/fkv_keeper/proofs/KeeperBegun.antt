@@ -28,14 +28,14 @@ parts_begun_left shape false m = maintain_begun_left shape (maintain_begun m) re
 below : (x a most behind : ℕ) → x ≤ a + behind → a ≤ most → x ≤ most + behind
 below x a most behind sum begun = omega arith
 
-turn_left : (shape : Shape) (p : Places) (m : MaintainState) (seeks finishes : ℕ) → maintain_asks_left shape m ≤ most_maintain_asks shape → seeks ≡ shape.sessions → finishes ≡ shape.sessions
-    → sum_left (maintain_asks_left shape m) (most_behind_phase p seeks finishes + 1) ≤ most_turn_asks shape p
-turn_left shape p m seeks finishes begun same also = rw (same, also)
+turn_left : (shape : Shape) (p swept : Places) (m : MaintainState) (seeks finishes : ℕ) → maintain_asks_left shape m ≤ most_maintain_asks shape → seeks ≡ shape.sessions → finishes ≡ shape.sessions → swept ≡ p
+    → sum_left (maintain_asks_left shape m) (most_behind_phase swept seeks finishes + 1) ≤ most_turn_asks shape p
+turn_left shape p swept m seeks finishes begun same also store = rw (same, also, store)
     (below (sum_left (maintain_asks_left shape m) (most_behind_phase p shape.sessions shape.sessions + 1)) (maintain_asks_left shape m) (most_maintain_asks shape) (most_behind_phase p shape.sessions shape.sessions + 1)
     (sum_most (maintain_asks_left shape m) (most_behind_phase p shape.sessions shape.sessions + 1)) begun)
 
-pub turn_bounded : (shape : Shape) (p : Places) (s : KeeperState) → s.seek.sessions ≡ shape.sessions → s.finish.sessions ≡ shape.sessions → keeper_asks_left shape p (turn_asked s) ≤ most_turn_asks shape p
+pub turn_bounded : (shape : Shape) (p : Places) (s : KeeperState) → s.seek.sessions ≡ shape.sessions → s.finish.sessions ≡ shape.sessions → s.sweep.places ≡ p → keeper_asks_left shape p (turn_asked s) ≤ most_turn_asks shape p
 unfolding keeping_asks_left
-turn_bounded shape p s seeks finishes =
+turn_bounded shape p s seeks finishes sweeps =
     let begun = parts_begun_left shape (serves_alone s) s.maintain in
-    either shape p s.is_broken _ _ _ (omega arith) (turn_left shape p (parts_begun (serves_alone s) s.maintain) s.seek.sessions s.finish.sessions begun seeks finishes)
+    either shape p s.is_broken _ _ _ (omega arith) (turn_left shape p s.sweep.places (parts_begun (serves_alone s) s.maintain) s.seek.sessions s.finish.sessions begun seeks finishes sweeps)

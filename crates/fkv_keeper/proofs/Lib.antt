@@ -1,5 +1,4 @@
 mod BeginMoves
-mod BeginRises
 mod BeginRun
 mod CheckpointAsks
 mod CheckpointMoves
@@ -37,5 +36,6 @@ mod PointsWritten
 mod Rests
 pub mod Shown
 mod SweepMoves
+mod SweepRuns
 mod TurnRun
 mod WholeCalls

@@ -1,7 +1,6 @@
 -- What the crates above may cite of these proofs.
 pub use Rattle.fkv_maintain.proofs.Shown.{IsLoadOrCall}
 pub use Rattle.fkv_keeper.proofs.BeginMoves.{run_begins}
-pub use Rattle.fkv_keeper.proofs.BeginRises.{run_rises}
 pub use Rattle.fkv_keeper.proofs.GoesOn.{due_asks, kept_asks}
 pub use Rattle.fkv_keeper.proofs.HandBusy.{run_ended}
 pub use Rattle.fkv_keeper.proofs.KeeperBegun.{begin_bounded, turn_bounded}
@@ -10,6 +9,8 @@ pub use Rattle.fkv_keeper.proofs.KeeperDue.{makes_due}
 pub use Rattle.fkv_keeper.proofs.KeeperFewer.{keeper_fewer, keeper_given_fewer, keeper_called_fewer, ended_none}
 pub use Rattle.fkv_keeper.proofs.KeeperLeft.{keeper_left}
 pub use Rattle.fkv_keeper.proofs.NewKeepers.{new_is_opened}
+pub use Rattle.fkv_keeper.proofs.SweepMoves.{begin_moves, sweep_moves}
+pub use Rattle.fkv_keeper.proofs.SweepRuns.{IsKept, IsOfStore, event_on, in_hand_on, run_kept, run_loading, run_of_store, run_on, run_within, sweep_kept}
 pub use Rattle.fkv_keeper.proofs.WholeCalls.{run_joins}
 pub use Rattle.fkv_keeper.proofs.KeeperCalls.{calls_one, done_calls}
 pub use Rattle.fkv_keeper.proofs.KeeperRuns.{IsSound, run_sound, run_broken, run_finished, run_memory, run_number, run_rests, copy_again}
@@ -19,4 +20,3 @@ pub use Rattle.fkv_keeper.proofs.CheckpointMoves.{each_move, WasInHand, was_in_h
 pub use Rattle.fkv_keeper.proofs.CheckpointStores.{run_spares, run_stores}
 pub use Rattle.fkv_keeper.proofs.CheckpointUsed.{come_behind, run_used}
 pub use Rattle.fkv_keeper.proofs.CheckpointWrites.{run_holds, run_writes}
-pub use Rattle.fkv_keeper.proofs.SweepMoves.{begin_moves, sweep_moves}

@@ -106,14 +106,14 @@ part_left p s c (Says phase.WaitFlush version) granted = either s s.has_points _
 part_left p s c said granted = (refl, refl, λ e. cc, stay s.commit)
 
 -- its turn begins with no commit in hand
+abbrev Next : KeeperState → KeeperState → Type 0
+Next s a = IsSweepLeft s a ⊎ IsSweepBegun s a
+
 sweeps_begun : (s : KeeperState) (granted : Bool) → s.commit ≡ None → IsSweepLeft s (sweeps_next s granted) ⊎ IsSweepBegun s (sweeps_next s granted)
 sweeps_begun s granted none = cases granted (is_sweeping s.sweep) refl
   where
-    abbrev Next : KeeperState → Type 0
-    Next a = IsSweepLeft s a ⊎ IsSweepBegun s a
-
     cases : (granted goes_on : Bool) → is_sweeping s.sweep ≡ goes_on
-        → Next (if granted && goes_on then record s { sweep = sweeping.turn_begun s.sweep; is_granted = true; step = Sweeps } else turned (record s { is_granted = granted }))
+        → Next s (if granted && goes_on then record s { sweep = sweeping.turn_begun s.sweep; is_granted = true; step = Sweeps } else turned (record s { is_granted = granted }))
     cases true true at = inr (record { comes = refl; no_commit = none; goes_on = at; same = refl })
     cases true false at = inl (is_left s _ (refl, refl, λ e. cc, stay s.commit))
     cases false goes_on at = inl (is_left s _ (refl, refl, λ e. cc, stay s.commit))
@@ -292,12 +292,12 @@ either_stays : (found : Option Commit) (c : Bool) (a b : KeeperState) → Stays 
 either_stays found true a b one other = one
 either_stays found false a b one other = other
 
+none_stays : (p : Places) (s : KeeperState) (said : PhaseSaid) (granted : Bool) → Stays s.commit (phase_ledto p s None said granted).commit
+unfolding phase_ledto
+none_stays p s said granted = either_stays s.commit (is_flush_resting s.maintain) _ _ (stay s.commit) (either_stays s.commit (granted && is_sweeping s.sweep) _ _ (stay s.commit) (stay s.commit))
+
 phase_stays : (p : Places) (s : KeeperState) (found : Option Commit) (said : PhaseSaid) (granted : Bool) → Stays s.commit (phase_ledto p s found said granted).commit
 phase_stays p s None said granted = none_stays p s said granted
-  where
-    none_stays : (p : Places) (s : KeeperState) (said : PhaseSaid) (granted : Bool) → Stays s.commit (phase_ledto p s None said granted).commit
-    unfolding phase_ledto
-    none_stays p s said granted = either_stays s.commit (is_flush_resting s.maintain) _ _ (stay s.commit) (either_stays s.commit (granted && is_sweeping s.sweep) _ _ (stay s.commit) (stay s.commit))
 phase_stays p s (Some c) said granted = (some_left p s c said granted).3
 
 finished_after : (s t : KeeperState) (found : Option Commit) → t.commit ≡ found → IsBeginAfter found s (finished t found)

@@ -15,7 +15,7 @@ ghost use Rattle.fkv_keeper.specs.declared.answers.KeeperTold.TheVariants.{Devic
 ghost use Rattle.fkv_disk.specs.Device.{Elapses, HasCause, MakesCalls};
 ghost use Rattle.fkv_flush.specs.Devices.{Adds};
 ghost use Rattle.fkv_keeper.specs.KeeperAsks.{IsBusyWhereLeft, keeper_asks_left, most_begin_asks, most_turn_asks, keeper_calls, keeper_calls_asked, keeper_due, keeper_made, keeper_read};
-ghost use Rattle.fkv_keeper.specs.Keeping.{commit_asked, turn_asked, keeper_ask, keeper_next, keeper_given, keeper_called, granted_for, is_resting, serves_alone, may_copy, turn_called, writes_called, sweep_called, keeper_word_due};
+ghost use Rattle.fkv_keeper.specs.Keeping.{commit_asked, turn_asked, keeper_ask, keeper_next, keeper_given, keeper_called, granted_for, goes_by_word, is_resting, serves_alone, may_copy, turn_called, writes_called, sweep_called, keeper_word_due};
 ghost use Rattle.fkv_keeper.specs.KeeperRun.{IsOpened};
 ghost use Rattle.fkv_keeper.specs.NewKeepers.{IsNewKeeper};
 ghost use Rattle.fkv_keeper.specs.declared.keepers.Keeping.TheVariants.{Ended, Maintains, Sweeps};
@@ -336,6 +336,13 @@ impl Keeper {
         ensures { result ≡ is_resting self.now.state }
     {
         self.rests || self.maintain.is_flush_resting()
+    }
+
+    /// Whether a step goes by what the caller of `go_on_with` says: writes or a flush rest, or no commit is in hand. Elsewhere it goes by the room.
+    pub fn goes_by_word(&self) -> bool
+        ensures { result ≡ goes_by_word self.now.state }
+    {
+        self.is_resting() || self.commit.is_none()
     }
 
     /// Goes on with what every turn does. What that asks is passed on at once, and not asked for again.

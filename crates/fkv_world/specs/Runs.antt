@@ -9,7 +9,7 @@ pub record World : Type 0 where
   pub now : Now
   pub past : Past
 
--- what the device gives the keeper, for the mailbox that it serves or for its sweep
+-- what the device gives the keeper for the mailbox that it serves, or for its sweep
 abbrev pub read_by_keeper : World → List ℕ
 read_by_keeper w = keeper_read (record { shape = w.now.shape; places = w.now.places; state = w.now.keeper }) (reads_as w.past.opened w.past.calls)
 

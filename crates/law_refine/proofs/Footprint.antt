@@ -14,6 +14,5 @@ mod Outside
 pub mod OwnTurns
 mod Serves
 pub mod Sessions
-mod Sweeps
 mod Tries
 mod Walks

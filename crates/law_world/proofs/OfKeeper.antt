@@ -1,4 +1,3 @@
-pub mod BeginRises
 pub mod OneCommit
 pub mod OwnCalls
 pub mod OwnRun

@@ -4,6 +4,7 @@ use Rattle.std.proofs.Common.{◌≡◌, ℕ, ◌∙◌, refl, sym, subst, List,
 use Rattle.std.specs.Prelude.{Option, Some, None, slice_get}
 use Rattle.fkv_base.specs.declared.shapes.Shape.{Shape}
 use Rattle.fkv_plane.specs.declared.places.Places.{Places}
+use Rattle.fkv_sweep.proofs.Shown.{IsLoading, sweep_loads}
 use Rattle.fkv_sweep.specs.Swept.{IsLoadOrEnd}
 use Rattle.fkv_sweep.specs.Sweeping.{sweep_ask}
 use Rattle.law_world.specs.Below.fkv_keeper.TheKeeping.TheVariants.{Finishes}
@@ -14,6 +15,7 @@ use Rattle.law_world.specs.Below.fkv_session.SessionRun.{session_run}
 use Rattle.law_world.specs.Below.fkv_world.OwnEvents.{keeper_events, session_events}
 use Rattle.law_world.specs.Below.fkv_world.Runs.{World, run}
 use Rattle.law_world.specs.Below.fkv_world.World.{Event, seat_at}
+use Rattle.law_world.proofs.Below.fkv_keeper.Shown.{run_loading}
 use Rattle.law_world.proofs.Below.fkv_world.Shown.{keeper_runs, session_runs, same_seat, places_stay, shape_stays}
 use Rattle.law_world.proofs.OfRuns.Nothing.{none_ever}
 use Rattle.law_refine.specs.Footprint.{Part, ThePhase, HasSeats, Spares}
@@ -21,7 +23,6 @@ use Rattle.law_refine.specs.Mail.Servers.{serving_of}
 use Rattle.law_refine.proofs.Footprint.Commits.{IsStoredNot}
 use Rattle.law_refine.proofs.Footprint.Keepers.{IsKeeperSparing, keeper_stores, keeper_asks_spares, keeper_run_spares}
 use Rattle.law_refine.proofs.Footprint.Serves.{IsServedNot}
-use Rattle.law_refine.proofs.Footprint.Sweeps.{run_loads}
 
 -- an item of a list is one
 no_item : {X : Type 0} {A : Type 0} (found : Option X) (its : X) → found ≡ None → found ≡ Some its → A
@@ -53,7 +54,8 @@ keeper_spared opening events opened =
 -- its sweep asks for loads alone
 sweep_loaded : (opening : World) (events : List Event) → keeper.IsOpened opening.now.keeper → IsLoadOrEnd (sweep_ask (run opening events).now.keeper.sweep)
 sweep_loaded opening events opened =
-    subst (λ (s : KeeperState). IsLoadOrEnd (sweep_ask s.sweep)) (sym (keeper_runs opening events)) (run_loads opening.now.shape opening.now.places opening.now.keeper (keeper_events opening events) opened)
+    let loads = run_loading opening.now.shape opening.now.places opening.now.keeper (keeper_events opening events) opened in
+    sweep_loads (run opening events).now.keeper.sweep (subst (λ (s : KeeperState). IsLoading s.sweep) (sym (keeper_runs opening events)) loads)
 
 pub keeper_spares : (part : Part) (opening : World) (events : List Event) → (part ≡ ThePhase → keeper_stores (run opening events).now.keeper (run opening events).now.keeper.step ≡ false) → keeper.IsOpened opening.now.keeper → HasSeats part opening.now.places opening.now.shape.sessions → HasSeats part opening.now.places opening.now.keeper.finish.sessions
     → IsServedNot part (serving_of (run opening events).now.keeper) → ((run opening events).now.keeper.step ≡ Finishes → IsStoredNot part (run opening events).now.keeper.finish.step)

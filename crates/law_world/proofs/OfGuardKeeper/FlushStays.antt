@@ -332,12 +332,11 @@ module _ (m : MaintainState) where
 -- so it keeps the actors
 still_keeps : (s its : KeeperState) → is_turning s.step ≡ false → Still s.maintain its → Keeps s its
 still_keeps s its calm still =
-    let same = calm_aside its its.step still.1 ∙ (ap is_sync_due still.0.0 ∙ sym (calm_aside s s.step calm)) in
-    (
+    let same = calm_aside its its.step still.1 ∙ (ap is_sync_due still.0.0 ∙ sym (calm_aside s s.step calm)) in (
       same,
       ap (λ (b : Bool). work_by b its.maintain) same
-      ∙ ap (λ (flushing : Flushing). work_by (is_aside s) (record its.maintain { flushing = flushing })) still.0.0
-      ∙ ap (λ (bytes : List ℕ). work_by (is_aside s) (record s.maintain { bytes = bytes })) still.0.1,
+          ∙ ap (λ (flushing : Flushing). work_by (is_aside s) (record its.maintain { flushing = flushing })) still.0.0
+          ∙ ap (λ (bytes : List ℕ). work_by (is_aside s) (record s.maintain { bytes = bytes })) still.0.1,
     )
 
 -- ---- the keeper's step

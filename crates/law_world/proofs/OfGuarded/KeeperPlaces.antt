@@ -18,7 +18,7 @@ use Rattle.fkv_commit.specs.Deferring.{defer_next}
 use Rattle.fkv_commit.specs.Seeking.{SeekState, cut_met, defer_led, other_met, owing_from, point_taken, with_point, points_from, seek_next, seeking_next, slot_led}
 use Rattle.fkv_keeper.specs.CheckpointLaws.{CopiesOnce, IsCopyAfter}
 use Rattle.fkv_keeper.specs.KeeperRun.{BeginsCommit, BeginsTurn, Calls, Gets, IsOpened, KeeperEvent, Replies, begins, is_in_hand, keeper_happens, keeper_run}
-use Rattle.fkv_keeper.specs.Keeping.{must_rest, KeeperState, commit_asked, copies, copies_next, copy_driven, copy_ledto, enter_ledto, finish_ledto, finished, keeping_called, keeping_given, keeping_next, maintain_ledto, may_set, part_begun, phase_ledto, seek_ledto, start_ledto, sweep_called, sweep_ledto, sweep_set, turn_asked, wait_ledto, write_ledto, writes_begun, writes_called, is_copy_resting}
+use Rattle.fkv_keeper.specs.Keeping.{must_rest, KeeperState, commit_asked, copies, copies_next, copy_driven, copy_ledto, enter_ledto, finish_ledto, finished, keeping_called, keeping_given, keeping_next, maintain_ledto, part_begun, phase_ledto, seek_ledto, start_ledto, sweep_called, sweep_ledto, turn_asked, wait_ledto, write_ledto, writes_begun, writes_called, is_copy_resting}
 use Rattle.fkv_base.specs.declared.phases.Phase.TheVariants as phase
 use Rattle.fkv_base.specs.declared.shapes.Shape.{Shape}
 use Rattle.fkv_words.specs.declared.phase_words.PhaseSaid.{PhaseSaid}
@@ -50,13 +50,12 @@ use Rattle.fkv_maintain.specs.declared.maintaining.MaintainAnswer.TheVariants as
 use Rattle.fkv_maintain.specs.Maintaining.{maintain_called, maintain_given, maintain_next, is_flush_resting}
 use Rattle.fkv_keeper.specs.declared.keepers.Keeping.{Keeping}
 use Rattle.fkv_keeper.specs.declared.keepers.Keeping.TheVariants.{Ended, Starts, Maintains, LoadsPhase, Enters, Copies, Seeks, Waits, Writes, Finishes, Sweeps}
-use Rattle.fkv_keeper.specs.SweepLaws.{IsSweepAfter, IsSweepLeft}
-use Rattle.fkv_keeper.proofs.Shown.{each_move, sweep_moves, was_in_hand}
+use Rattle.fkv_keeper.proofs.Shown.{IsOfStore, each_move, run_of_store, was_in_hand}
 use Rattle.fkv_sweep.specs.declared.sweeping.SweepAnswer.{SweepAnswer}
 use Rattle.fkv_sweep.specs.declared.sweeping.SweepAnswer.TheVariants as swept
-use Rattle.fkv_sweep.specs.Sweeping.{Sweeper, is_sweeping, sweep_ask, sweep_begun, sweep_failed, sweep_next, sweep_read, turn_begun}
-use Rattle.fkv_sweep.proofs.Shown.{IsSameSweep, sweep_failed_same, sweep_next_same, sweep_read_same, sweep_turn_same}
-use Rattle.law_world.proofs.OfGuarded.SweepPlaces.{IsSweepOf, IsSweepRow, sweep_next_row, sweep_read_row, turn_begun_row}
+use Rattle.fkv_sweep.specs.Sweeping.{is_sweeping, sweep_ask, sweep_next, sweep_read}
+use Rattle.fkv_sweep.proofs.Shown.{sweep_next_same, sweep_read_same}
+use Rattle.law_world.proofs.OfGuarded.SweepPlaces.{IsSweepRow, sweep_next_row, sweep_read_row, turn_begun_row}
 
 -- the seek is at a session whose points it seeks
 abbrev pub SeekRow : SeekState → Seeking → Type 0
@@ -295,20 +294,20 @@ sweep_led p s (Done swept.Through) at row = tt
 sweep_led p s ask at row = stays p s Sweeps at row
 
 -- so it is behind each event
-next_row : (shape : Shape) (p : Places) (s : KeeperState) (step : Keeping) (reply : ℕ) (granted : Bool) → p.buckets ≡ 2 ^ shape.bucket_bits → IsSweepOf shape p s.sweep → s.step ≡ step → RestRow p s → KeeperRow p s step
+next_row : (shape : Shape) (p : Places) (s : KeeperState) (step : Keeping) (reply : ℕ) (granted : Bool) → p.buckets ≡ 2 ^ shape.bucket_bits → IsOfStore shape p s.sweep → s.step ≡ step → RestRow p s → KeeperRow p s step
     → IsKeeperRow p (keeping_next shape p s step reply granted)
 unfolding keeping_next
 next_row shape p s (Ended its) reply granted buckets of at rest row = stays p s (Ended its) at tt
 next_row shape p s Starts reply granted buckets of at rest row = start_led p (record s { start = start_next s.start reply }) _ at
 next_row shape p s Maintains reply granted buckets of at rest row = maintain_led p (record s { maintain = maintain_next shape p s.maintain reply }) _ at
-next_row shape p s LoadsPhase reply granted buckets of at rest row = phase_led p s s.commit (phase_said reply) granted refl rest of.1
+next_row shape p s LoadsPhase reply granted buckets of at rest row = phase_led p s s.commit (phase_said reply) granted refl rest of.places
 next_row shape p s Enters reply granted buckets of at rest row = enter_led p (record s { enter = enter_next s.enter reply }) _ at
 next_row shape p s Copies reply granted buckets of at rest row = copy_led p (record s { copy = copy_driven s.copy reply }) _ at (driven_row p s.copy reply row)
 next_row shape p s Seeks reply granted buckets of at rest row = seek_led p (record s { seek = seek_next s.seek reply }) _ at (seeks_row s.seek s.seek.step reply refl row)
 next_row shape p s Waits reply granted buckets of at rest row = wait_led p shape (record s { wait = wait_next s.wait reply }) _ at
 next_row shape p s Writes reply granted buckets of at rest row = stays p s Writes at tt
 next_row shape p s Finishes reply granted buckets of at rest row = finish_led p (record s { finish = finish_next s.finish reply }) _ at
-next_row shape p s Sweeps reply granted buckets of at rest row = sweep_led p (record s { sweep = sweep_next s.sweep reply }) _ at ((sweep_next_same s.sweep reply).places ∙ of.1, sweep_next_row shape p buckets s.sweep reply of row.1)
+next_row shape p s Sweeps reply granted buckets of at rest row = sweep_led p (record s { sweep = sweep_next s.sweep reply }) _ at ((sweep_next_same s.sweep reply).places ∙ of.places, sweep_next_row shape p buckets s.sweep reply of row.1)
 
 given_row : (shape : Shape) (p : Places) (s : KeeperState) (step : Keeping) (action : Action) → s.step ≡ step → KeeperRow p s step → IsKeeperRow p (keeping_given shape p s step action)
 unfolding keeping_given
@@ -328,12 +327,12 @@ writes_row : (p : Places) (s : KeeperState) (done : Bool) → s.step ≡ Writes 
 writes_row p s true at = write_led p (record s { writes = commit_next s.writes true }) s.commit (commit_answer (commit_next s.writes true)) at
 writes_row p s false at = tt
 
-swept_row : (shape : Shape) (p : Places) (s : KeeperState) (done : Bool) (bytes : List ℕ) → p.buckets ≡ 2 ^ shape.bucket_bits → IsSweepOf shape p s.sweep → s.step ≡ Sweeps → KeeperRow p s Sweeps → IsKeeperRow p (sweep_called s done bytes)
+swept_row : (shape : Shape) (p : Places) (s : KeeperState) (done : Bool) (bytes : List ℕ) → p.buckets ≡ 2 ^ shape.bucket_bits → IsOfStore shape p s.sweep → s.step ≡ Sweeps → KeeperRow p s Sweeps → IsKeeperRow p (sweep_called s done bytes)
 swept_row shape p s true bytes buckets of at row =
-    sweep_led p (record s { sweep = sweep_read s.sweep bytes }) (sweep_ask (sweep_read s.sweep bytes)) at ((sweep_read_same s.sweep bytes).places ∙ of.1, sweep_read_row shape p buckets s.sweep bytes of row.1)
+    sweep_led p (record s { sweep = sweep_read s.sweep bytes }) (sweep_ask (sweep_read s.sweep bytes)) at ((sweep_read_same s.sweep bytes).places ∙ of.places, sweep_read_row shape p buckets s.sweep bytes of row.1)
 swept_row shape p s false bytes buckets of at row = tt
 
-called_row : (shape : Shape) (p : Places) (s : KeeperState) (step : Keeping) (done : Bool) (bytes : List ℕ) → p.buckets ≡ 2 ^ shape.bucket_bits → IsSweepOf shape p s.sweep → s.step ≡ step → KeeperRow p s step
+called_row : (shape : Shape) (p : Places) (s : KeeperState) (step : Keeping) (done : Bool) (bytes : List ℕ) → p.buckets ≡ 2 ^ shape.bucket_bits → IsOfStore shape p s.sweep → s.step ≡ step → KeeperRow p s step
     → IsKeeperRow p (keeping_called shape p s step done bytes)
 unfolding keeping_called
 called_row shape p s Maintains done bytes buckets of at row = maintain_led p (record s { maintain = maintain_called shape p s.maintain done bytes }) _ at
@@ -352,7 +351,7 @@ begins_row : (p : Places) (s begun : KeeperState) (busy : Bool) → IsKeeperRow 
 begins_row p s begun true row other = row
 begins_row p s begun false row other = other
 
-happens_row : (shape : Shape) (p : Places) (s : KeeperState) (event : KeeperEvent) → p.buckets ≡ 2 ^ shape.bucket_bits → IsSweepOf shape p s.sweep → RestRow p s → IsKeeperRow p s → IsKeeperRow p (keeper_happens shape p s event)
+happens_row : (shape : Shape) (p : Places) (s : KeeperState) (event : KeeperEvent) → p.buckets ≡ 2 ^ shape.bucket_bits → IsOfStore shape p s.sweep → RestRow p s → IsKeeperRow p s → IsKeeperRow p (keeper_happens shape p s event)
 unfolding keeper_happens
 happens_row shape p s BeginsTurn buckets of rest row = begins_row p s (turn_asked s) (is_in_hand s.step) row (either s.is_broken p _ _ tt tt)
 happens_row shape p s (BeginsCommit kind) buckets of rest row = begins_row p s (commit_asked s kind) (is_in_hand s.step) row (either s.is_broken p _ _ tt (either s.rests p _ _ tt tt))
@@ -389,51 +388,15 @@ happens_rest shape p s event row rest = by_copy move.copy
     by_copy (inr (inr (inl driven))) = λ c is rests. driven_from p s a driven.reply s.step refl driven.copies row driven.copy
     by_copy (inr (inr (inr begun))) = λ c is rests. subst (λ (x : Option Copier). CopierRow p x) (sym begun.copy) (refl, first_row p)
 
--- what becomes of the sweep
-abbrev SweepsOf : Shape → Places → KeeperState → Type 0
-SweepsOf shape p s = IsSweepOf shape p s.sweep
-
-same_of : (shape : Shape) (p : Places) (s a : KeeperState) (next : Sweeper) → a.sweep ≡ next → IsSameSweep s.sweep next → SweepsOf shape p s → SweepsOf shape p a
-same_of shape p s a next same its of = subst (IsSweepOf shape p) (sym same) (its.shape ∙ of.0, its.places ∙ of.1)
-
-set_of : (shape : Shape) (p : Places) (s : KeeperState) (c : Commit) → SweepsOf shape p s → IsSweepOf shape p (sweep_set s c)
-set_of shape p s c of = by (may_set s c)
-  where
-    by : (b : Bool) → IsSweepOf shape p (if b then sweep_begun s.sweep.shape s.sweep.places c.begin c.first else s.sweep)
-    by true = of
-    by false = of
-
-left_of : (shape : Shape) (p : Places) (s a : KeeperState) → IsSweepLeft s a → SweepsOf shape p s → SweepsOf shape p a
-left_of shape p s a left of = subst (IsSweepOf shape p) (sym left.same) of
-
-after_of : (shape : Shape) (p : Places) (s a : KeeperState) (event : KeeperEvent) (step : Keeping) → IsSweepAfter event step s a → SweepsOf shape p s → SweepsOf shape p a
-after_of shape p s a (Replies reply granted) Sweeps after of = same_of shape p s a (sweep_next s.sweep reply) after (sweep_next_same s.sweep reply) of
-after_of shape p s a (Calls true bytes) Sweeps after of = same_of shape p s a (sweep_read s.sweep bytes) after (sweep_read_same s.sweep bytes) of
-after_of shape p s a (Calls false bytes) Sweeps after of = same_of shape p s a (sweep_failed s.sweep) after (sweep_failed_same s.sweep) of
-after_of shape p s a (Replies reply granted) LoadsPhase (inl left) of = left_of shape p s a left of
-after_of shape p s a (Replies reply granted) LoadsPhase (inr begun) of = same_of shape p s a (turn_begun s.sweep) begun.same (sweep_turn_same s.sweep) of
-after_of shape p s a (Replies reply granted) Finishes (inl left) of = left_of shape p s a left of
-after_of shape p s a (Replies reply granted) Finishes (inr set) of = subst (IsSweepOf shape p) (sym set.same) (set_of shape p s set.commit of)
-after_of shape p s a event step left of = left_of shape p s a left of
-
--- a sweep goes over the records of the store that it was opened with
-pub run_sweeps : (shape : Shape) (p : Places) (first : KeeperState) (events : List KeeperEvent) → IsSweepOf shape p first.sweep → IsSweepOf shape p (keeper_run shape p first events).sweep
-unfolding keeper_run
-run_sweeps shape p first [] of = of
-run_sweeps shape p first (event ∷ before) of =
-    let s : KeeperState = keeper_run shape p first before in
-    after_of shape p s (keeper_happens shape p s event) event s.step (sweep_moves shape p s event) (run_sweeps shape p first before of)
-
-run_both : (shape : Shape) (p : Places) (first : KeeperState) (events : List KeeperEvent) → p.buckets ≡ 2 ^ shape.bucket_bits → IsSweepOf shape p first.sweep → IsOpened first
+run_both : (shape : Shape) (p : Places) (first : KeeperState) (events : List KeeperEvent) → p.buckets ≡ 2 ^ shape.bucket_bits → IsOfStore shape p first.sweep → IsOpened first
     → IsKeeperRow p (keeper_run shape p first events) × RestRow p (keeper_run shape p first events)
 unfolding keeper_run
 run_both shape p first [] buckets of opened = (opened_row p first first.step opened.none_in_hand, λ c is rests. let wrong : None ≡ Some c = sym opened.no_commit ∙ is in cc)
 run_both shape p first (event ∷ before) buckets of opened =
-    let both = run_both shape p first before buckets of opened in
-    (
-      happens_row shape p (keeper_run shape p first before) event buckets (run_sweeps shape p first before of) both.1 both.0,
+    let both = run_both shape p first before buckets of opened in (
+      happens_row shape p (keeper_run shape p first before) event buckets (run_of_store shape p shape p first before of) both.1 both.0,
       happens_rest shape p (keeper_run shape p first before) event both.0 both.1,
     )
 
-pub run_row : (shape : Shape) (p : Places) (first : KeeperState) (events : List KeeperEvent) → p.buckets ≡ 2 ^ shape.bucket_bits → IsSweepOf shape p first.sweep → IsOpened first → IsKeeperRow p (keeper_run shape p first events)
+pub run_row : (shape : Shape) (p : Places) (first : KeeperState) (events : List KeeperEvent) → p.buckets ≡ 2 ^ shape.bucket_bits → IsOfStore shape p first.sweep → IsOpened first → IsKeeperRow p (keeper_run shape p first events)
 run_row shape p first events buckets of opened = (run_both shape p first events buckets of opened).0

@@ -19,6 +19,7 @@ use Rattle.fkv_sweep.specs.declared.record_words.RecordWords.{RecordWords}
 use Rattle.fkv_sweep.specs.declared.sweeping.Sweeping.{Sweeping}
 use Rattle.fkv_sweep.specs.declared.sweeping.Sweeping.TheVariants.{AtRest, LoadsHead, Takes, Meets, Finds, LoadsKey, LoadsHeader, Reads}
 use Rattle.fkv_sweep.specs.Sweeping.{Sweeper, chain_met, find_ledto, gone_on, holds, is_counted, is_sweeping, key_met, key_wanted, led_down, most_wanted, piece_read, previous_in, reached, record_met, record_passed, slot_found, sweep_next, sweep_read, sweeping_next, sweeping_read, turn_begun, words_at, words_held}
+use Rattle.fkv_keeper.proofs.Shown.{IsOfStore}
 use Rattle.law_world.proofs.OfGuardSessions.FindsOuter.{IsAtBucket, finds_outer, first_outer}
 
 -- what is so of a sweep, by what it is at
@@ -28,10 +29,6 @@ SweepRow p w step = ⊤
 
 abbrev pub IsSweepRow : Places → Sweeper → Type 0
 IsSweepRow p w = SweepRow p w w.step
-
--- it goes over the records of this store
-abbrev pub IsSweepOf : Shape → Places → Sweeper → Type 0
-IsSweepOf shape p w = (w.shape ≡ shape) × (w.places ≡ p)
 
 -- it goes on to a record that is taken or read, or it rests
 gone_step : (p : Places) (w : Sweeper) (on has : Bool) → SweepRow p w (if on then (if has then Takes else Meets) else AtRest)
@@ -84,13 +81,13 @@ turn_begun_row p w = begun_step p (turn_begun w) (is_sweeping w)
 
 module _ (shape : Shape) (p : Places) (buckets : p.buckets ≡ 2 ^ shape.bucket_bits) where
   -- and begins at one of its own
-  met_row : (w : Sweeper) (words : RecordWords) → IsSweepOf shape p w → IsSweepRow p (record_met w words)
-  met_row w words of = either (is_counted words) p _ _ (subst (λ (bits : ℕ). IsAtBucket p (first_finding w.places (home_of bits words.key) Read 0)) (sym (ap (λ (x : Shape). x.bucket_bits) of.0))
-      (subst (λ (q : Places). IsAtBucket p (first_finding q (home_of shape.bucket_bits words.key) Read 0)) (sym of.1)
+  met_row : (w : Sweeper) (words : RecordWords) → IsOfStore shape p w → IsSweepRow p (record_met w words)
+  met_row w words of = either (is_counted words) p _ _ (subst (λ (bits : ℕ). IsAtBucket p (first_finding w.places (home_of bits words.key) Read 0)) (sym (ap (λ (x : Shape). x.bucket_bits) of.shape))
+      (subst (λ (q : Places). IsAtBucket p (first_finding q (home_of shape.bucket_bits words.key) Read 0)) (sym of.places)
       (first_outer p (home_of shape.bucket_bits words.key) Read 0 (homes_are_there p shape.bucket_bits words.key buckets).few))) (passed_row p w)
 
   -- each reply
-  next_row : (w : Sweeper) (step : Sweeping) (reply : ℕ) → w.step ≡ step → IsSweepOf shape p w → SweepRow p w step → IsSweepRow p (sweeping_next w step reply)
+  next_row : (w : Sweeper) (step : Sweeping) (reply : ℕ) → w.step ≡ step → IsOfStore shape p w → SweepRow p w step → IsSweepRow p (sweeping_next w step reply)
   unfolding sweeping_next
   next_row w AtRest reply at of row = subst (SweepRow p w) (sym at) tt
   next_row w LoadsHead reply at of row = coming_row (holds w.piece w.next)
@@ -102,18 +99,18 @@ module _ (shape : Shape) (p : Places) (buckets : p.buckets ≡ 2 ^ shape.bucket_
   next_row w Meets reply at of row = subst (SweepRow p w) (sym at) tt
   next_row w (Finds key) reply at of row =
       find_row p (record w { finding = find_next w.places w.finding reply }) key (find_next_ask w.places w.finding reply) at
-      (subst (λ (q : Places). is_done (find_next_ask q w.finding reply) ≡ false → IsAtBucket p (find_next q w.finding reply)) (sym of.1) (finds_outer p w.finding reply row).its)
+      (subst (λ (q : Places). is_done (find_next_ask q w.finding reply) ≡ false → IsAtBucket p (find_next q w.finding reply)) (sym of.places) (finds_outer p w.finding reply row).its)
   next_row w (LoadsKey key addr) reply at of row = key_row p w key addr reply
   next_row w (LoadsHeader key addr) reply at of row = led_row p w key addr (previous_in reply)
   next_row w (Reads key addr) reply at of row = subst (SweepRow p w) (sym at) tt
 
-  pub sweep_next_row : (w : Sweeper) (reply : ℕ) → IsSweepOf shape p w → IsSweepRow p w → IsSweepRow p (sweep_next w reply)
+  pub sweep_next_row : (w : Sweeper) (reply : ℕ) → IsOfStore shape p w → IsSweepRow p w → IsSweepRow p (sweep_next w reply)
   sweep_next_row w reply of row = next_row w w.step reply refl of row
 
   -- each read
-  read_row : (w : Sweeper) (step : Sweeping) (bytes : List ℕ) → w.step ≡ step → IsSweepOf shape p w → SweepRow p w step → IsSweepRow p (sweeping_read w step bytes)
+  read_row : (w : Sweeper) (step : Sweeping) (bytes : List ℕ) → w.step ≡ step → IsOfStore shape p w → SweepRow p w step → IsSweepRow p (sweeping_read w step bytes)
   unfolding sweeping_read
-  read_row w Meets bytes at of row = met_row (record w { piece = piece_read w.next bytes }) (words_held (piece_read w.next bytes) w.next) of
+  read_row w Meets bytes at of row = met_row (record w { piece = piece_read w.next bytes }) (words_held (piece_read w.next bytes) w.next) (record { shape = of.shape; places = of.places })
   read_row w (Reads key addr) bytes at of row = chain_row p w key addr (words_at bytes 0)
   read_row w AtRest bytes at of row = subst (SweepRow p w) (sym at) row
   read_row w LoadsHead bytes at of row = subst (SweepRow p w) (sym at) row
@@ -122,5 +119,5 @@ module _ (shape : Shape) (p : Places) (buckets : p.buckets ≡ 2 ^ shape.bucket_
   read_row w (LoadsKey key addr) bytes at of row = subst (SweepRow p w) (sym at) row
   read_row w (LoadsHeader key addr) bytes at of row = subst (SweepRow p w) (sym at) row
 
-  pub sweep_read_row : (w : Sweeper) (bytes : List ℕ) → IsSweepOf shape p w → IsSweepRow p w → IsSweepRow p (sweep_read w bytes)
+  pub sweep_read_row : (w : Sweeper) (bytes : List ℕ) → IsOfStore shape p w → IsSweepRow p w → IsSweepRow p (sweep_read w bytes)
   sweep_read_row w bytes of row = read_row w w.step bytes refl of row

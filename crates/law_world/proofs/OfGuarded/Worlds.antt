@@ -18,7 +18,7 @@ use Rattle.fkv_sweep.proofs.Shown.{sweep_begun_loading}
 use Rattle.fkv_keeper.specs.declared.keepers.Keeping.{Keeping}
 use Rattle.fkv_keeper.specs.declared.keepers.Keeping.TheVariants as keeping
 use Rattle.fkv_keeper.specs.KeeperRun.{is_in_hand}
-use Rattle.fkv_keeper.specs.KeeperRun as keeper
+use Rattle.fkv_keeper.specs.KeeperRun as keepers
 use Rattle.fkv_keeper.specs.Keeping.{KeeperState}
 use Rattle.fkv_session.specs.declared.sessions.Sitting.{Sitting}
 use Rattle.fkv_session.specs.declared.sessions.Sitting.TheVariants.{Idle}
@@ -399,7 +399,7 @@ second_own : (m : ℕ) → suc m < suc (suc m)
 second_own m = omega arith
 
 -- a sweep that has nothing to go over has no search yet
-opened_reads : (s : KeeperState) → keeper.IsOpened s → IsReading s.sweep.finding
+opened_reads : (s : KeeperState) → keepers.IsOpened s → IsReading s.sweep.finding
 opened_reads s opened =
     let its = opened.none_swept in
     subst (λ (w : Sweeper). IsReading w.finding) (sym its.2) (sweep_begun_loading its.0 its.1 s.last.begin s.last.begin).reads

@@ -1,6 +1,7 @@
 -- One event after another: one commit stands at each moment.
 use Rattle.std.proofs.Common.{◌≡◌, inl, inr, ℕ, ◌^◌, List, [], ◌∷◌, ◌++◌, Bool, true, false, refl, sym, ◌∙◌, ap, subst}
 use Rattle.std.specs.Prelude.{if◌then◌else◌, Option}
+use Rattle.std.specs.Option.{is_some}
 use Rattle.fkv_base.specs.declared.faults.Fault.TheVariants as fault
 use Rattle.fkv_base.specs.declared.shapes.Shape.{Shape}
 use Rattle.fkv_words.specs.PhaseWords.{phase_said}
@@ -330,7 +331,7 @@ module _ (shape : Shape) (p : Places) (opened : List ℕ) (buckets : p.buckets �
         -- they rest still
         rest_still : a.rests ≡ true → Rested
         rest_still is_resting =
-            let kept = rests_still shape p s event rests resting.rests resting.serves is_resting in
+            let kept = rests_still shape p s event rests (ap is_some resting.in_hand) resting.rests resting.serves is_resting in
             let still : is_writing_after a.step was ≡ true = ap (λ (b : Bool). is_writing_after a.step b) resting_now.0 ∙ writing_still a.step kept.rests in
             as_it_was (record {
               commit = known_commit kept.last kept.commit;

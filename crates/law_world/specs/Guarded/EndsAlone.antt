@@ -22,6 +22,6 @@ AreKeeperMoves (event ∷ before) = IsKeeperMove event × AreKeeperMoves before
 abbrev pub most_session_asks : Shape → ℕ
 most_session_asks shape = call_bound shape Poll
 
--- nor one of the keeper more than a turn, by the sessions of which it seeks the points and finishes commits
+-- nor one of the keeper more than a turn, by the sessions of which it seeks the points and finishes commits, and by the index that a sweep searches
 abbrev pub most_keeper_asks : Shape → Places → KeeperState → ℕ
-most_keeper_asks shape p s = most_maintain_asks shape + (most_behind_phase p s.seek.sessions s.finish.sessions + 1)
+most_keeper_asks shape p s = most_maintain_asks shape + (most_behind_phase s.sweep.places s.seek.sessions s.finish.sessions + 1)

@@ -2,7 +2,6 @@
 use Rattle.std.proofs.Common.{◌≡◌, ℕ, ◌^◌, ◌<◌, ◌≤◌, ◌∙◌, arith, inl, inr, refl, sym, ap, subst, true, false, List, ◌∷◌, ◌++◌}
 use Rattle.std.specs.Prelude.{Some, slice_get}
 use Rattle.fkv_base.specs.declared.numbers.Addr.{Addr}
-use Rattle.law_refine.proofs.Below.law_world.OfKeeper.BeginRises.{begin_above}
 use Rattle.law_refine.proofs.Below.law_world.OfKeeper.OwnRun.{keeper_begins}
 use Rattle.law_refine.specs.Below.fkv_ops.HeaderWords.{header_said}
 use Rattle.law_refine.specs.Below.fkv_ops.TryAnswer.TheVariants as answer
@@ -32,6 +31,7 @@ use Rattle.law_opening.proofs.OfChanges.OfSessions.Attempting.{attempt_reply}
 use Rattle.law_opening.specs.Changes.Laws.{BeginsFitting, begin_at}
 use Rattle.law_refine.specs.Below.law_local.Sessions.Known.{is_attempting}
 use Rattle.law_log.specs.Ghosts.{Ghosts, Log}
+use Rattle.law_refine.proofs.OfMail.GoneTold.{begin_above}
 use Rattle.law_refine.proofs.OfMail.Takes.{takes_read}
 use Rattle.law_refine.specs.Mail.MailEvents.{record_gone}
 use Rattle.law_refine.specs.Mail.Mailers.{attempt_mailing, sitting_mailing}
