@@ -22,7 +22,7 @@ use Rattle.law_refine.specs.Below.fkv_world.OwnEvents.{keeper_events}
 use Rattle.law_refine.specs.Below.fkv_world.Runs.{World, run}
 use Rattle.law_refine.specs.Below.fkv_world.World.{Event, Now}
 use Rattle.law_refine.proofs.Below.fkv_keeper.Shown.{run_begins}
-use Rattle.law_refine.proofs.Below.law_world.OfKeeper.OwnRun.{of_keeper}
+use Rattle.law_refine.proofs.Below.law_world.OfKeeper.OwnRun.{keeper_begins}
 use Rattle.law_commit.specs.Begins.{BegunBeginOn, BegunBeginThen, BeginsBehind, BeginsNeverFall, BeginsThen, NoneBeginsLower}
 use Rattle.law_commit.specs.BegunCommits.{BegunCommit, begun_at_end, begun_at_gate, begun_at_writes, begun_by, commit_opened, commit_opening, commits_begun, life_begun, with_finished, with_sealed}
 use Rattle.law_commit.specs.Decided.Ended.{HadMoment, Span, span_in}
@@ -35,9 +35,6 @@ use Rattle.law_commit.proofs.OfDecided.Ended.{had_on, had_then}
 use Rattle.law_commit.proofs.OfPoints.Last.{last_of}
 
 -- ---- the commit in hand
-pub has_begin : (opening : World) (events : List Event) → IsOpenedWorld opening → HasBegin (run opening events).now.keeper
-has_begin opening events opened = of_keeper HasBegin opening events (run_begins opening.now.shape opening.now.places opening.now.keeper (keeper_events opening events) opened.keeper)
-
 hand_then : (n : Now) (c : Commit) (triples : List ℕ) → HasBegin n.keeper → n.keeper.commit ≡ Some c → BeginsThen (span_in c c.end triples) n
 hand_then n c triples begins is = elim (begins.commit c is) [
   | inl same ↦ inl same
@@ -60,7 +57,7 @@ all_then opening [] opened = opened_begun (Then opening []) opening (record { mo
 all_then opening (event ∷ before) opened =
     event_begun (Then opening (event ∷ before)) opening before event
     (λ at c is. had_then (BeginsThen (span_in c c.end (run opening before).now.keeper.writes.triples)) opening before event
-        (hand_then (run opening before).now c (run opening before).now.keeper.writes.triples (has_begin opening before opened) is))
+        (hand_then (run opening before).now c (run opening before).now.keeper.writes.triples (keeper_begins opening before opened) is))
     (weaker (Then opening before) (Then opening (event ∷ before)) (life_begun opening before) (λ x points had. had_on (BeginsThen x) opening before event had) (all_then opening before opened))
 
 pub life_then : BegunBeginThen
@@ -83,7 +80,7 @@ all_on opening [] opened = opened_begun (On opening) opening (omega arith)
 all_on opening (event ∷ before) opened =
     let past = all_on opening before opened in
     event_begun (On opening) opening before event
-    (λ at c is. let up = last_on opening before opened past in let on = hand_on (run opening before).now.keeper c (has_begin opening before opened) is in omega (arith, up, on)) past
+    (λ at c is. let up = last_on opening before opened past in let on = hand_on (run opening before).now.keeper c (keeper_begins opening before opened) is in omega (arith, up, on)) past
 
 pub life_on : BegunBeginOn
 life_on opening events c opened there = one_of (On opening) c (life_begun opening events) there (all_on opening events opened)

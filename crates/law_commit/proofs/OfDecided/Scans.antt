@@ -23,14 +23,13 @@ use Rattle.law_refine.specs.Below.fkv_world.Runs.{World, run}
 use Rattle.law_refine.specs.Below.fkv_world.World.{Event, Now}
 use Rattle.law_refine.specs.Events.Reserved.{tail_at}
 use Rattle.law_refine.proofs.Below.fkv_keeper.Shown.{come_behind, run_used}
-use Rattle.law_refine.proofs.Below.law_world.OfKeeper.OwnRun.{of_keeper}
+use Rattle.law_refine.proofs.Below.law_world.OfKeeper.OwnRun.{keeper_begins, of_keeper}
 use Rattle.law_commit.specs.Begins.{BegunBeginBelow, BeginsBelow, OpensScanned}
 use Rattle.law_commit.specs.BegunCommits.{BegunCommit, life_begun}
 use Rattle.law_commit.specs.CommitParts.{CommitParts, parts_opening}
 use Rattle.law_commit.specs.Decided.Ended.{HadMoment, IsWrittenNow, LoadsFirst, span_in}
 use Rattle.law_commit.specs.Phases.Staged.{HasInHand, Stage, StartAt, StepAt}
 use Rattle.law_commit.proofs.AllBegun.{AllParts, event_parts, opened_parts, parts_of, weaker_parts}
-use Rattle.law_commit.proofs.Begins.{has_begin}
 use Rattle.law_commit.proofs.BegunStands.{same_commit}
 use Rattle.law_commit.proofs.Lasts.{IsOrNewer, life_last}
 use Rattle.law_commit.proofs.LifeBegun.{life_stands}
@@ -159,7 +158,7 @@ module _ (opening : World) (start : ℕ) (opens : OpensScanned opening start) wh
   written_below : (before : List Event) (c : Commit) → (keeper_at before).step ≡ Writes → (keeper_at before).commit ≡ Some c → AllParts Below (life_begun opening before) → BeginsBelow (parts_opening (keeper_at before) c)
   written_below before c at is past =
       let s : KeeperState = keeper_at before in
-      let below = hand_below s c (last_below before past) (last_first before c is (first_then before c at is)) ((has_begin opening before opens.quiet.opened).commit c is) in
+      let below = hand_below s c (last_below before past) (last_first before c is (first_then before c at is)) ((keeper_begins opening before opens.quiet.opened).commit c is) in
       record { first = below.0; scan = used_below s c.kind c (life_uses opening before opens.quiet.opened at c is) below }
 
   all_below : (events : List Event) → AllParts Below (life_begun opening events)
