@@ -1,5 +1,5 @@
 -- The keeper calls the device where it asks for it, and what the writes of a commit make of it are the keeper's calls.
-use Rattle.std.proofs.Common.{◌≡◌, ℕ, List, [], Bool, false, ◌∙◌, refl}
+use Rattle.std.proofs.Common.{◌≡◌, ℕ, List, [], Bool, false, ◌∙◌, refl, sym}
 use Rattle.std.specs.Prelude.{Option, Some, None}
 use Rattle.fkv_base.specs.declared.faults.Fault.TheVariants as fault
 use Rattle.fkv_base.specs.declared.shapes.Shape.{Shape}

@@ -5,6 +5,7 @@ use Rattle.std.specs.Prelude.{Some, ◌==◌, ◌||◌, nat_le, not, if◌then�
 use Rattle.fkv_base.specs.Limits.{is_specified}
 use Rattle.fkv_base.specs.declared.numbers.Addr.{Addr}
 use Rattle.fkv_base.specs.declared.shapes.Shape.{Shape}
+use Rattle.fkv_record.specs.declared.lost_ranges.LostRange.{LostRange}
 use Rattle.fkv_plane.specs.declared.places.Places.{Places}
 use Rattle.fkv_commit.specs.declared.commits.Commit.{Commit}
 use Rattle.fkv_sweep.proofs.Shown.{IsLoading, IsSameSweep, IsWithin, sweep_begun_loading, sweep_begun_within, sweep_failed_goes, sweep_failed_loading, sweep_failed_same, sweep_next_goes, sweep_next_loading, sweep_next_same, sweep_read_goes, sweep_read_loading, sweep_read_same, sweep_turn_goes, sweep_turn_loading, sweep_turn_same}
@@ -12,8 +13,9 @@ use Rattle.fkv_sweep.specs.Sweeping.{Sweeper, sweep_begun, sweep_failed, sweep_n
 use Rattle.fkv_keeper.specs.declared.keepers.Keeping.{Keeping}
 use Rattle.fkv_keeper.specs.declared.keepers.Keeping.TheVariants.{Ended, Starts, Maintains, LoadsPhase, Enters, Copies, Seeks, Waits, Writes, Finishes, Sweeps}
 use Rattle.fkv_keeper.specs.CheckpointLaws.{IsFinished}
-use Rattle.fkv_keeper.specs.Keeping.{Finality, KeeperState, is_full, may_set, sweep_set}
+use Rattle.fkv_keeper.specs.Keeping.{Finality, KeeperModel, KeeperState, is_full, may_set, sweep_set}
 use Rattle.fkv_keeper.specs.KeeperRun.{BeginsCommit, BeginsTurn, Calls, Gets, IsOpened, KeeperEvent, Replies, keeper_happens, keeper_run}
+use Rattle.fkv_keeper.specs.NewKeepers.{IsNewKeeper}
 use Rattle.fkv_keeper.specs.SlotLaws.{HasBegin, HasMoved}
 use Rattle.fkv_keeper.specs.SweepLaws.{IsSweepAfter, IsSweepBegun, IsSweepLeft, IsSweepSet}
 use Rattle.fkv_keeper.proofs.BeginMoves.{fourth_true, run_begins}
@@ -127,6 +129,10 @@ store_kept shape p = record {
 
 pub run_of_store : (its : Shape) (places : Places) (shape : Shape) (p : Places) (opening : KeeperState) (events : List KeeperEvent) → IsOfStore its places opening.sweep → IsOfStore its places (keeper_run shape p opening events).sweep
 run_of_store its places shape p opening events was = run_kept (IsOfStore its places) shape p opening events (store_kept its places) was
+
+-- as it is for a new keeper
+pub new_of_store : (shape : Shape) (last : Finality) (lost : List LostRange) (k : KeeperModel) → IsNewKeeper shape last lost k → IsOfStore k.shape k.places k.state.sweep
+new_of_store shape last lost k its = record { its_shape = ap (λ (w : Sweeper). w.shape) its.none_swept; its_places = ap (λ (w : Sweeper). w.places) its.none_swept }
 
 -- ---- the log's begin never goes back
 -- that of the commit in hand is at or above that of the newest finished one

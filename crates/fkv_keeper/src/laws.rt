@@ -95,8 +95,8 @@ pub fn law_of_parts()
 /// commit's number.
 ///
 /// Mailboxes are served of the log of the newest finished commit, and no read for one is below that log's begin. A commit's log begins
-/// there too, or at the end of a sweep that is done and began there. It never goes back. It is at or below the first addresses of the
-/// checkpoint in force and of the commit itself. It is chosen as the commit begins, and stays until that is finished.
+/// there too, or at the end of a sweep that is done and began there. That end is at or below the first addresses of the checkpoint in
+/// force and of the commit itself. No begin goes back. It is chosen as the commit begins, and stays until that is finished.
 /// A sweep goes on by its own replies and reads, with no commit in hand. A finished full commit sets how far the next one goes.
 pub fn law_of_slots()
     ensures room { (shape : Shape) (p : Places) (opening : KeeperState) (events : List KeeperEvent) → IsOpened opening
