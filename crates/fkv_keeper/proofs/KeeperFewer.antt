@@ -1,5 +1,5 @@
 -- Each reply, action and call of the device leaves a call of the keeper fewer.
-use Rattle.std.proofs.Common.{◌≡◌, ℕ, ◌+◌, ◌<◌, ◌≤◌, ◌∙◌, refl, sym, ap, arith, List, Bool, true, false}
+use Rattle.std.proofs.Common.{◌≡◌, ℕ, ◌+◌, ◌-◌, ◌<◌, ◌≤◌, ◌∙◌, refl, sym, ap, arith, List, Bool, true, false}
 use Rattle.std.specs.Prelude.{◌&&◌, ◌||◌, if◌then◌else◌, Option, Some, None}
 use Rattle.fkv_base.specs.declared.faults.Fault.TheVariants as fault
 use Rattle.fkv_base.specs.declared.phases.Phase.TheVariants as phase
@@ -54,7 +54,7 @@ use Rattle.fkv_maintain.specs.declared.maintaining.Maintaining.TheVariants.{Brok
 use Rattle.fkv_maintain.specs.Maintaining.{is_flush_resting, MaintainState, maintaining_ask, maintain_ask, maintain_next, maintain_given, maintain_called}
 use Rattle.fkv_keeper.proofs.KeeperDevice.{keeper_asked_calls}
 use Rattle.fkv_keeper.proofs.KeeperLeft.{never, nor, copy_where, write_busy}
-use Rattle.fkv_keeper.proofs.KeeperTakes.{starting_takes, entering_takes, copy_takes, seeking_takes, waiting_takes, finishing_takes}
+use Rattle.fkv_keeper.proofs.KeeperTakes.{starting_takes, entering_takes, copy_takes, seeking_takes, waiting_takes, finishing_takes, sweeping_takes}
 use Rattle.fkv_maintain.proofs.Shown.{passed_takes}
 use Rattle.fkv_plane.proofs.Shown.{some_sum, sum_most, sum_whole}
 use Rattle.fkv_maintain.proofs.Shown.{maintain_fewer, maintain_given_fewer, maintain_called_fewer}

@@ -30,14 +30,11 @@ use Rattle.fkv_commit.specs.Starting.{StartState, starting_ask, start_ask}
 use Rattle.fkv_commit.specs.Waiting.{WaitState, waiting_ask, wait_ask}
 use Rattle.fkv_epoch.specs.Arming.{arm_ask}
 use Rattle.fkv_epoch.specs.Raising.{raise_ask}
-use Rattle.fkv_index.specs.declared.finding.FindStep.{FindStep}
-use Rattle.fkv_index.specs.declared.finding.FindStep.TheVariants as find
-use Rattle.fkv_index.specs.declared.finding.Finding.{Finding}
-use Rattle.fkv_index.specs.Finding.{find_step_ask, find_ask}
-use Rattle.fkv_sweep.specs.declared.sweeping.SweepAnswer.TheVariants as sweep_answer
-use Rattle.fkv_sweep.specs.declared.sweeping.Sweeping.{Sweeping}
-use Rattle.fkv_sweep.specs.declared.sweeping.Sweeping.TheVariants as sweep
-use Rattle.fkv_sweep.specs.Sweeping.{Sweeper, sweeping_ask, sweep_ask}
+use Rattle.fkv_plane.specs.declared.asks.Ask.{Ask}
+use Rattle.fkv_plane.specs.declared.asks.Ask.TheVariants.{Load, Store, Swap, Cas, Add, Max, Put, Take, Done}
+use Rattle.fkv_sweep.specs.declared.sweeping.SweepAnswer.{SweepAnswer}
+use Rattle.fkv_sweep.specs.Sweeping.{Sweeper, sweep_ask}
+use Rattle.fkv_sweep.proofs.Shown.{sweep_takes_none}
 use Rattle.fkv_keeper.specs.Keeping.{copy_asked}
 use Rattle.fkv_maintain.proofs.Shown.{passed_takes, raise_takes, arm_takes}
 
@@ -110,25 +107,16 @@ finish_step_takes points s step = refl
 pub finishing_takes : (points : List Serial) (s : FinishState) → takes_action (finish_ask points s) ≡ false
 finishing_takes points s = finish_step_takes points s s.step
 
-find_step_takes : (f : Finding) (step : FindStep) → takes_action (find_step_ask f step) ≡ false
-unfolding find_step_ask
-find_step_takes f find.AtRest = refl
-find_step_takes f (find.LoadsSlot slot) = refl
-find_step_takes f find.LoadsLink = refl
-find_step_takes f (find.LoadsTaken taken) = refl
-find_step_takes f (find.TakesBucket at taken) = refl
-find_step_takes f (find.LinksBucket at) = refl
-
-sweep_step_takes : (s : Sweeper) (step : Sweeping) → takes_action (sweeping_ask s step) ≡ false
-unfolding sweeping_ask
-sweep_step_takes s (sweep.Finds key) = passed_takes (find_ask s.finding) sweep_answer.Through ∙ find_step_takes s.finding s.finding.step
-sweep_step_takes s sweep.AtRest = refl
-sweep_step_takes s sweep.LoadsHead = refl
-sweep_step_takes s sweep.Takes = refl
-sweep_step_takes s sweep.Meets = refl
-sweep_step_takes s (sweep.LoadsKey key addr) = refl
-sweep_step_takes s (sweep.LoadsHeader key addr) = refl
-sweep_step_takes s (sweep.Reads key addr) = refl
+ask_takes : (ask : Ask SweepAnswer) → ((slot : ℕ) → ask ≡ Take slot → ⊥) → takes_action ask ≡ false
+ask_takes (Load place) none = refl
+ask_takes (Store place new) none = refl
+ask_takes (Swap place new) none = refl
+ask_takes (Cas place old new) none = refl
+ask_takes (Add place k) none = refl
+ask_takes (Max place k) none = refl
+ask_takes (Put slot action) none = refl
+ask_takes (Take slot) none = absurd (none slot refl)
+ask_takes (Done its) none = refl
 
 pub sweeping_takes : (s : Sweeper) → takes_action (sweep_ask s) ≡ false
-sweeping_takes s = sweep_step_takes s s.step
+sweeping_takes s = ask_takes (sweep_ask s) (sweep_takes_none s)
