@@ -29,6 +29,7 @@ mod Rising
 mod SessionSteps
 pub mod Shown
 mod Sights
+mod Specified
 mod Stamps
 mod Sweeps
 mod Telling

@@ -1,5 +1,6 @@
 -- Where the logs of the commits that have begun begin.
-use Rattle.std.specs.Prelude.{◌≡◌, ◌≤◌, ◌⊎◌, ⊤, ℕ, List, [], ◌∷◌, Some}
+use Rattle.std.specs.Prelude.{◌≡◌, ◌≤◌, ◌⊎◌, ⊤, ℕ, true, List, [], ◌∷◌, Some}
+use Rattle.fkv_base.specs.Limits.{is_specified}
 use Rattle.law_refine.specs.Below.fkv_commit.Commit.{Commit}
 use Rattle.law_refine.specs.Below.fkv_keeper.SlotLaws.{HasMoved}
 use Rattle.law_refine.specs.Below.fkv_world.Opened.{IsOpenedWorld}
@@ -47,6 +48,12 @@ NoneBeginsLower (c ∷ before) = BeginsBehind c before × NoneBeginsLower before
 
 abbrev pub BeginsNeverFall : Type 0
 BeginsNeverFall = (opening : World) (events : List Event) → IsOpenedWorld opening → NoneBeginsLower (life_begun opening events)
+
+-- in a specified store the log of each begins where the opening's does
+abbrev pub SpecifiedBeginsStay : Type 0
+SpecifiedBeginsStay =
+    (opening : World) (events : List Event) (c : BegunCommit) → IsOpenedWorld opening → is_specified opening.now.keeper.start.asked.class ≡ true → IsIn c (life_begun opening events)
+    → c.parts.begin ≡ opening.now.keeper.last.begin
 
 -- ---- what recovery scans
 -- Its log begins at or below its first address, and that of the checkpoint that it uses.

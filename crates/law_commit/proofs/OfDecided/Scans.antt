@@ -1,19 +1,20 @@
 -- The log of each commit that has begun in a life begins at or below its first address, and that of the checkpoint that it uses.
-use Rattle.std.proofs.Common.{◌≡◌, ◌⊎◌, inl, inr, ℕ, ◌≤◌, ◌∙◌, List, [], ◌∷◌, ◌++◌, refl, ap, sym, subst, arith}
+use Rattle.std.proofs.Common.{◌≡◌, ◌⊎◌, inl, inr, ℕ, ◌+◌, ◌≤◌, ◌∙◌, List, [], ◌∷◌, ◌++◌, refl, ap, sym, subst, arith}
 use Rattle.std.specs.Prelude.{Some}
 use Rattle.fkv_base.specs.declared.commits.CommitKind.{CommitKind}
 use Rattle.fkv_base.specs.declared.commits.CommitKind.TheVariants.{Full, Log}
 use Rattle.fkv_base.specs.declared.numbers.Addr.{Addr}
 use Rattle.fkv_base.specs.declared.numbers.Serial.{Serial}
 use Rattle.fkv_base.specs.declared.numbers.Version.{Version}
+use Rattle.fkv_base.specs.declared.shapes.Shape.{Shape}
 use Rattle.fkv_plane.specs.declared.places.Places.{Places}
 use Rattle.law_refine.specs.Below.fkv_commit.Commit.{Commit}
 use Rattle.law_refine.specs.Below.fkv_commit.TheStarting.{Starting}
 use Rattle.law_refine.specs.Below.fkv_commit.TheStarting.TheVariants as starting
 use Rattle.law_refine.specs.Below.fkv_keeper.Checkpoint.{Checkpoint}
-use Rattle.law_refine.specs.Below.fkv_keeper.CheckpointLaws.{IsBehindWait, UsesAs}
+use Rattle.law_refine.specs.Below.fkv_keeper.CheckpointLaws.{IsBehindWait, IsBeingWritten, UsesAs, begun_with, copy_replies}
 use Rattle.law_refine.specs.Below.fkv_keeper.Keeping.{Finality, KeeperState, come_to}
-use Rattle.law_refine.specs.Below.fkv_keeper.KeeperRun.{Writing}
+use Rattle.law_refine.specs.Below.fkv_keeper.KeeperRun.{KeeperEvent, Writing, keeper_run, writing}
 use Rattle.law_refine.specs.Below.fkv_keeper.SlotLaws.{HasMoved}
 use Rattle.law_refine.specs.Below.fkv_keeper.TheKeeping.{Keeping}
 use Rattle.law_refine.specs.Below.fkv_keeper.TheKeeping.TheVariants.{Starts, Writes}
@@ -51,10 +52,26 @@ abbrev UsesThere : KeeperState → Type 0
 UsesThere s = s.step ≡ Writes → (c : Commit) → s.commit ≡ Some c → UsesFirst c.kind s c
 
 life_uses : (opening : World) (events : List Event) → IsOpenedWorld opening → UsesThere (run opening events).now.keeper
-life_uses opening events opened = of_keeper UsesThere opening events (λ writes c found.
-    let used = run_used opening.now.shape opening.now.places opening.now.keeper (keeper_events opening events) opened.keeper (come_behind _ (subst IsBehindWait (sym writes) tt)) in
-    let same : used.commit ≡ c = same_commit used.commit c (sym used.in_hand ∙ found) in
-    subst (λ (x : Commit). UsesFirst x.kind _ x) same (uses_first used.commit.kind _ _ _ _ used.commit used.uses))
+life_uses opening events opened = of_keeper UsesThere opening events uses
+  where
+    shape : Shape
+    shape = opening.now.shape
+
+    p : Places
+    p = opening.now.places
+
+    own : List KeeperEvent
+    own = keeper_events opening events
+
+    s : KeeperState
+    s = keeper_run shape p opening.now.keeper own
+
+    uses : UsesThere s
+    uses writes c found =
+        let used : IsBeingWritten p (copy_replies shape p opening.now.keeper own) (begun_with shape p opening.now.keeper own) (writing shape p opening.now.keeper own) s =
+        run_used shape p opening.now.keeper own opened.keeper (come_behind s (subst IsBehindWait (sym writes) tt)) in
+        subst (λ (x : Commit). UsesFirst x.kind s x) (same_commit used.commit c (sym used.in_hand ∙ found))
+        (uses_first used.commit.kind p (copy_replies shape p opening.now.keeper own) (writing shape p opening.now.keeper own) s used.commit used.uses)
 
 -- ---- a life
 module _ (opening : World) (start : ℕ) (opens : OpensScanned opening start) where
