@@ -11,6 +11,7 @@ mod LifeBegun
 mod Measured
 mod NewestWritten
 mod NextNumbers
+mod OldBegins
 pub mod OfCopied
 pub mod OfCuts
 pub mod OfDecided
@@ -34,6 +35,7 @@ mod Stamps
 mod Sweeps
 mod Telling
 mod ToldFinished
+mod Used
 mod WorkedPast
 mod WorkedRuns
 pub mod Below

@@ -14,7 +14,7 @@ use Rattle.law_refine.specs.Below.fkv_keeper.CheckpointLaws.{IsFinished}
 use Rattle.law_refine.specs.Below.fkv_keeper.Keeping.{Finality, KeeperState, is_full, sweep_set}
 use Rattle.law_refine.specs.Below.fkv_keeper.KeeperRun.{Calls, IsOpened, KeeperEvent, Replies, keeper_happens, keeper_run}
 use Rattle.law_refine.specs.Below.fkv_keeper.SlotLaws.{HasBegin, HasMoved}
-use Rattle.law_refine.specs.Below.fkv_keeper.SweepLaws.{IsSweepAfter}
+use Rattle.law_refine.specs.Below.fkv_keeper.SweepLaws.{IsSweepAfter, IsSweepSet}
 use Rattle.law_refine.specs.Below.fkv_keeper.TheKeeping.{Keeping}
 use Rattle.law_refine.specs.Below.fkv_keeper.TheKeeping.TheVariants.{Finishes, LoadsPhase, Sweeps}
 use Rattle.law_refine.specs.Below.fkv_world.Opened.{IsOpenedWorld}
@@ -29,7 +29,7 @@ use Rattle.law_commit.specs.Decided.Ended.{Span}
 use Rattle.law_commit.proofs.AllBegun.{AllBegun, event_begun, one_of, opened_begun}
 
 -- ---- the sweep has nothing to go over
-abbrev HasNone : Sweeper → Type 0
+abbrev pub HasNone : Sweeper → Type 0
 HasNone w = w.from ≡ w.to
 
 same_none : (w after : Sweeper) → IsSameSweep w after → HasNone w → HasNone after
@@ -43,28 +43,30 @@ set_none : (s : KeeperState) (c : Commit) → is_specified s.start.asked.class �
 set_none s c specified none =
     none_set (is_specified s.start.asked.class) (is_full c.kind) (s.sweep.at.0 == s.sweep.from.0 || s.sweep.to.0 == c.begin.0) (nat_le c.begin.0 c.first.0) (nat_le c.first.0 (2 ^ 48)) (sweep_begun s.sweep.shape s.sweep.places c.begin c.first) s.sweep specified none
 
-is_none : (w after : Sweeper) → after ≡ w → HasNone w → HasNone after
+pub is_none : (w after : Sweeper) → after ≡ w → HasNone w → HasNone after
 is_none w after same none = subst HasNone (sym same) none
 
-event_none : (event : KeeperEvent) (step : Keeping) (s a : KeeperState) → is_specified s.start.asked.class ≡ true → HasNone s.sweep → IsSweepAfter event step s a → HasNone a.sweep
-event_none (Replies reply granted) Sweeps s a specified none is = is_none (sweep_next s.sweep reply) a.sweep is (same_none s.sweep (sweep_next s.sweep reply) (sweep_next_same s.sweep reply) none)
-event_none (Calls true bytes) Sweeps s a specified none is = is_none (sweep_read s.sweep bytes) a.sweep is (same_none s.sweep (sweep_read s.sweep bytes) (sweep_read_same s.sweep bytes) none)
-event_none (Calls false bytes) Sweeps s a specified none is = is_none (sweep_failed s.sweep) a.sweep is (same_none s.sweep (sweep_failed s.sweep) (sweep_failed_same s.sweep) none)
-event_none (Replies reply granted) LoadsPhase s a specified none (inl left) = is_none s.sweep a.sweep left.same none
-event_none (Replies reply granted) LoadsPhase s a specified none (inr begun) = is_none (turn_begun s.sweep) a.sweep begun.same (same_none s.sweep (turn_begun s.sweep) (sweep_turn_same s.sweep) none)
-event_none (Replies reply granted) Finishes s a specified none (inl left) = is_none s.sweep a.sweep left.same none
-event_none (Replies reply granted) Finishes s a specified none (inr set) = is_none (sweep_set s set.commit) a.sweep set.same (set_none s set.commit specified none)
-event_none event step s a specified none left = is_none s.sweep a.sweep left.same none
+pub event_none : (event : KeeperEvent) (step : Keeping) (s a : KeeperState) → (IsSweepSet s a → HasNone a.sweep) → HasNone s.sweep → IsSweepAfter event step s a → HasNone a.sweep
+event_none (Replies reply granted) Sweeps s a sets none is = is_none (sweep_next s.sweep reply) a.sweep is (same_none s.sweep (sweep_next s.sweep reply) (sweep_next_same s.sweep reply) none)
+event_none (Calls true bytes) Sweeps s a sets none is = is_none (sweep_read s.sweep bytes) a.sweep is (same_none s.sweep (sweep_read s.sweep bytes) (sweep_read_same s.sweep bytes) none)
+event_none (Calls false bytes) Sweeps s a sets none is = is_none (sweep_failed s.sweep) a.sweep is (same_none s.sweep (sweep_failed s.sweep) (sweep_failed_same s.sweep) none)
+event_none (Replies reply granted) LoadsPhase s a sets none (inl left) = is_none s.sweep a.sweep left.same none
+event_none (Replies reply granted) LoadsPhase s a sets none (inr begun) = is_none (turn_begun s.sweep) a.sweep begun.same (same_none s.sweep (turn_begun s.sweep) (sweep_turn_same s.sweep) none)
+event_none (Replies reply granted) Finishes s a sets none (inl left) = is_none s.sweep a.sweep left.same none
+event_none (Replies reply granted) Finishes s a sets none (inr set) = sets set
+event_none event step s a sets none left = is_none s.sweep a.sweep left.same none
 
 run_none : (shape : Shape) (p : Places) (opening : KeeperState) (events : List KeeperEvent) → IsOpened opening → is_specified opening.start.asked.class ≡ true → HasNone (keeper_run shape p opening events).sweep
 unfolding keeper_run
 run_none shape p opening [] opened specified = subst HasNone (sym opened.none_swept.2) refl
 run_none shape p opening (event ∷ before) opened specified =
     let s : KeeperState = keeper_run shape p opening before in
-    event_none event s.step s (keeper_happens shape p s event) (ap is_specified (run_class shape p opening before) ∙ specified) (run_none shape p opening before opened specified) (sweep_moves shape p s event)
+    let a : KeeperState = keeper_happens shape p s event in
+    let none = run_none shape p opening before opened specified in
+    event_none event s.step s a (λ set. is_none (sweep_set s set.commit) a.sweep set.same (set_none s set.commit (ap is_specified (run_class shape p opening before) ∙ specified) none)) none (sweep_moves shape p s event)
 
 -- ---- so the begin stays
-hand_stays : (s : KeeperState) (c : Commit) → HasNone s.sweep → (c.begin ≡ s.last.begin) ⊎ HasMoved s c → c.begin ≡ s.last.begin
+pub hand_stays : (s : KeeperState) (c : Commit) → HasNone s.sweep → (c.begin ≡ s.last.begin) ⊎ HasMoved s c → c.begin ≡ s.last.begin
 hand_stays s c none (inl same) = same
 hand_stays s c none (inr moved) = moved.to ∙ (sym none ∙ moved.from)
 
