@@ -92,11 +92,9 @@ module _ (begin : Addr) (first : Checkpoint) (s a : KeeperState) (next : NextInH
       ];
     }
 
-run_is_old : (shape : Shape) (p : Places) (opening : KeeperState) (events : List KeeperEvent) → IsOpened opening → AreNumbersInTurn shape p opening events → opening.last.checkpoint.number.0 ≤ opening.last.number.0
-    → IsOld opening.last.begin opening.last.checkpoint (keeper_run shape p opening events)
-unfolding keeper_run AreNumbersInTurn
-run_is_old shape p opening [] opened turn low = record { low = low; so = inl (subst HasNone (sym opened.none_swept.2) refl, refl, refl) }
-run_is_old shape p opening (event ∷ before) opened turn low = by (each_move shape p s event).lists.lists
+event_old : (shape : Shape) (p : Places) (opening : KeeperState) (event : KeeperEvent) (before : List KeeperEvent) → IsOpened opening → AreNumbersInTurn shape p opening before → IsOld opening.last.begin opening.last.checkpoint (keeper_run shape p opening before)
+    → IsOld opening.last.begin opening.last.checkpoint (keeper_happens shape p (keeper_run shape p opening before) event)
+event_old shape p opening event before opened turn past = by (each_move shape p s event).lists.lists
   where
     s : KeeperState
     s = keeper_run shape p opening before
@@ -105,10 +103,7 @@ run_is_old shape p opening (event ∷ before) opened turn low = by (each_move sh
     a = keeper_happens shape p s event
 
     next : NextInHand s
-    next = run_next shape p opening before opened turn.1
-
-    past : IsOld opening.last.begin opening.last.checkpoint s
-    past = run_is_old shape p opening before opened turn.1 low
+    next = run_next shape p opening before opened turn
 
     by : ((a.last ≡ s.last) × (a.lost ≡ s.lost)) ⊎ ((c : Commit) × (s.commit ≡ Some c) × IsFinished s a c) → IsOld opening.last.begin opening.last.checkpoint a
     by (inl same) =
@@ -122,6 +117,12 @@ run_is_old shape p opening (event ∷ before) opened turn low = by (each_move sh
         (λ log none. event_none event s.step s a
             (λ set. is_none (sweep_set s set.commit) a.sweep set.same (set_none s set.commit (ap (λ (x : Commit). x.kind) (some_commit s.commit set.commit c set.in_hand found) ∙ log) none)) none (sweep_moves shape p s event))
         past
+
+run_is_old : (shape : Shape) (p : Places) (opening : KeeperState) (events : List KeeperEvent) → IsOpened opening → AreNumbersInTurn shape p opening events → opening.last.checkpoint.number.0 ≤ opening.last.number.0
+    → IsOld opening.last.begin opening.last.checkpoint (keeper_run shape p opening events)
+unfolding keeper_run AreNumbersInTurn
+run_is_old shape p opening [] opened turn low = record { low = low; so = inl (subst HasNone (sym opened.none_swept.2) refl, refl, refl) }
+run_is_old shape p opening (event ∷ before) opened turn low = event_old shape p opening event before opened turn.1 (run_is_old shape p opening before opened turn.1 low)
 
 -- As it is written it uses that checkpoint only where it is a log commit, and no full one was finished.
 old_hand : (kind : CommitKind) (first : Checkpoint) (begin : Addr) (s : KeeperState) (c : Commit) → c.kind ≡ kind → UsesBy kind s c → NextInHand s → s.commit ≡ Some c → HasBegin s → IsOld begin first s → s.used.number ≡ first.number → c.begin ≡ begin
