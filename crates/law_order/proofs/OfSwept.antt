@@ -1,0 +1,4 @@
+pub mod Grows
+pub mod Live
+pub mod Logs
+pub mod Words
