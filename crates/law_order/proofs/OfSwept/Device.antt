@@ -1,14 +1,17 @@
 -- What the device gives for records that are flushed shows a sweep the log beside the life.
-use Rattle.std.proofs.Common.{◌≡◌, ℕ, ◌+◌, ◌*◌, ◌<◌, ◌≤◌, ◌^◌, ◌∙◌, inl, inr, refl, sym, ap, subst, arith, false, List, length}
+use Rattle.std.proofs.Common.{◌≡◌, ℕ, ◌+◌, ◌*◌, ◌<◌, ◌≤◌, ◌^◌, ◌∙◌, inl, inr, refl, sym, ap, subst, arith, false, List, [], ◌∷◌, length}
 use Rattle.std.proofs.lemmas.Bool.{cases_lt}
 use Rattle.fkv_base.specs.declared.shapes.Shape.{Shape}
 use Rattle.fkv_disk.specs.Bytes.{bytes_at}
 use Rattle.fkv_disk.specs.Calls.{Call, ReadsAs, reads_as}
 use Rattle.fkv_disk.proofs.Shown.{length-bytes_at, reads_within}
+use Rattle.fkv_plane.specs.declared.places.RecordWord.{RecordWord}
 use Rattle.fkv_plane.specs.declared.places.RecordWord.TheVariants as rec
+use Rattle.fkv_record.specs.Numbers.{spelled}
 use Rattle.fkv_record.specs.Places.{area_place, number_at, record_place}
+use Rattle.fkv_sweep.proofs.Shown.{IsSweepSound, sweep_read_sound}
 use Rattle.fkv_sweep.specs.SweptLogs.{ShowsRead}
-use Rattle.fkv_sweep.specs.Sweeping.{Sweeper, piece_bytes, read_place}
+use Rattle.fkv_sweep.specs.Sweeping.{Sweeper, piece_bytes, read_place, sweep_read}
 use Rattle.law_commit.specs.Below.fkv_flush.GuardFlushed.{IsSynced}
 use Rattle.law_commit.specs.Below.fkv_flush.GuardLevels.{levels_of}
 use Rattle.law_commit.specs.Below.fkv_world.Runs.{World, run}
@@ -94,10 +97,11 @@ module _ (calls : CallsLaw) (life : BegunLife) (events : List Event) where
 
   new_header : (a : ℕ) (cell : Cell) → L.cells a ≡ Published cell → life.start ≤ a → a < flushed → IsValidThere its_shape seen a
   new_header a cell e from to =
-      let words = stands_in life.opening life.start events a in
+      let words : RecordWord → ℕ = stands_in life.opening life.start events a in
       let header : IsHeaderOf cell false (words rec.Header) = (life_headers life.opening life.start life.lists life.ghosts (begins_linked life) events).published a cell from e in
       let low : words rec.Header < 2 ^ 61 = subst (λ (n : ℕ). n < 2 ^ 61) (sym header.spells) (valid_low header.header header.bit) in
-      let there : bytes_at seen (record_place its_shape a) 24 ≡ _ = (synced life.opening.past.opened).records seen (inl (itself life.opening.past.opened (run life.opening events).past.calls)) a from to in
+      let there : bytes_at seen (record_place its_shape a) 24 ≡ spelled (words rec.Header ∷ words rec.Key ∷ words rec.Value ∷ []) =
+      (synced life.opening.past.opened).records seen (inl (itself life.opening.past.opened (run life.opening events).past.calls)) a from to in
       let read : number_at (bytes_at seen (record_place its_shape a) 24) 0 ≡ words rec.Header =
       ap (λ (bytes : List ℕ). number_at bytes 0) there ∙ header_read (words rec.Header) (words rec.Key) (words rec.Value) (omega (arith, low)) in
       subst (λ (n : ℕ). n < 2 ^ 61) (sym read) low
@@ -130,3 +134,11 @@ life_read calls life events was fits enabled s shape low some to head =
     subst (λ (bytes : List ℕ). ShowsRead (swept_log log) s s.step (bytes_at (reads_as bytes w.past.calls) (read_place s) piece_bytes)) (sym (opened_stays life.opening events))
     (read_shown (begin_in life.opening) life.opening.now.shape (read_then life.opening events) log (levels_of w.now.words).flushed (life_shown calls life events was fits)
     life.opening.now.shape.bucket_bits held.chains s shape (ap (λ (x : Shape). x.bucket_bits) shape) low some to head)
+
+-- so it goes on to be sound by what it reads
+pub life_read_sound : CallsLaw → (life : BegunLife) (events : List Event) → CellsFit life.ghosts.log → CellsFit (life_ghosts life.opening life.ghosts events).log → AreEnabled (home_of_world life.opening) life.ghosts (mapped life.opening events)
+    → (s : Sweeper) → s.shape ≡ life.opening.now.shape → begin_in life.opening ≤ s.to.0 → 0 < s.to.0 → s.to.0 ≤ (levels_of (run life.opening events).now.words).flushed → s.head.0 ≤ (levels_of (run life.opening events).now.words).flushed
+    → IsSweepSound s (swept_log (life_ghosts life.opening life.ghosts events).log)
+    → IsSweepSound (sweep_read s (bytes_at (device_seen (run life.opening events)) (read_place s) piece_bytes)) (swept_log (life_ghosts life.opening life.ghosts events).log)
+life_read_sound calls life events was fits enabled s shape low some to head sound =
+    sweep_read_sound s (swept_log (life_ghosts life.opening life.ghosts events).log) (bytes_at (device_seen (run life.opening events)) (read_place s) piece_bytes) sound (life_read calls life events was fits enabled s shape low some to head)

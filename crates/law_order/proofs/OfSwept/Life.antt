@@ -1,5 +1,6 @@
 -- The log of a sweep beside a life: it grows with each event, and once the sweep has come to its end the log does without what lies below that.
 use Rattle.std.proofs.Common.{◌≡◌, ℕ, ◌≤◌, inl, inr, subst, sym, ap, arith, List, ◌++◌}
+use Rattle.fkv_sweep.proofs.Shown.{IsSweepSound, sweep_grown_sound}
 use Rattle.fkv_sweep.specs.Sweeping.{Sweeper}
 use Rattle.fkv_sweep.specs.SweptLogs as swept
 use Rattle.fkv_sweep.specs.SweptLogs.{Swept, SweptLog}
@@ -47,6 +48,11 @@ module _ (life : BegunLife) where
   pub life_swept : (s : Sweeper) (later before : List Event) → AreEnabled H life.ghosts (mapped life.opening (later ++ before)) → s.at.0 ≤ s.to.0 → s.to.0 ≤ (log_behind before).fixed → Swept s (swept_log (log_behind before))
       → Swept s (swept_log (log_behind (later ++ before)))
   life_swept s later before enabled upto low passed = swept_stays s (swept_log (log_behind before)) (swept_log (log_behind (later ++ before))) upto (life_grows s.to.0 later before enabled low) passed
+
+  -- and one whose turn goes on stays sound
+  pub life_sound : (s : Sweeper) (later before : List Event) → AreEnabled H life.ghosts (mapped life.opening (later ++ before)) → s.to.0 ≤ (log_behind before).fixed → IsSweepSound s (swept_log (log_behind before))
+      → IsSweepSound s (swept_log (log_behind (later ++ before)))
+  life_sound s later before enabled low sound = sweep_grown_sound s (swept_log (log_behind before)) (swept_log (log_behind (later ++ before))) (life_grows s.to.0 later before enabled low) sound
 
   -- once all is passed the log does without the records below the end
   pub life_live_swept : (s : Sweeper) (events : List Event) → AreEnabled H life.ghosts (mapped life.opening events) → s.shape.bucket_bits ≡ life.opening.now.shape.bucket_bits → s.at.0 ≡ s.to.0 → Swept s (swept_log (log_behind events))
