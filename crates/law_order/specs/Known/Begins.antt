@@ -18,6 +18,7 @@ use Rattle.law_commit.specs.Below.law_refine.Mail.Shows as mail
 use Rattle.law_commit.specs.Below.law_refine.Events.GhostEvents.{home_in, safe_at}
 use Rattle.law_commit.specs.Below.law_refine.Events.Reserved.{IsUnbornFrom, ReservesNothing, tail_at}
 use Rattle.law_commit.specs.Below.law_refine.Records.Warm.{MemoryShowsLog}
+use Rattle.law_order.specs.Swept.Valid.{IsValidThere}
 
 -- the home of a key in the store of a world
 abbrev pub home_of_world : World → ℕ → ℕ
@@ -34,7 +35,7 @@ GoByBegin w = (session : ℕ) (s : SessionState) → slice_get w.now.sessions se
 -- A store was just opened, with its records' end at `start`: to the engine, the guard, the index (whose overflow buckets follow in these lists) and each
 -- mailbox. It rests, as each session has seen. The log is one with which the order law begins, from a map and in a version of its own; it has fixed what lies below the
 -- safe read-only offset, its chains begin where the entries of the index lead, memory has its records from the closed offset up, and the image that the device
--- holds has each of them. None lies below the address at which the log begins, by which each session goes.
+-- holds has each of them, and says of none that it was given up. None lies below the address at which the log begins, by which each session goes.
 pub record BeginsLife (opening : World) (start : ℕ) (lists : ℕ → List ℕ) (m : Map) (number : ℕ) (ghosts : Ghosts) : Type 0 where
   pub world : IsOpenedWorld opening
   pub store : IsOpenedStore opening start
@@ -48,6 +49,7 @@ pub record BeginsLife (opening : World) (start : ℕ) (lists : ℕ → List ℕ)
   pub heads : LeadToHeads opening.now lists ghosts.log
   pub warm : MemoryShowsLog opening start ghosts.log
   pub device : (a : ℕ) (cell : Cell) → ghosts.log.cells a ≡ Published cell → IsInImage (begin_in opening) opening.now.shape opening.past.opened a cell
+  pub valid : (a : ℕ) (cell : Cell) → ghosts.log.cells a ≡ Published cell → IsValidThere opening.now.shape opening.past.opened a
   pub above : IsAbove (begin_in opening) ghosts.log
   pub before_end : begin_in opening ≤ start
   pub floors : GoByBegin opening

@@ -13,6 +13,7 @@ use Rattle.law_opening.specs.Log.OpeningLog.{opening_ghosts, opening_log}
 use Rattle.law_opening.proofs.OfLives.Warm.{warm_shows}
 use Rattle.law_order.proofs.OfRules.Beginning.{world_opens}
 use Rattle.law_order.proofs.OfRules.Words.{opens_seen}
+use Rattle.law_order.proofs.OfSwept.Opened.{opened_valid}
 use Rattle.law_order.proofs.rules.law_life_begins.Goals as goal
 
 pub returns : goal.returns
@@ -35,6 +36,7 @@ returns c = λ bytes o n store world.
       heads = c.law_log_heads.ensures bytes o n store world;
       warm = warm_shows bytes o n world store guarded.now begins (c.law_log_counted.ensures bytes o store);
       device = in_image bytes o n store world (c.law_log_counted.ensures bytes o store);
+      valid = opened_valid bytes o n store world (c.law_log_counted.ensures bytes o store);
       above = subst (λ (b : ℕ). IsAbove b (opening_log bytes o)) (sym begin) (c.law_log_above.ensures bytes o store);
       before_end = (let before = o.begin_before_scan in let up = o.upwards in omega (arith, begin, before, up));
       floors = λ session s found. (world.its_sessions session s found).floor ∙ sym (ap (λ (last : Finality). last.begin) world.its_keeper.newest);

@@ -1,0 +1,9 @@
+pub mod Device
+pub mod Grows
+pub mod Headers
+pub mod Life
+pub mod Live
+pub mod Logs
+pub mod Opened
+pub mod Shown
+pub mod Words

@@ -1,0 +1,3 @@
+pub mod Logs
+pub mod Shown
+pub mod Valid
