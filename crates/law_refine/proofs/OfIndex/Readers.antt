@@ -23,10 +23,11 @@ use Rattle.fkv_index.specs.OneEntry.{AreOwned, IsIndex, IsHome, IsLoad, Grows, O
 use Rattle.fkv_index.specs.Slots.{entry_tag, is_entry, slot_word, link_of}
 use Rattle.fkv_index.proofs.Shown.{IsDeep, IsReading, IsBegun, IsSound, HasHappened, SeekKnows, Stands, WorkKnows, among_real, deep_first, deep_more, event_happened, sound_entries, sound_reads}
 use Rattle.law_refine.proofs.Items.{get_set}
-use Rattle.law_refine.proofs.OfIndex.FindingFacts.{done_rests, more_seeks}
+use Rattle.law_refine.proofs.OfIndex.FindingFacts.{done_rests, more_seeks, next_home}
 
 -- it was begun for a read, has nothing to spare, and stands in a bucket of its home's list, behind entries of other tags
 pub record ReadsOn (p : Places) (words : List ℕ) (lists : ℕ → List ℕ) (f : Finding) : Type 0 where
+  pub its_home : IsHome p f.home
   pub none_spare : f.spare ≡ 0
   pub its_reading : IsReading f
   pub its_row : SeekKnows p (bucket_words p words) lists f f.step
@@ -48,6 +49,7 @@ spare_none p home = by_test (nat_le 0 p.overflow)
 
 pub read_first : (p : Places) (words : List ℕ) (lists : ℕ → List ℕ) (home : Home) → IsHome p home → ReadsOn p words lists (first_finding p home Read 0)
 read_first p words lists home there = record {
+  its_home = there;
   none_spare = spare_none p home;
   its_reading = record { never = refl; loads = tt };
   its_row = (
@@ -102,6 +104,7 @@ row_more p words after lists lists' spares f (LinksBucket word) index grows know
 
 pub read_more : (p : Places) (words after : List ℕ) (lists lists' : ℕ → List ℕ) (spares : ℕ → ℕ) (f : Finding) → IsIndex p words lists spares → Grows p words after lists lists' → ReadsOn p words lists f → ReadsOn p after lists' f
 read_more p words after lists lists' spares f index grows reads = record {
+  its_home = reads.its_home;
   none_spare = reads.none_spare;
   its_reading = reads.its_reading;
   its_row = row_more p words after lists lists' spares f f.step index grows reads.its_row;
@@ -273,6 +276,7 @@ module _ (w : IndexWorld) (f : Finding) (sound : IsSound w) (reads : ReadsOn w.n
       subst (λ (lists : ℕ → List ℕ). WorkKnows p (bucket_words p words) lists next (answer_work (find_next_ask p f (reply_to words (find_ask f))))) (same_lists words w.lists f f.step read_loads)
       (subst (λ (after : List ℕ). WorkKnows p (bucket_words p after) (lists_sought words w.lists f f.step) next (answer_work (find_next_ask p f (reply_to words (find_ask f))))) (same_words words (find_ask f) read_loads) row) in
       record {
+        its_home = subst (IsHome p) (sym (next_home p f (reply_to words (find_ask f)))) reads.its_home;
         none_spare = next_spare p f f.step (reply_to words (find_ask f)) reads.its_reading.never read_loads ∙ reads.none_spare;
         its_reading = moves.its_begun.its_reading refl;
         its_row = has_row (find_next_ask p f (reply_to words (find_ask f))) refl here;
