@@ -1,12 +1,15 @@
 -- A turn has fewer asks left after each reply and each read.
 use Rattle.std.proofs.Common.{◌≡◌, ℕ, zero, suc, ◌+◌, ◌-◌, ◌*◌, ◌^◌, ◌<◌, ◌≤◌, [], ◌∷◌, ◌++◌, length, refl, sym, subst, arith, Bool, true, false}
-use Rattle.std.specs.Prelude.{List, Some, ◌==◌, ◌&&◌, nat_lt, if◌then◌else◌, None}
+use Rattle.std.specs.Prelude.{List, ◌==◌, ◌&&◌, nat_lt, if◌then◌else◌}
 use Rattle.std.proofs.Math.Nat.{suc-mul}
 use Rattle.std.proofs.lemmas.Bool.Decides.{nat_tests}
 use Rattle.fkv_base.specs.declared.numbers.Addr.{Addr}
 use Rattle.fkv_base.specs.declared.numbers.Key.{Key}
+use Rattle.fkv_base.specs.declared.shapes.Shape.{Shape}
+use Rattle.fkv_disk.specs.Asks.{count_by}
 use Rattle.fkv_plane.specs.declared.asks.Ask.{Ask}
 use Rattle.fkv_plane.specs.declared.asks.Ask.TheVariants.{Load, Store, Swap, Cas, Add, Max, Put, Take, Done}
+use Rattle.fkv_plane.specs.declared.places.Places.{Places}
 use Rattle.fkv_plane.specs.AsksLeft.{sum_left}
 use Rattle.fkv_plane.specs.Passing.{passed}
 use Rattle.fkv_plane.proofs.Shown.{never, some_inside, some_sum, sum_most, inside_fewer, behind_fewer}
@@ -22,8 +25,8 @@ use Rattle.fkv_sweep.specs.declared.record_words.RecordWords.{RecordWords}
 use Rattle.fkv_sweep.specs.declared.sweeping.SweepAnswer.{SweepAnswer}
 use Rattle.fkv_sweep.specs.declared.sweeping.SweepAnswer.TheVariants as answer
 use Rattle.fkv_sweep.specs.declared.sweeping.Sweeping.{Sweeping}
-use Rattle.fkv_sweep.specs.declared.sweeping.Sweeping.TheVariants.{AtRest, LoadsHead, Meets, Finds, LoadsKey, LoadsHeader, Reads}
-use Rattle.fkv_sweep.specs.Sweeping.{Sweeper, most_wanted, previous_in, is_counted, turn_begun, gone_on, record_passed, key_wanted, reached, led_down, slot_found, find_ledto, key_met, chain_met, record_met, sweeping_ask, sweep_ask, sweeping_next, sweep_next, sweeping_read, sweeping_addr, piece_read, holds, words_held, words_at, sweeping_held, gone_by, sweep_read}
+use Rattle.fkv_sweep.specs.declared.sweeping.Sweeping.TheVariants.{AtRest, LoadsHead, Takes, Meets, Finds, LoadsKey, LoadsHeader, Reads}
+use Rattle.fkv_sweep.specs.Sweeping.{Sweeper, most_wanted, previous_in, is_counted, sweep_begun, is_sweeping, turn_begun, coming, gone_on, record_passed, key_wanted, reached, led_down, slot_found, find_ledto, key_met, chain_met, record_met, sweeping_ask, sweep_ask, sweeping_next, sweep_next, sweeping_read, sweep_read, sweep_failed, sweeping_addr, read_of, read_asked, piece_read, holds, words_held, words_at}
 use Rattle.fkv_sweep.specs.AsksLeft.{steps_asked, GoesOnWhereLeft, chain_asks, record_asks, asks_behind, sweeping_asks_left, sweep_asks_left, most_sweep_asks}
 
 second_true : (a b c : Bool) → (a && b && c) ≡ true → b ≡ true
@@ -40,18 +43,28 @@ one_more (suc (suc n)) r some =
     let b : suc (suc n) - 1 ≡ suc n = omega arith in
     rw (a, b) (omega (arith, whole))
 
+-- to the record that comes next
+coming_left : (s : Sweeper) → sweep_asks_left (record s { step = coming s.piece s.next }) ≡ record_asks s.places + asks_behind s
+unfolding sweeping_asks_left
+coming_left s = cases (holds s.piece s.next)
+  where
+    cases : (b : Bool) → sweep_asks_left (record s { step = if b then Takes else Meets }) ≡ record_asks s.places + asks_behind s
+    cases true = refl
+    cases false = refl
+
 -- behind the record that is met
 gone_left : (s : Sweeper) → sweep_asks_left (gone_on s) ≤ asks_behind s
 unfolding sweeping_asks_left
 gone_left s = cases (nat_lt (s.next.0 + 1) s.to.0 && nat_lt 1 s.left && nat_lt (length s.wanted) most_wanted) refl
   where
     cases : (b : Bool) → (nat_lt (s.next.0 + 1) s.to.0 && nat_lt 1 s.left && nat_lt (length s.wanted) most_wanted) ≡ b
-        → sweep_asks_left (record s { next = record { 0 = s.next.0 + 1 }; left = s.left - 1; step = if b then Meets else AtRest }) ≤ asks_behind s
+        → sweep_asks_left (record s { next = record { 0 = s.next.0 + 1 }; left = s.left - 1; step = if b then coming s.piece (record { 0 = s.next.0 + 1 }) else AtRest }) ≤ asks_behind s
     cases true e =
         let t = second_true (nat_lt (s.next.0 + 1) s.to.0) (nat_lt 1 s.left) (nat_lt (length s.wanted) most_wanted) e in
         let more : 1 < s.left = grind (arith, nat_tests, t) in
         let whole = one_more s.left (record_asks s.places) more in
-        omega (arith, whole)
+        let its = coming_left (record s { next = record { 0 = s.next.0 + 1 }; left = s.left - 1 }) in
+        omega (arith, whole, its)
     cases false e = omega arith
 
 passed_left : (s : Sweeper) → sweep_asks_left (record_passed s) ≤ asks_behind s
@@ -128,7 +141,8 @@ ledto_left s key old (Take slot) same some fewer = subst (λ x. sweeping_asks_le
 next_left : (s : Sweeper) (step : Sweeping) (word : ℕ) → s.step ≡ step → 0 < sweeping_asks_left s step → steps_asked (sweeping_ask s step) ≡ 0 → sweep_asks_left (sweeping_next s step word) < sweeping_asks_left s step
 unfolding sweeping_asks_left sweeping_next sweeping_ask
 next_left s AtRest word same some none = absurd (omega (arith, some))
-next_left s LoadsHead word same some none = omega arith
+next_left s LoadsHead word same some none = let its = coming_left (record s { head = record { 0 = word } }) in omega (arith, its)
+next_left s Takes word same some none = let few = meet_left s (words_held s.piece s.next) in omega (arith, few)
 next_left s Meets word same some none = absurd (omega (arith, none))
 next_left s (Finds key) word same some none =
     let inside = some_inside (asks_left s.finding) (chain_asks + asks_behind s) some in
@@ -156,15 +170,12 @@ through_none (Max place k) = refl
 through_none (Put slot action) = refl
 through_none (Take slot) = refl
 
-read_left : (s : Sweeper) (step : Sweeping) (bytes : List ℕ) → s.step ≡ step → sweep_asks_left (gone_by (sweeping_addr s step) s step bytes) ≤ sweeping_asks_left s step - steps_asked (sweeping_ask s step)
-unfolding sweeping_asks_left sweeping_read sweeping_held sweeping_addr sweeping_ask
+read_left : (s : Sweeper) (step : Sweeping) (bytes : List ℕ) → s.step ≡ step → sweep_asks_left (sweeping_read s step bytes) ≤ sweeping_asks_left s step - steps_asked (sweeping_ask s step)
+unfolding sweeping_asks_left sweeping_read sweeping_ask
 read_left s AtRest bytes same = stays_left s AtRest same
 read_left s LoadsHead bytes same = stays_left s LoadsHead same
-read_left s Meets bytes same = cases (holds s.piece s.next)
-  where
-    cases : (b : Bool) → sweep_asks_left (gone_by (if b then None else Some s.next) s Meets bytes) ≤ record_asks s.places + asks_behind s - 1
-    cases true = let few = meet_left s (words_held s.piece s.next) in omega (arith, few)
-    cases false = let few = meet_left (record s { piece = piece_read s.next bytes }) (words_held (piece_read s.next bytes) s.next) in omega (arith, few)
+read_left s Takes bytes same = stays_left s Takes same
+read_left s Meets bytes same = let few = meet_left (record s { piece = piece_read s.next bytes }) (words_held (piece_read s.next bytes) s.next) in omega (arith, few)
 read_left s (Finds key) bytes same = rw (through_none (find_ask s.finding)) (stays_left s (Finds key) same)
 read_left s (LoadsKey key addr) bytes same = stays_left s (LoadsKey key addr) same
 read_left s (LoadsHeader key addr) bytes same = stays_left s (LoadsHeader key addr) same
@@ -190,6 +201,7 @@ step_asked : (s : Sweeper) (step : Sweeping) → GoesOnWhereLeft (sweeping_asks_
 unfolding sweeping_asks_left sweeping_ask
 step_asked s AtRest = (λ e. never e, λ some. absurd (omega (arith, some)))
 step_asked s LoadsHead = (λ e. omega arith, λ some. refl)
+step_asked s Takes = (λ e. omega arith, λ some. refl)
 step_asked s Meets = (λ e. omega arith, λ some. refl)
 step_asked s (Finds key) = through_left (asks_left s.finding) (chain_asks + asks_behind s) (find_ask s.finding) (find_counted s.finding s.finding.step)
 step_asked s (LoadsKey key addr) = (λ e. omega arith, λ some. refl)
@@ -201,8 +213,32 @@ sweep_asked s ask its = rw its (step_asked s s.step)
 
 pub turn_bounded : (s : Sweeper) → sweep_asks_left (turn_begun s) ≤ most_sweep_asks s.places
 unfolding sweeping_asks_left
-turn_bounded s = cases (nat_lt s.at.0 s.to.0)
+turn_bounded s = cases (is_sweeping s)
   where
     cases : (b : Bool) → sweep_asks_left (record s { next = s.at; left = 256; wanted = []; step = if b then LoadsHead else AtRest }) ≤ most_sweep_asks s.places
     cases true = omega arith
     cases false = omega arith
+
+-- a sweep that rests has none left: one that is new, and one behind a call that failed
+pub begun_none : (shape : Shape) (p : Places) (from to : Addr) → sweep_asks_left (sweep_begun shape p from to) ≡ 0
+unfolding sweeping_asks_left
+begun_none shape p from to = refl
+
+pub failed_none : (s : Sweeper) → sweep_asks_left (sweep_failed s) ≡ 0
+unfolding sweeping_asks_left
+failed_none s = refl
+
+-- ---- it makes a call just where it asks for the device
+step_calls : (s : Sweeper) (step : Sweeping) → steps_asked (sweeping_ask s step) ≡ count_by (read_of s.shape (sweeping_addr s step))
+unfolding sweeping_ask sweeping_addr
+step_calls s AtRest = refl
+step_calls s LoadsHead = refl
+step_calls s Takes = refl
+step_calls s Meets = refl
+step_calls s (Finds key) = through_none (find_ask s.finding)
+step_calls s (LoadsKey key addr) = refl
+step_calls s (LoadsHeader key addr) = refl
+step_calls s (Reads key addr) = refl
+
+pub sweep_calls : (s : Sweeper) → steps_asked (sweep_ask s) ≡ count_by (read_asked s)
+sweep_calls s = step_calls s s.step

@@ -1,4 +1,5 @@
 pub mod AsksLeft
-mod Reading
+pub mod Reading
+mod Same
 mod Searches
 mod Sound

@@ -18,7 +18,7 @@ use Rattle.fkv_index.proofs.Shown.{IsReading}
 use Rattle.fkv_sweep.specs.declared.sweeping.SweepAnswer.TheVariants as answer
 use Rattle.fkv_sweep.specs.Swept.{IsLoadOrEnd}
 
-if_either : {A : Type 0} (P : A → Type 0) (b : Bool) (x y : A) → P x → P y → P (if b then x else y)
+pub if_either : {A : Type 0} (P : A → Type 0) (b : Bool) (x y : A) → P x → P y → P (if b then x else y)
 if_either P true x y its other = its
 if_either P false x y its other = other
 

@@ -1,6 +1,6 @@
 -- How the front of the log is swept. Each record from an address on is read from the device. It is passed where it gives its key no value, or where
 -- a record of the key is found at or above the address where the sweep ends. Else its key is wanted there.
-use Rattle.std.specs.Prelude.{ℕ, ◌+◌, ◌-◌, ◌*◌, ◌%◌, ◌^◌, ◌<◌, ◌≤◌, ◌==◌, ◌&&◌, not, nat_lt, nat_le, if◌then◌else◌, Bool, List, [], ◌∷◌, ◌++◌, length, replicate, ⊤, Option, Some, None}
+use Rattle.std.specs.Prelude.{◌≡◌, ℕ, ◌+◌, ◌-◌, ◌*◌, ◌%◌, ◌^◌, ◌<◌, ◌≤◌, ◌==◌, ◌&&◌, not, nat_lt, nat_le, if◌then◌else◌, Bool, true, List, [], ◌∷◌, ◌++◌, length, replicate, ⊤, Option, Some, None}
 use Rattle.fkv_base.specs.declared.numbers.Addr.{Addr}
 use Rattle.fkv_base.specs.declared.numbers.Key.{Key}
 use Rattle.fkv_base.specs.declared.shapes.Shape.{Shape}
@@ -27,7 +27,7 @@ use Rattle.fkv_sweep.specs.declared.record_words.RecordWords.{RecordWords}
 use Rattle.fkv_sweep.specs.declared.sweeping.SweepAnswer.{SweepAnswer}
 use Rattle.fkv_sweep.specs.declared.sweeping.SweepAnswer.TheVariants as answer
 use Rattle.fkv_sweep.specs.declared.sweeping.Sweeping.{Sweeping}
-use Rattle.fkv_sweep.specs.declared.sweeping.Sweeping.TheVariants.{AtRest, LoadsHead, Meets, Finds, LoadsKey, LoadsHeader, Reads}
+use Rattle.fkv_sweep.specs.declared.sweeping.Sweeping.TheVariants.{AtRest, LoadsHead, Takes, Meets, Finds, LoadsKey, LoadsHeader, Reads}
 
 pub record Sweeper : Type 0 where
   pub shape : Shape
@@ -76,6 +76,10 @@ piece_read first bytes = record { first = first; end = record { 0 = first.0 + pi
 abbrev pub holds : Piece → Addr → Bool
 holds piece addr = nat_le piece.first.0 addr.0 && nat_lt addr.0 piece.end.0
 
+-- none
+abbrev pub no_piece : Piece
+no_piece = record { first = record { 0 = 0 }; end = record { 0 = 0 }; bytes = replicate piece_bytes 0 }
+
 -- its words
 abbrev pub words_held : Piece → Addr → RecordWords
 words_held piece addr = words_at piece.bytes (24 * (addr.0 - piece.first.0))
@@ -96,18 +100,26 @@ previous_in header = header % 2 ^ 48
 -- ---- a sweep
 -- It has passed nothing yet, and rests.
 abbrev pub sweep_begun : Shape → Places → Addr → Addr → Sweeper
-sweep_begun shape p from to = record { shape = shape; places = p; from = from; at = from; to = to; next = from; left = 0; piece = record { first = record { 0 = 0 }; end = record { 0 = 0 }; bytes = replicate piece_bytes 0 }; head = record { 0 = 0 }; wanted = []; finding = rested 0; step = AtRest }
+sweep_begun shape p from to = record { shape = shape; places = p; from = from; at = from; to = to; next = from; left = 0; piece = no_piece; head = record { 0 = 0 }; wanted = []; finding = rested 0; step = AtRest }
+
+-- there are records that it hasn't passed
+abbrev pub is_sweeping : Sweeper → Bool
+is_sweeping s = nat_lt s.at.0 s.to.0
 
 -- A turn begins at the first record that isn't passed. No key is wanted any more: a key that was is probed again.
 abbrev pub turn_begun : Sweeper → Sweeper
-turn_begun s = record s { next = s.at; left = most_records; wanted = []; step = if nat_lt s.at.0 s.to.0 then LoadsHead else AtRest }
+turn_begun s = record s { next = s.at; left = most_records; wanted = []; step = if is_sweeping s then LoadsHead else AtRest }
+
+-- The record that comes next is taken from the piece, where that has it. Else it is read from the device.
+abbrev pub coming : Piece → Addr → Sweeping
+coming piece next = if holds piece next then Takes else Meets
 
 -- on to the next record, where there is one for this turn
 abbrev pub gone_on : Sweeper → Sweeper
 gone_on s = record s {
   next = record { 0 = s.next.0 + 1 };
   left = s.left - 1;
-  step = if nat_lt (s.next.0 + 1) s.to.0 && nat_lt 1 s.left && nat_lt (length s.wanted) most_wanted then Meets else AtRest;
+  step = if nat_lt (s.next.0 + 1) s.to.0 && nat_lt 1 s.left && nat_lt (length s.wanted) most_wanted then coming s.piece (record { 0 = s.next.0 + 1 }) else AtRest;
 }
 
 -- The record needs no more: it is passed, unless the key of one before it is wanted.
@@ -150,10 +162,11 @@ abbrev pub record_met : Sweeper → RecordWords → Sweeper
 record_met s words =
     if is_counted words then record s { finding = first_finding s.places (home_of s.shape.bucket_bits words.key) Read 0; step = Finds words.key } else record_passed s
 
--- what each state asks
+-- what each state asks; where a record is taken from the piece, its load only says that the sweep goes on
 unfoldable pub sweeping_ask : Sweeper → Sweeping → Ask SweepAnswer
 sweeping_ask s AtRest = Done answer.Through
 sweeping_ask s LoadsHead = Load (shared_place one.Head)
+sweeping_ask s Takes = Load (shared_place one.Head)
 sweeping_ask s Meets = Done answer.Device
 sweeping_ask s (Finds key) = passed (find_ask s.finding) answer.Through
 sweeping_ask s (LoadsKey key addr) = Load (record_place s.places addr.0 rec.Key)
@@ -163,10 +176,15 @@ sweeping_ask s (Reads key addr) = Done answer.Device
 abbrev pub sweep_ask : Sweeper → Ask SweepAnswer
 sweep_ask s = sweeping_ask s s.step
 
+-- the record that comes next has the words that the piece has of it
+abbrev pub next_met : Sweeper → Sweeper
+next_met s = record_met s (words_held s.piece s.next)
+
 -- where the reply leads
 unfoldable pub sweeping_next : Sweeper → Sweeping → ℕ → Sweeper
 sweeping_next s AtRest reply = s
-sweeping_next s LoadsHead reply = record s { head = record { 0 = reply }; step = Meets }
+sweeping_next s LoadsHead reply = record s { head = record { 0 = reply }; step = coming s.piece s.next }
+sweeping_next s Takes reply = next_met s
 sweeping_next s Meets reply = s
 sweeping_next s (Finds key) reply = find_ledto (record s { finding = find_next s.places s.finding reply }) key (find_next_ask s.places s.finding reply)
 sweeping_next s (LoadsKey key addr) reply = key_met s key addr reply
@@ -176,37 +194,23 @@ sweeping_next s (Reads key addr) reply = s
 abbrev pub sweep_next : Sweeper → ℕ → Sweeper
 sweep_next s reply = sweeping_next s s.step reply
 
--- the record that comes next has the words that the piece has of it
-abbrev pub next_met : Sweeper → Sweeper
-next_met s = record_met s (words_held s.piece s.next)
-
--- where the bytes that were read lead
+-- where the bytes that were read lead; without a read it stays where it is
 unfoldable pub sweeping_read : Sweeper → Sweeping → List ℕ → Sweeper
 sweeping_read s Meets bytes = next_met (record s { piece = piece_read s.next bytes })
 sweeping_read s (Reads key addr) bytes = chain_met s key addr (words_at bytes 0)
 sweeping_read s step bytes = s
 
--- where it goes on without a read
-unfoldable pub sweeping_held : Sweeper → Sweeping → Sweeper
-sweeping_held s Meets = next_met s
-sweeping_held s step = s
+abbrev pub sweep_read : Sweeper → List ℕ → Sweeper
+sweep_read s bytes = sweeping_read s s.step bytes
 
--- the address whose record is read from the device, if one is: a record that comes next is not, where the piece has it
+-- the address whose record is read from the device, if one is
 unfoldable pub sweeping_addr : Sweeper → Sweeping → Option Addr
-sweeping_addr s Meets = if holds s.piece s.next then None else Some s.next
+sweeping_addr s Meets = Some s.next
 sweeping_addr s (Reads key addr) = Some addr
 sweeping_addr s step = None
 
 abbrev pub read_addr : Sweeper → Option Addr
 read_addr s = sweeping_addr s s.step
-
--- by the bytes that were read, if any were
-abbrev pub gone_by : Option Addr → Sweeper → Sweeping → List ℕ → Sweeper
-gone_by None s step bytes = sweeping_held s step
-gone_by (Some addr) s step bytes = sweeping_read s step bytes
-
-abbrev pub sweep_read : Sweeper → List ℕ → Sweeper
-sweep_read s bytes = gone_by (read_addr s) s s.step bytes
 
 -- each read is of the bytes of a piece
 abbrev pub read_of : Shape → Option Addr → Option AskedCall
@@ -238,6 +242,7 @@ pub record IsUnderWay (s : Sweeper) : Type 0 where
 abbrev pub IsStepInRange : Sweeper → Sweeping → Type 0
 IsStepInRange s AtRest = ⊤
 IsStepInRange s LoadsHead = IsUnderWay s
+IsStepInRange s Takes = IsUnderWay s × (holds s.piece s.next ≡ true)
 IsStepInRange s Meets = IsUnderWay s
 IsStepInRange s (Finds key) = IsUnderWay s
 IsStepInRange s (LoadsKey key addr) = IsUnderWay s

@@ -1,12 +1,11 @@
 -- What holds of a sweep over every list of its events, while the log grows.
-use Rattle.std.specs.Prelude.{◌≡◌, ℕ, ◌≤◌, ⊤, List, [], ◌∷◌, Option, Some, None}
+use Rattle.std.specs.Prelude.{◌≡◌, ℕ, ◌≤◌, ⊤, List, [], ◌∷◌, Some}
 use Rattle.fkv_base.specs.declared.numbers.Addr.{Addr}
 use Rattle.fkv_base.specs.declared.shapes.Shape.{Shape}
 use Rattle.fkv_plane.specs.declared.asks.Ask.{Ask}
 use Rattle.fkv_plane.specs.declared.asks.Ask.TheVariants.{Load, Done}
 use Rattle.fkv_plane.specs.declared.places.Places.{Places}
 use Rattle.fkv_sweep.specs.declared.sweeping.SweepAnswer.{SweepAnswer}
-use Rattle.fkv_sweep.specs.declared.sweeping.Sweeping.{Sweeping}
 use Rattle.fkv_sweep.specs.Sweeping.{Sweeper, sweep_begun, turn_begun, sweep_ask, sweep_next, sweep_read, sweep_failed, read_addr}
 use Rattle.fkv_sweep.specs.SweptLogs.{SweptLog, Swept, Grows, ShowsReply, ShowsRead}
 
@@ -15,7 +14,7 @@ pub data SweepEvent : Type 0 where
   TurnBegins : SweepEvent
   -- its ask is replied to
   IsReplied : ℕ → SweepEvent
-  -- it goes on by the device: these bytes are read for it, where it needs any
+  -- it goes on by the device: these bytes are read for it
   IsRead : List ℕ → SweepEvent
   ReadFails : SweepEvent
 
@@ -35,15 +34,10 @@ unfoldable pub sweep_run : Sweeper → List SweepMoment → Sweeper
 sweep_run opening [] = opening
 sweep_run opening (moment ∷ before) = sweep_happens (sweep_run opening before) moment.event
 
--- what is read, if anything is, shows the log
-abbrev pub ShowsBytes : SweptLog → Sweeper → Sweeping → Option Addr → List ℕ → Type 0
-ShowsBytes log s step None bytes = ⊤
-ShowsBytes log s step (Some addr) bytes = ShowsRead log s step bytes
-
 -- what an event tells is so in the log
 abbrev pub ShowsEvent : SweptLog → Sweeper → SweepEvent → Type 0
 ShowsEvent log s (IsReplied word) = ShowsReply log s s.step word
-ShowsEvent log s (IsRead bytes) = ShowsBytes log s s.step (read_addr s) bytes
+ShowsEvent log s (IsRead bytes) = ShowsRead log s s.step bytes
 ShowsEvent log s event = ⊤
 
 -- the log has grown since the newest moment

@@ -30,7 +30,18 @@ const PIECE_RECORDS: u64 = 32;
 pub(crate) const PIECE_BYTES: usize = 768;
 
 impl Piece {
-    ghost use Rattle.fkv_sweep.specs.Sweeping.{piece_read, piece_records, holds, words_held};
+    ghost use Rattle.fkv_sweep.specs.Sweeping.{no_piece, piece_read, piece_records, holds, words_held};
+
+    /// No records.
+    pub(crate) fn none() -> Piece
+        ensures { result ≡ no_piece }
+    {
+        Piece {
+            first: Addr(0),
+            end: Addr(0),
+            bytes: [0; PIECE_BYTES],
+        }
+    }
 
     /// The records from this address on, which have these bytes.
     pub(crate) fn read(first: Addr, bytes: &[u8; 768]) -> Piece

@@ -1,10 +1,10 @@
 //! The machine that sweeps.
-ghost use Rattle.std.specs.Prelude.{◌≡◌, ◌+◌, ◌-◌, ◌<◌, ◌≤◌, ◌^◌, ◌↔◌, ℕ, List, None, is_ok, OnOk, IfOk, OnErr};
+ghost use Rattle.std.specs.Prelude.{◌≡◌, ◌+◌, ◌-◌, ◌<◌, ◌≤◌, ◌^◌, ◌↔◌, ℕ, List, true, is_ok, OnOk, IfOk, OnErr};
 ghost use Rattle.fkv_disk.specs.Asks.{asked_call, kinds_by, count_by};
 ghost use Rattle.fkv_disk.specs.Bytes.{bytes_at};
 ghost use Rattle.fkv_disk.specs.Device.{LeavesNoMore, Elapses, HasCause, MakesCalls};
 ghost use Rattle.fkv_sweep.specs.AsksLeft.{GoesOnWhereLeft, steps_asked, sweep_asks_left, most_sweep_asks};
-ghost use Rattle.fkv_sweep.specs.Sweeping.{IsUnderWay, sweep_begun, turn_begun, gone_on, record_passed, key_wanted, reached, led_down, slot_found, find_ledto, key_met, chain_met, record_met, sweep_ask, sweep_next, sweep_read, sweep_failed, read_addr, read_asked, read_place, sweeping_read, sweeping_held, piece_bytes};
+ghost use Rattle.fkv_sweep.specs.Sweeping.{IsUnderWay, sweep_begun, is_sweeping, turn_begun, coming, holds, next_met, gone_on, record_passed, key_wanted, reached, led_down, slot_found, find_ledto, key_met, chain_met, record_met, sweep_ask, sweep_next, sweep_read, sweep_failed, read_addr, read_asked, read_place, sweeping_read, piece_bytes};
 
 use crate::record_words::{PIECE_BYTES, Piece, RecordWords, is_counted, previous_in, words_at};
 use arrayvec::ArrayVec;
@@ -18,7 +18,7 @@ use std::marker::Model;
 /// What a sweep has come to.
 #[derive(Clone, Copy, Debug, PartialEq, Eq)]
 pub enum SweepAnswer {
-    /// Its next step is one by the device, which `device_step` makes: a read, or none where the record was read with others.
+    /// Its next step is one read by the device, which `device_step` makes.
     Device,
     /// Its turn is through, or it is at rest.
     Through,
@@ -29,6 +29,8 @@ pub enum SweepAnswer {
 pub(crate) enum Sweeping {
     AtRest,
     LoadsHead,
+    /// The record that comes next was read with others. An ask goes before it, whose reply tells nothing.
+    Takes,
     /// The record that comes next is read from the device.
     Meets,
     /// The slot of the key's home is sought.
@@ -89,16 +91,29 @@ impl Sweep {
             to,
             next: from,
             left: 0,
-            piece: Piece {
-                first: Addr(0),
-                end: Addr(0),
-                bytes: [0; PIECE_BYTES],
-            },
+            piece: Piece::none(),
             head: Addr(0),
             wanted: ArrayVec::new(),
             find: Find::new(places, shape.bucket_bits),
             step: Sweeping::AtRest,
         }
+    }
+
+    /// Forgets what it has swept, and is the sweep from one address up to another. It rests.
+    pub fn restart(&mut self, from: Addr, to: Addr)
+        requires end { to.0 ≤ 2 ^ 48 }
+        ensures { self.new ≡ sweep_begun self.old.shape self.old.places from to }
+    {
+        self.step = Sweeping::AtRest;
+        self.from = from;
+        self.at = from;
+        self.to = to;
+        self.next = from;
+        self.left = 0;
+        self.piece = Piece::none();
+        self.head = Addr(0);
+        self.wanted.clear();
+        self.find.rest();
     }
 
     /// The first ask of a turn. The keys that were wanted are forgotten.
@@ -113,7 +128,7 @@ impl Sweep {
         self.next = self.at;
         self.left = MOST_RECORDS;
         self.wanted.clear();
-        if self.at < self.to {
+        if self.is_sweeping() {
             self.step = Sweeping::LoadsHead;
         }
         self.ask()
@@ -131,8 +146,9 @@ impl Sweep {
             Sweeping::AtRest | Sweeping::Meets | Sweeping::Reads(_, _) => {}
             Sweeping::LoadsHead => {
                 self.head = Addr(reply);
-                self.step = Sweeping::Meets;
+                self.step = self.coming();
             }
+            Sweeping::Takes => self.take(),
             Sweeping::Finds(key) => {
                 let ask = self.find.drive(reply);
                 self.after_find(key, ask);
@@ -143,8 +159,8 @@ impl Sweep {
         self.ask()
     }
 
-    /// Goes on by the device: it makes the one read that it needs, of the bytes of records in a row. Where it has the next record it
-    /// makes none, and goes on with that. Else it stays where it is. `Fault::Device` where the device failed: the machine is at rest then.
+    /// Goes on by the device: it makes the one read that it needs, of the bytes of records in a row. Where it needs none it stays where it
+    /// is. `Fault::Device` where the device failed: the machine is at rest then.
     #[tactic(auto, unfolding(crate::specs::Sweeping::sweeping_read, crate::specs::AsksLeft::sweeping_asks_left))]
     pub fn device_step<D: Device>(&mut self, d: &mut D) -> Result<Ask<SweepAnswer>, Fault>
         ensures next { OnOk result ((bytes : List ℕ) × (self.new ≡ sweep_read self.old bytes)) }
@@ -162,7 +178,6 @@ impl Sweep {
         ensures time { D.honest d.old → Elapses (D.moment d.old) (D.moment d.new) (D.left_since d.old) (D.left_since d.new) (D.may_leave d.new) }
     {
         let Some(addr) = self.read_addr() else {
-            self.meet_held();
             return Ok(self.ask());
         };
         let step = self.step;
@@ -174,9 +189,11 @@ impl Sweep {
         Ok(self.ask())
     }
 
-    /// The call of the device that `device_step` makes, if it makes one.
+    /// The call of the device that `device_step` makes, if it makes one: it does where it asks for `SweepAnswer::Device`, and nowhere else.
+    #[tactic(auto, using(crate::proofs::AsksLeft::sweep_calls))]
     pub fn device_ask(&self) -> Option<DeviceAsk<'_>>
-        ensures { asked_call result ≡ read_asked self.now }
+        ensures call { asked_call result ≡ read_asked self.now }
+        ensures count { steps_asked (sweep_ask self.now) ≡ count_by (asked_call result) }
     {
         let addr = self.read_addr()?;
         Some(DeviceAsk::Read(record_place(self.shape, addr), PIECE_BYTES))
@@ -189,7 +206,7 @@ impl Sweep {
     {
         match self.step {
             Sweeping::AtRest => Ask::Done(SweepAnswer::Through),
-            Sweeping::LoadsHead => Ask::Load(SharedWord::Head.place()),
+            Sweeping::LoadsHead | Sweeping::Takes => Ask::Load(SharedWord::Head.place()),
             Sweeping::Meets | Sweeping::Reads(_, _) => Ask::Done(SweepAnswer::Device),
             Sweeping::Finds(_) => passed(self.find.ask(), SweepAnswer::Through),
             Sweeping::LoadsKey(_, addr) => Ask::Load(self.places.record(addr, RecordWord::Key)),
@@ -206,6 +223,13 @@ impl Sweep {
         self.wanted.as_slice()
     }
 
+    /// Where the sweep began.
+    pub fn from(&self) -> Addr
+        ensures { result ≡ self.now.from }
+    {
+        self.from
+    }
+
     /// The first record that isn't passed.
     pub fn at(&self) -> Addr
         ensures { result ≡ self.now.at }
@@ -219,6 +243,13 @@ impl Sweep {
     {
         self.to
     }
+
+    /// Whether there are records that it hasn't passed.
+    pub fn is_sweeping(&self) -> bool
+        ensures { result ≡ is_sweeping self.now }
+    {
+        self.at < self.to
+    }
 }
 
 // The steps of a turn.
@@ -229,13 +260,7 @@ impl Sweep {
         ensures addr { result ≡ read_addr self.now }
     {
         match self.step {
-            Sweeping::Meets => {
-                if self.piece.holds(self.next) {
-                    None
-                } else {
-                    Some(self.next)
-                }
-            }
+            Sweeping::Meets => Some(self.next),
             Sweeping::Reads(_, addr) => Some(addr),
             _ => None,
         }
@@ -257,16 +282,25 @@ impl Sweep {
         }
     }
 
-    /// Goes on with the next record, which was read with others.
-    #[tactic(auto, unfolding(crate::specs::Sweeping::sweeping_held))]
-    fn meet_held(&mut self)
-        requires { read_addr self.old ≡ None }
-        ensures { self.new ≡ sweeping_held self.old self.old.step }
+    /// How it comes to the next record: that was read with others, or is read from the device.
+    fn coming(&self) -> Sweeping
+        ensures { result ≡ coming self.now.piece self.now.next }
     {
-        if let Sweeping::Meets = self.step {
-            let words = self.piece.words(self.next);
-            self.meet(words);
+        if self.piece.holds(self.next) {
+            Sweeping::Takes
+        } else {
+            Sweeping::Meets
         }
+    }
+
+    /// Goes on with the next record, which was read with others.
+    fn take(&mut self)
+        requires way { IsUnderWay self.old }
+        requires there { holds self.old.piece self.old.next ≡ true }
+        ensures { self.new ≡ next_met self.old }
+    {
+        let words = self.piece.words(self.next);
+        self.meet(words);
     }
 
     /// The record that comes next has these words.
@@ -382,7 +416,7 @@ impl Sweep {
         self.next = Addr(self.next.0 + 1);
         self.left -= 1;
         if goes_on {
-            self.step = Sweeping::Meets;
+            self.step = self.coming();
         }
     }
 }

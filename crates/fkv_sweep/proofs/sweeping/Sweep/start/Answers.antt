@@ -6,5 +6,5 @@ use Rattle.fkv_sweep.proofs.sweeping.Sweep.start.Goals as goal
 
 pub returns-clause-bounded : goal.returns-clause-bounded
 returns-clause-bounded c =
-    let next : c.if-lt.self ≡ turn_begun c.args.self.now = first_of (search rules, grind arith) in
+    let next : c.if-is_sweeping.self ≡ turn_begun c.args.self.now = first_of (search rules, grind arith) in
     rw next (turn_bounded c.args.self.now)
