@@ -1,0 +1,4 @@
+pub mod Knows
+pub mod Logs
+pub mod Memory
+pub mod Replies
