@@ -112,7 +112,7 @@ impl Sweep {
         self.left = 0;
         self.piece = Piece::none();
         self.head = Addr(0);
-        self.wanted.clear();
+        self.wanted = ArrayVec::new();
         self.find.rest();
     }
 
