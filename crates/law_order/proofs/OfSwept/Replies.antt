@@ -20,7 +20,8 @@ use Rattle.fkv_sweep.specs.declared.sweeping.Sweeping.{Sweeping}
 use Rattle.fkv_sweep.specs.declared.sweeping.Sweeping.TheVariants.{Finds, LoadsKey, LoadsHeader}
 use Rattle.fkv_sweep.specs.SweptLogs as swept
 use Rattle.fkv_sweep.specs.SweptLogs.{HasKeyAt, IsInChain, ShowsEntry, ShowsReply}
-use Rattle.fkv_sweep.specs.Sweeping.{Sweeper, previous_in, sweeping_ask, sweep_ask}
+use Rattle.fkv_sweep.specs.Sweeping.{Sweeper, previous_in, sweeping_ask, sweep_ask, sweep_next}
+use Rattle.fkv_sweep.proofs.Shown.{IsSweepSound, sweep_next_sound}
 use Rattle.law_commit.specs.Below.fkv_flush.GuardLevels.{levels_of}
 use Rattle.law_commit.specs.Below.fkv_world.Runs.{run}
 use Rattle.law_commit.specs.Below.fkv_world.World.{Event, Now}
@@ -36,7 +37,7 @@ use Rattle.law_log.specs.Ghosts.{Log}
 use Rattle.law_order.specs.Known.Begins.{BegunLife, home_of_world}
 use Rattle.law_order.specs.Swept.Logs.{swept_log}
 use Rattle.law_order.specs.Swept.Sweeps.{SweepsStore}
-use Rattle.law_order.proofs.OfSwept.Knows.{HasHead, SearchesFor, StepKnows, SweepKnows}
+use Rattle.law_order.proofs.OfSwept.Knows.{HasHead, SearchesFor, StepKnowsWords, KnowsWords}
 use Rattle.law_order.proofs.OfSwept.Memory.{closed_below_head, header_shown, key_shown}
 
 -- an address above 0 at which a chain begins stands in it
@@ -98,12 +99,16 @@ module _ (life : BegunLife) (events : List Event) (s : Sweeper) (sweeps : Sweeps
         (header_shown life events enabled published key a (closed_below a has over) (in_its_chain key a is_in) (subst (λ (p : Places). 0 < previous_in (word_at n.words (record_place p a rec.Header))) its_places some)))
 
     -- ---- so each reply shows the log
-    step_shown : (step : Sweeping) → StepKnows life.opening life.lists events s step → ShowsReply (swept_log log) s step (reply_to n.words (sweeping_ask s step))
+    step_shown : (step : Sweeping) → StepKnowsWords life.opening life.lists events s step → ShowsReply (swept_log log) s step (reply_to n.words (sweeping_ask s step))
     unfolding sweeping_ask
     step_shown (Finds key) knows = subst (ShowsEntry (swept_log log) s key) (sym (passed_reply n.words (find_ask s.finding) answer.Through)) (entry_shown key knows)
     step_shown (LoadsKey key addr) knows = λ over_head over_end is_in same. its_key_shown key addr.0 knows over_head is_in same
     step_shown (LoadsHeader key addr) knows = λ over_head over_end is_in above. its_header_shown key addr.0 knows over_head is_in above
     step_shown step knows = tt
 
-    pub reply_shown : SweepKnows life.opening life.lists events s → ShowsReply (swept_log log) s s.step (reply_to n.words (sweep_ask s))
+    pub reply_shown : KnowsWords life.opening life.lists events s → ShowsReply (swept_log log) s s.step (reply_to n.words (sweep_ask s))
     reply_shown knows = step_shown s.step knows
+
+    -- and it goes on to be sound
+    pub reply_sound : KnowsWords life.opening life.lists events s → IsSweepSound s (swept_log log) → IsSweepSound (sweep_next s (reply_to n.words (sweep_ask s))) (swept_log log)
+    reply_sound knows sound = sweep_next_sound s (swept_log log) (reply_to n.words (sweep_ask s)) sound (reply_shown knows)
