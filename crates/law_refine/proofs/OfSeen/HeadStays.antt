@@ -37,6 +37,7 @@ use Rattle.fkv_epoch.specs.Raising.{raise_ask}
 use Rattle.fkv_epoch.specs.Refreshing.{refresh_ask}
 use Rattle.fkv_epoch.specs.Scanning.{scan_ask}
 use Rattle.fkv_epoch.proofs.Shown.{word_spared}
+use Rattle.law_world.specs.Below.fkv_flush.Guarded.{first_actor}
 use Rattle.law_world.specs.Below.fkv_flush.GuardLevels.{levels_of}
 use Rattle.law_world.specs.Below.fkv_flush.GuardSeen.{LastSeen}
 use Rattle.law_world.specs.Below.fkv_flush.GuardWorld as guard
@@ -146,9 +147,6 @@ outer_leaves p (Take slot) outer = tt
 outer_leaves p (Done its) outer = tt
 
 -- ---- the machines inside
-own_off : (number : ℕ) (word : SessionWord) → shared_place one.Head ≢ session_place number word
-own_off number word e = omega (arith, e)
-
 record_off : (p : Places) (addr : ℕ) (word : RecordWord) → shared_place one.Head ≢ record_place p addr word
 record_off p addr word e = omega (arith, e)
 
@@ -224,24 +222,24 @@ mail_leaves number (mail.LoadsState task) = tt
 mail_leaves number mail.LoadsHeader = tt
 mail_leaves number (mail.LoadsKey header) = tt
 mail_leaves number (mail.LoadsValue header key) = tt
-mail_leaves number (mail.StoresEmpty its) = own_off number _
-mail_leaves number (mail.StoresAddress addr) = own_off number _
-mail_leaves number mail.StoresAsked = own_off number _
+mail_leaves number (mail.StoresEmpty its) = λ e. omega (arith, e)
+mail_leaves number (mail.StoresAddress addr) = λ e. omega (arith, e)
+mail_leaves number mail.StoresAsked = λ e. omega (arith, e)
 
 refresh_leaves : (number : ℕ) (step : Refreshing) → LeavesHead (refresh_ask number step)
 unfolding refresh_ask
-refresh_leaves number (refresh.StoresEpoch epoch) = own_off number _
+refresh_leaves number (refresh.StoresEpoch epoch) = λ e. omega (arith, e)
 refresh_leaves number step = tt
 
 protect_leaves : (number : ℕ) (step : Protecting) → LeavesHead (protect_ask number step)
 unfolding protect_ask
-protect_leaves number (protect.StoresEpoch epoch) = own_off number _
+protect_leaves number (protect.StoresEpoch epoch) = λ e. omega (arith, e)
 protect_leaves number step = tt
 
 leave_leaves : (number : ℕ) (step : Leaving) → LeavesHead (leave_ask number step)
 unfolding leave_ask
 leave_leaves number leave.AtRest = tt
-leave_leaves number leave.StoresZero = own_off number _
+leave_leaves number leave.StoresZero = λ e. omega (arith, e)
 
 reserve_leaves : (step : Reserving) → LeavesHead (reserve_ask step)
 unfolding reserve_ask
@@ -291,8 +289,8 @@ unfolding catching_ask
 catch_leaves p number c requests catching.Ended ask outer on = on tt
 catch_leaves p number c requests catching.Refreshes ask outer on = on (passed_leaves (refresh_ask number c.refreshing) tt (refresh_leaves number c.refreshing))
 catch_leaves p number c requests catching.Protects ask outer on = on (passed_leaves (protect_ask number c.protecting) tt (protect_leaves number c.protecting))
-catch_leaves p number c requests catching.StoresCut ask outer on = on (own_off number _)
-catch_leaves p number c requests catching.StoresOwing ask outer on = on (own_off number _)
+catch_leaves p number c requests catching.StoresCut ask outer on = on (λ e. omega (arith, e))
+catch_leaves p number c requests catching.StoresOwing ask outer on = on (λ e. omega (arith, e))
 catch_leaves p number c requests (catching.Latches index) ask outer on = outer_leaves p ask outer
 catch_leaves p number c requests catching.Finishes ask outer on = on (passed_leaves (refresh_ask number c.refreshing) tt (refresh_leaves number c.refreshing))
 
@@ -320,9 +318,9 @@ sitting_leaves k s (Attempts has_shifted) outer knows targets = attempt_leaves k
 sitting_leaves k s (CatchesUp cause) outer knows targets = catch_leaves k.places k.number s.catching s.requests s.catching.step _ outer (λ leaves. passed_leaves (catch_ask k.places k.number s.catching s.requests) _ leaves)
 sitting_leaves k s ClearsMail outer knows targets = passed_leaves (mail_ask k.number s.mailing) _ (mail_leaves k.number s.mailing)
 sitting_leaves k s (Polls index) outer knows targets = attempt_leaves k.places k.number s.attempt s.attempt.step _ outer (λ leaves. passed_leaves (attempt_ask k.places k.number s.attempt) _ leaves)
-sitting_leaves k s (StoresOwing index) outer knows targets = own_off k.number _
+sitting_leaves k s (StoresOwing index) outer knows targets = λ e. omega (arith, e)
 sitting_leaves k s (Turns its) outer knows targets = passed_leaves (own_turn_ask k.shape s.own_turn) _ (turn_leaves k.shape s.own_turn s.own_turn.step knows targets)
-sitting_leaves k s StoresCut outer knows targets = own_off k.number _
+sitting_leaves k s StoresCut outer knows targets = λ e. omega (arith, e)
 sitting_leaves k s Leaves outer knows targets = passed_leaves (leave_ask k.number s.leaving) _ (leave_leaves k.number s.leaving)
 sitting_leaves k s LoadsDurable outer knows targets = tt
 
@@ -348,7 +346,7 @@ all_rest (suc count) first its zero x got = let same : first ≡ x = cc in subst
 all_rest (suc count) first its (suc i) x got = all_rest count first its i x got
 
 life_targets : (opening : World) (start : ℕ) (events : List Event) → AllReadOnly (seen_by_guard opening start events).now
-life_targets opening start events = run_targets (guard_opening opening.now start) (guarded.mapped opening events) (all_rest _ _ tt)
+life_targets opening start events = run_targets (guard_opening opening.now start) (guarded.mapped opening events) (all_rest (guarded.actor_count opening.now) (first_actor start (levels_of opening.now.words).closed) tt)
 
 pub session_leaves : (opening : World) (start : ℕ) (events : List Event) (number : ℕ) (s : SessionState) → IsOpened opening.now start → slice_get (run opening events).now.sessions number ≡ Some s
     → LeavesHead (session_ask (seat_at (run opening events).now number) s)
