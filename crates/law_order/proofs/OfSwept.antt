@@ -1,9 +1,12 @@
 pub mod Device
 pub mod Grows
 pub mod Headers
+pub mod Knows
 pub mod Life
 pub mod Live
 pub mod Logs
+pub mod Memory
 pub mod Opened
+pub mod Replies
 pub mod Shown
 pub mod Words
