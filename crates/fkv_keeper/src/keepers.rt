@@ -426,6 +426,7 @@ impl Keeper {
 
     /// The call of the device that a part of every turn makes.
     fn call_for_turn<D: Device>(&mut self, d: &mut D) -> Result<Ask<KeeperTold>, Fault>
+        requires { self.old.state.step ≡ Maintains }
         ensures next { (bytes : List ℕ) × (self.new ≡ record self.old { state = turn_called self.old.shape self.old.places self.old.state (is_ok result) bytes }) }
         ensures ask { IfOk result (λ ask. ask ≡ keeper_ask self.old.shape self.old.places self.new.state) }
         ensures refused { OnErr result (self.new.state.step ≡ Ended (TurnRefused Failed)) }

@@ -6,6 +6,7 @@ mod Counted
 mod Goes
 mod InRest
 mod InTurn
+mod Lasts
 mod LifeBegun
 mod Measured
 mod NewestWritten
@@ -29,6 +30,7 @@ mod SessionSteps
 pub mod Shown
 mod Sights
 mod Stamps
+mod Sweeps
 mod Telling
 mod ToldFinished
 mod WorkedPast
