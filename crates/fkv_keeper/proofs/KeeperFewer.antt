@@ -277,7 +277,6 @@ phase_led shape p s None said granted = either shape p (is_flush_resting s.maint
     (over shape p (record s { is_granted = granted }) (turn_over s) _ (some_behind (most_part_asks s.seek.sessions s.finish.sessions) (most_sweep_asks s.sweep.places))) (sweeps_led shape p s granted)
 phase_led shape p s (Some c) said granted = within_part _ (most_part_asks s.seek.sessions s.finish.sessions) (most_sweep_asks s.sweep.places) (commit_led shape p s c said granted)
 
-
 inside_enter : (shape : Shape) (p : Places) (s : KeeperState) (old : ℕ) → s.step ≡ Enters → enter_asks_left s.enter < old → keeper_asks_left shape p s < old
 unfolding keeping_asks_left
 inside_enter shape p s old at fewer = rw at fewer

@@ -1,5 +1,5 @@
 -- What becomes of the sweep of the log's front, and of the begin of the commit in hand, with each event.
-use Rattle.std.proofs.Common.{◌≡◌, ◌∙◌, ◌⊎◌, inl, inr, ℕ, List, refl, ap, sym, subst, Bool, true, false}
+use Rattle.std.proofs.Common.{◌≡◌, ◌⊎◌, inl, inr, ℕ, List, refl, subst, Bool, true, false}
 use Rattle.std.specs.Prelude.{Option, Some, None, if◌then◌else◌, ◌&&◌, ◌||◌, not}
 use Rattle.fkv_base.specs.declared.numbers.Addr.{Addr}
 use Rattle.fkv_base.specs.declared.commits.CommitKind.{CommitKind}
@@ -41,7 +41,7 @@ use Rattle.fkv_keeper.specs.declared.keepers.Keeping.{Keeping}
 use Rattle.fkv_keeper.specs.declared.keepers.Keeping.TheVariants.{Ended, Starts, Maintains, LoadsPhase, Enters, Copies, Seeks, Waits, Writes, Finishes, Sweeps}
 use Rattle.fkv_keeper.specs.Keeping.{KeeperState, commit_asked, copied, copies, copies_next, copy_driven, copy_ledto, copy_told, enter_ledto, finish_ledto, finished, is_copy_resting, keeping_called, keeping_given, keeping_next, maintain_ledto, must_rest, part_begun, phase_ledto, points_known, seek_ledto, start_ledto, sweep_called, sweep_ledto, sweeps_next, turn_asked, turn_called, turned, wait_ledto, write_ledto, writes_begun, writes_called}
 use Rattle.fkv_keeper.specs.KeeperRun.{BeginsCommit, BeginsTurn, Calls, Gets, KeeperEvent, Replies, begins, is_in_hand, keeper_happens}
-use Rattle.fkv_keeper.specs.SweepLaws.{IsBeginAfter, IsBeginChosen, IsBeginKept, IsSweepAfter, IsSweepBegun, IsSweepLeft, IsSweepSet}
+use Rattle.fkv_keeper.specs.SweepLaws.{IsBeginAfter, IsBeginChosen, IsSweepAfter, IsSweepBegun, IsSweepLeft, IsSweepSet}
 use Rattle.fkv_keeper.proofs.Happens.{happens_at, happens_so}
 
 -- the commit in hand stays, and where its log begins

@@ -1,11 +1,10 @@
 -- A sweep reads, and so a device reads as before, and may leave no more.
-use Rattle.std.proofs.Common.{◌≡◌, ap, sym, subst, rules, ◌∙◌, List, ℕ}
+use Rattle.std.proofs.Common.{◌≡◌, ap, rules, ◌∙◌}
 use Rattle.std.specs.Prelude.{None}
 use Rattle.fkv_sweep.proofs.Shown.{sweep_read_same}
-use Rattle.fkv_sweep.specs.Sweeping.{Sweeper, piece_bytes, read_place, sweep_ask, sweep_read}
+use Rattle.fkv_sweep.specs.Sweeping.{Sweeper, piece_bytes, read_place}
 use Rattle.fkv_disk.specs.Bytes.{bytes_at}
 use Rattle.fkv_keeper.specs.declared.keepers.Keeping.{Keeping}
-use Rattle.fkv_keeper.specs.Keeping.{KeeperModel, sweep_ledto}
 use Rattle.fkv_keeper.specs.KeeperAsks.{keeper_read, keeping_read}
 use Rattle.fkv_keeper.proofs.KeeperDevice.{does_adds}
 use Rattle.fkv_keeper.proofs.keepers.Keeper.call_for_sweep.Goals as goal
