@@ -11,7 +11,6 @@ use Rattle.fkv_index.specs.declared.finding.Found.TheVariants.{Slot}
 use Rattle.fkv_index.specs.declared.finding.Purpose.TheVariants.{Read}
 use Rattle.fkv_index.specs.Finding.{find_next, find_next_ask, first_finding}
 use Rattle.fkv_index.specs.Slots.{entry_addr, home_of}
-use Rattle.fkv_sweep.specs.declared.record_words.RecordWords.{RecordWords}
 use Rattle.fkv_sweep.specs.declared.sweeping.Sweeping.{Sweeping}
 use Rattle.fkv_sweep.specs.declared.sweeping.Sweeping.TheVariants.{AtRest, LoadsHead, Takes, Meets, Finds, LoadsKey, LoadsHeader, Reads}
 use Rattle.fkv_sweep.specs.Sweeping.{Sweeper, chain_met, find_ledto, is_counted, key_met, key_wanted, led_down, piece_read, previous_in, reached, record_met, record_passed, slot_found, sweep_next, sweep_read, sweeping_next, sweeping_read, words_at, words_held}
@@ -41,10 +40,10 @@ module _ (most : ℕ) where
   key_low : (s : Sweeper) (key : Key) (addr : Addr) (word : ℕ) → s.head.0 ≤ most → (key_met s key addr word).head.0 ≤ most
   key_low s key addr word low = either (word == key.0) (record_passed s) (record s { step = LoadsHeader key addr }) low low
 
-  chain_low : (s : Sweeper) (key : Key) (addr : Addr) (words : RecordWords) → s.head.0 ≤ most → (chain_met s key addr words).head.0 ≤ most
+  chain_low : (s : Sweeper) (key : Key) (addr : Addr) (words : _) → s.head.0 ≤ most → (chain_met s key addr words).head.0 ≤ most
   chain_low s key addr words low = either (words.key.0 == key.0) (record_passed s) (led_down s key addr (previous_in words.header)) low (down_low s key addr (previous_in words.header) low)
 
-  met_low : (s : Sweeper) (words : RecordWords) → s.head.0 ≤ most → (record_met s words).head.0 ≤ most
+  met_low : (s : Sweeper) (words : _) → s.head.0 ≤ most → (record_met s words).head.0 ≤ most
   met_low s words low = either (is_counted words) (record s { finding = first_finding s.places (home_of s.shape.bucket_bits words.key) Read 0; step = Finds words.key }) (record_passed s) low low
 
   next_low : (s : Sweeper) (step : Sweeping) (reply : ℕ) → (step ≡ LoadsHead → reply ≤ most) → s.head.0 ≤ most → (sweeping_next s step reply).head.0 ≤ most
