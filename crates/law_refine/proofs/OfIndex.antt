@@ -10,6 +10,7 @@ pub mod LifeMoves
 pub mod Moved
 mod Openings
 mod OwnAsks
+pub mod Readers
 pub mod SessionAsks
 pub mod SessionParts
 pub mod TryParts
