@@ -14,7 +14,8 @@ use law_commit::{
 use law_log::law_live_stays;
 use law_opening::{law_latches_open, law_lives_are_above};
 
-/// What the induction is given of each life: of phases, of latches, and of how versions and commits end.
+/// What the induction is given of each life: of phases, of latches, of how versions and commits end, and that what its log once did without it does without from
+/// then on.
 fn law_given()
     ensures { said.Given }
 {
@@ -28,6 +29,7 @@ fn law_given()
     law_begun();
     law_commits_ended();
     law_commits_cut();
+    law_live_stays();
 }
 
 /// Each life keeps order, with no further premise: it begins so, and what the induction is given of phases, latches and versions holds of each life. So each
@@ -44,7 +46,8 @@ pub fn law_lives_keep_order()
     law_given();
 }
 
-/// In each life each read that waits seeks a record of the device, but for the one that is polled just then. No poll tries it again.
+/// In each life, while its log begins where it did at first, each read that waits seeks a record of the device, but for the one that is polled just then. No poll
+/// tries it again.
 pub fn law_lives_seek()
     ensures { said.InEachLife said.SeeksItsReads }
 {
@@ -108,7 +111,8 @@ pub fn law_order()
 }
 
 /// In each life a read that waits has the value by then that its answer tells: that of its key at some moment between its call and any later one at which its
-/// session rests with it. What it seeks lies below the head, where no value changes, and no step searches for it again.
+/// session rests with it. What it seeks lies below the head, where no value changes, and no step searches for it again. So it is while the log begins where it did
+/// at first: a read that is told that its record is gone finds its entry again.
 pub fn law_waiting_reads()
     ensures { said.InEachLife said.WaitingReadsInTime }
 {
