@@ -57,7 +57,7 @@ all_then opening [] opened = opened_begun (Then opening []) opening (record { mo
 all_then opening (event ∷ before) opened =
     event_begun (Then opening (event ∷ before)) opening before event
     (λ at c is. had_then (BeginsThen (span_in c c.end (run opening before).now.keeper.writes.triples)) opening before event
-        (hand_then (run opening before).now c (run opening before).now.keeper.writes.triples (keeper_begins opening before opened) is))
+    (hand_then (run opening before).now c (run opening before).now.keeper.writes.triples (keeper_begins opening before opened) is))
     (weaker (Then opening before) (Then opening (event ∷ before)) (life_begun opening before) (λ x points had. had_on (BeginsThen x) opening before event had) (all_then opening before opened))
 
 pub life_then : BegunBeginThen

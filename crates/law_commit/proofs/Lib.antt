@@ -11,6 +11,7 @@ mod LifeBegun
 mod Measured
 mod NewestWritten
 mod NextNumbers
+mod OldBegins
 pub mod OfCopied
 pub mod OfCuts
 pub mod OfDecided
@@ -29,10 +30,12 @@ mod Rising
 mod SessionSteps
 pub mod Shown
 mod Sights
+mod Specified
 mod Stamps
 mod Sweeps
 mod Telling
 mod ToldFinished
+mod Used
 mod WorkedPast
 mod WorkedRuns
 pub mod Below

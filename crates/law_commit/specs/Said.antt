@@ -1,5 +1,5 @@
 -- What the clauses of `src` say: they take all of it under one name.
-pub use Rattle.law_commit.specs.Begins.{BegunBeginBelow, BegunBeginOn, BegunBeginThen, BeginsNeverFall}
+pub use Rattle.law_commit.specs.Begins.{BegunBeginBelow, BegunBeginOn, BegunBeginThen, BeginsNeverFall, OldBeginAsOpened, SpecifiedBeginsStay}
 pub use Rattle.law_commit.specs.Decided.Below.{ButOpenings, EndsRise, FullCommitsSpellChains, IsLaterFromEnd, IsOldBelowFirst, IsRecentFromFirst, IsSettledBelowEnd, IsYoungBelowEnd, OfEachBegun}
 pub use Rattle.law_commit.specs.Decided.Ended.{CommitsHaveEnded}
 pub use Rattle.law_commit.specs.Decided.Later.{AttemptsLaterButPolls, GoesByLater, MakesLaterFrom}

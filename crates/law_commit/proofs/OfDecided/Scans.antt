@@ -1,19 +1,17 @@
 -- The log of each commit that has begun in a life begins at or below its first address, and that of the checkpoint that it uses.
-use Rattle.std.proofs.Common.{◌≡◌, ◌⊎◌, inl, inr, ℕ, ◌≤◌, ◌∙◌, List, [], ◌∷◌, ◌++◌, refl, ap, sym, subst, arith}
+use Rattle.std.proofs.Common.{◌≡◌, ◌⊎◌, inl, inr, ℕ, ◌+◌, ◌≤◌, ◌∙◌, List, [], ◌∷◌, ◌++◌, refl, ap, sym, subst, arith}
 use Rattle.std.specs.Prelude.{Some}
 use Rattle.fkv_base.specs.declared.commits.CommitKind.{CommitKind}
 use Rattle.fkv_base.specs.declared.commits.CommitKind.TheVariants.{Full, Log}
 use Rattle.fkv_base.specs.declared.numbers.Addr.{Addr}
 use Rattle.fkv_base.specs.declared.numbers.Serial.{Serial}
 use Rattle.fkv_base.specs.declared.numbers.Version.{Version}
-use Rattle.fkv_plane.specs.declared.places.Places.{Places}
 use Rattle.law_refine.specs.Below.fkv_commit.Commit.{Commit}
 use Rattle.law_refine.specs.Below.fkv_commit.TheStarting.{Starting}
 use Rattle.law_refine.specs.Below.fkv_commit.TheStarting.TheVariants as starting
 use Rattle.law_refine.specs.Below.fkv_keeper.Checkpoint.{Checkpoint}
-use Rattle.law_refine.specs.Below.fkv_keeper.CheckpointLaws.{IsBehindWait, UsesAs}
+use Rattle.law_refine.specs.Below.fkv_keeper.CheckpointLaws.{IsBehindWait}
 use Rattle.law_refine.specs.Below.fkv_keeper.Keeping.{Finality, KeeperState, come_to}
-use Rattle.law_refine.specs.Below.fkv_keeper.KeeperRun.{Writing}
 use Rattle.law_refine.specs.Below.fkv_keeper.SlotLaws.{HasMoved}
 use Rattle.law_refine.specs.Below.fkv_keeper.TheKeeping.{Keeping}
 use Rattle.law_refine.specs.Below.fkv_keeper.TheKeeping.TheVariants.{Starts, Writes}
@@ -22,7 +20,6 @@ use Rattle.law_refine.specs.Below.fkv_world.OwnEvents.{keeper_events}
 use Rattle.law_refine.specs.Below.fkv_world.Runs.{World, run}
 use Rattle.law_refine.specs.Below.fkv_world.World.{Event, Now}
 use Rattle.law_refine.specs.Events.Reserved.{tail_at}
-use Rattle.law_refine.proofs.Below.fkv_keeper.Shown.{come_behind, run_used}
 use Rattle.law_refine.proofs.Below.law_world.OfKeeper.OwnRun.{keeper_begins, of_keeper}
 use Rattle.law_commit.specs.Begins.{BegunBeginBelow, BeginsBelow, OpensScanned}
 use Rattle.law_commit.specs.BegunCommits.{BegunCommit, life_begun}
@@ -30,31 +27,21 @@ use Rattle.law_commit.specs.CommitParts.{CommitParts, parts_opening}
 use Rattle.law_commit.specs.Decided.Ended.{HadMoment, IsWrittenNow, LoadsFirst, span_in}
 use Rattle.law_commit.specs.Phases.Staged.{HasInHand, Stage, StartAt, StepAt}
 use Rattle.law_commit.proofs.AllBegun.{AllParts, event_parts, opened_parts, parts_of, weaker_parts}
-use Rattle.law_commit.proofs.BegunStands.{same_commit}
 use Rattle.law_commit.proofs.Lasts.{IsOrNewer, life_last}
 use Rattle.law_commit.proofs.LifeBegun.{life_stands}
 use Rattle.law_commit.proofs.OfDecided.Ended.{written_so}
 use Rattle.law_commit.proofs.OfDecided.Lives.{tails_rise}
 use Rattle.law_commit.proofs.OfPhases.LifeStages.{life_staged}
 use Rattle.law_commit.proofs.OfPoints.Last.{last_of}
+use Rattle.law_commit.proofs.Used.{UsesBy, run_uses_by}
 
 -- ---- the checkpoint that the commit in hand uses as it is written
-abbrev UsesFirst : CommitKind → KeeperState → Commit → Type 0
-UsesFirst Full s c = s.used.first ≡ c.first
-UsesFirst Log s c = s.used.first ≡ s.last.checkpoint.first
-
-uses_first : (kind : CommitKind) (p : Places) (replies : List ℕ) (w : Writing) (s : KeeperState) (c : Commit) → UsesAs kind p replies w s c → UsesFirst kind s c
-uses_first Full p replies w s c uses = ap (λ (x : Checkpoint). x.first) uses.used
-uses_first Log p replies w s c uses = ap (λ (x : Checkpoint). x.first) uses.used
-
 abbrev UsesThere : KeeperState → Type 0
-UsesThere s = s.step ≡ Writes → (c : Commit) → s.commit ≡ Some c → UsesFirst c.kind s c
+UsesThere s = s.step ≡ Writes → (c : Commit) → s.commit ≡ Some c → UsesBy c.kind s c
 
 life_uses : (opening : World) (events : List Event) → IsOpenedWorld opening → UsesThere (run opening events).now.keeper
-life_uses opening events opened = of_keeper UsesThere opening events (λ writes c found.
-    let used = run_used opening.now.shape opening.now.places opening.now.keeper (keeper_events opening events) opened.keeper (come_behind _ (subst IsBehindWait (sym writes) tt)) in
-    let same : used.commit ≡ c = same_commit used.commit c (sym used.in_hand ∙ found) in
-    subst (λ (x : Commit). UsesFirst x.kind _ x) same (uses_first used.commit.kind _ _ _ _ used.commit used.uses))
+life_uses opening events opened =
+    of_keeper UsesThere opening events (λ writes c found. run_uses_by opening.now.shape opening.now.places opening.now.keeper (keeper_events opening events) c opened.keeper (subst IsBehindWait (sym writes) tt) found)
 
 -- ---- a life
 module _ (opening : World) (start : ℕ) (opens : OpensScanned opening start) where
@@ -89,9 +76,9 @@ module _ (opening : World) (start : ℕ) (opens : OpensScanned opening start) wh
       let same = ap (λ (x : Checkpoint). x.first.0) last.its.checkpoint in
       omega (arith, low, same)
 
-  used_low : (before : List Event) (kind : CommitKind) (c : Commit) → UsesFirst kind (keeper_at before) c → c.first.0 ≤ tail_of before → (keeper_at before).last.checkpoint.first.0 ≤ tail_of before → (keeper_at before).used.first.0 ≤ tail_of before
-  used_low before Full c uses first last = (let same = ap (λ (a : Addr). a.0) uses in omega (arith, same, first))
-  used_low before Log c uses first last = (let same = ap (λ (a : Addr). a.0) uses in omega (arith, same, last))
+  used_low : (before : List Event) (kind : CommitKind) (c : Commit) → UsesBy kind (keeper_at before) c → c.first.0 ≤ tail_of before → (keeper_at before).last.checkpoint.first.0 ≤ tail_of before → (keeper_at before).used.first.0 ≤ tail_of before
+  used_low before Full c uses first last = (let same = ap (λ (a : Addr). a.0) uses.1 in omega (arith, same, first))
+  used_low before Log c uses first last = (let same = ap (λ (x : Checkpoint). x.first.0) uses in omega (arith, same, last))
 
   all_low : (events : List Event) → AllParts (Low events) (life_begun opening events)
   unfolding run
@@ -151,9 +138,9 @@ module _ (opening : World) (start : ℕ) (opens : OpensScanned opening start) wh
   hand_below s c last first (inl same) = (let begin = ap (λ (a : Addr). a.0) same in (omega (arith, begin, last, first), omega (arith, begin, last)))
   hand_below s c last first (inr moved) = (moved.before, moved.in_force)
 
-  used_below : (s : KeeperState) (kind : CommitKind) (c : Commit) → UsesFirst kind s c → (c.begin.0 ≤ c.first.0) × (c.begin.0 ≤ s.last.checkpoint.first.0) → c.begin.0 ≤ s.used.first.0
-  used_below s Full c uses below = (let same = ap (λ (a : Addr). a.0) uses in let low = below.0 in omega (arith, same, low))
-  used_below s Log c uses below = (let same = ap (λ (a : Addr). a.0) uses in let low = below.1 in omega (arith, same, low))
+  used_below : (s : KeeperState) (kind : CommitKind) (c : Commit) → UsesBy kind s c → (c.begin.0 ≤ c.first.0) × (c.begin.0 ≤ s.last.checkpoint.first.0) → c.begin.0 ≤ s.used.first.0
+  used_below s Full c uses below = (let same = ap (λ (a : Addr). a.0) uses.1 in let low = below.0 in omega (arith, same, low))
+  used_below s Log c uses below = (let same = ap (λ (x : Checkpoint). x.first.0) uses in let low = below.1 in omega (arith, same, low))
 
   written_below : (before : List Event) (c : Commit) → (keeper_at before).step ≡ Writes → (keeper_at before).commit ≡ Some c → AllParts Below (life_begun opening before) → BeginsBelow (parts_opening (keeper_at before) c)
   written_below before c at is past =

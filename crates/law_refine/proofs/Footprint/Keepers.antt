@@ -19,7 +19,7 @@ use Rattle.fkv_sweep.specs.Sweeping.{is_sweeping, sweep_ask, sweep_next, sweep_r
 use Rattle.fkv_sweep.specs.Sweeping as sweeping
 use Rattle.law_world.specs.Below.fkv_checkpoint.CopyStep.{CopyStep}
 use Rattle.law_world.specs.Below.fkv_checkpoint.CopyStep.TheVariants as copy
-use Rattle.law_world.specs.Below.fkv_checkpoint.Copying.{Copier, copy_step_ask, copy_begun}
+use Rattle.law_world.specs.Below.fkv_checkpoint.Copying.{Copier, copy_step_ask}
 use Rattle.law_world.specs.Below.fkv_commit.Commit.{Commit}
 use Rattle.fkv_base.specs.declared.commits.CommitKind.{CommitKind}
 use Rattle.law_world.specs.Below.fkv_commit.EnterAnswer.{EnterAnswer}

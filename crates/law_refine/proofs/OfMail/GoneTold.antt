@@ -1,5 +1,5 @@
 -- What tells that a record is gone tells a begin of the log, which that had at an earlier moment of the life. It never goes back.
-use Rattle.std.proofs.Common.{◌≡◌, ◌≤◌, ap, arith, List, [], ◌∷◌, append-nil}
+use Rattle.std.proofs.Common.{◌≤◌, ap, arith, List, [], ◌∷◌, append-nil}
 use Rattle.fkv_base.specs.declared.numbers.Addr.{Addr}
 use Rattle.law_world.specs.Below.fkv_pending.MailRecord.{MailRecord}
 use Rattle.law_world.specs.Below.fkv_pending.Mailing.{is_gone}

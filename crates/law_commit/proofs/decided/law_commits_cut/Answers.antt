@@ -3,6 +3,7 @@ use Rattle.law_commit.proofs.OfDecided.BelowEnd.{each_later, each_old, each_rece
 use Rattle.law_commit.proofs.OfDecided.EndsRise.{ends_rise}
 use Rattle.law_commit.proofs.OfDecided.Scans.{begun_below}
 use Rattle.law_commit.proofs.OfDecided.Spelled.{full_spell}
+use Rattle.law_commit.proofs.OldBegins.{begun_old}
 use Rattle.law_commit.proofs.decided.law_commits_cut.Goals as goal
 
 pub returns-clause-later : goal.returns-clause-later
@@ -28,3 +29,6 @@ returns-clause-triples c = full_spell c.law_phases_are_seen.ensures.sound c.law_
 
 pub returns-clause-begins : goal.returns-clause-begins
 returns-clause-begins c = begun_below
+
+pub returns-clause-as_opened : goal.returns-clause-as_opened
+returns-clause-as_opened c = begun_old

@@ -5,6 +5,7 @@ use Rattle.law_commit.proofs.NewestWritten.{life_written}
 use Rattle.law_commit.proofs.ToldFinished.{life_finished}
 use Rattle.law_commit.proofs.NextNumbers.{numbers_in_turn}
 use Rattle.law_commit.proofs.OfPhases.LifeStages.{life_staged}
+use Rattle.law_commit.proofs.Specified.{begun_stay}
 use Rattle.law_commit.proofs.laws.law_begun.Goals as goal
 
 pub returns-clause-begun : goal.returns-clause-begun
@@ -21,6 +22,9 @@ returns-clause-on c = λ opening events b opened there. life_on opening events b
 
 pub returns-clause-rise : goal.returns-clause-rise
 returns-clause-rise c = λ opening events opened. life_rise opening events opened
+
+pub returns-clause-stay : goal.returns-clause-stay
+returns-clause-stay c = λ opening events b opened specified there. begun_stay opening events b opened specified there
 
 pub returns-clause-in_turn : goal.returns-clause-in_turn
 returns-clause-in_turn c = λ opening start events opened guarded rests. life_turn opening events opened (numbers_in_turn opening events opened (life_staged opening start events guarded opened rests).rests)
