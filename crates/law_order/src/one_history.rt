@@ -70,16 +70,21 @@ pub fn law_lives_keep_rules()
 /// In each life each key's newest record lies at or above the begin that the store was opened with, or the key reads as absent. So it is in the versions up to
 /// each one. So what lies below that begin may be forgotten. What is so of any other address stays so. If the log does without the records below it at a moment
 /// at which they are fixed, it does so from then on. For new records lie at the tail. So it is of the versions up to each one by themselves. And from then on it
-/// does without them in the versions up to the phase word's of that moment, and up to each later one. So who moves the begin has to show it once.
+/// does without them in the versions up to the phase word's of that moment, and up to each later one. So who moves the begin has to show it once. A sweep does:
+/// so the log does without what lies below the begin of each commit, in the versions up to the commit's.
 pub fn law_live()
     ensures opened { said.InEachLife said.IsLive }
     ensures stays { said.InEachLife said.StaysLive }
+    ensures commits { said.InEachLife said.CommitsAreLive }
 {
     law_life_begins();
     law_lives_keep_rules();
     law_lives_bound_versions();
     law_lives_are_above();
     law_live_stays();
+    law_ends_open();
+    law_commits_ended();
+    law_lives_keep_order();
 }
 
 /// And that log has the history of the life, each effect in its version. For a record that is published has the version of its update's request, and so has one

@@ -94,7 +94,7 @@ module _ (life : BegunLife) (before : List Event) (event : Event) where
   begin_was : GoesByBegin life.opening life.ghosts before → DoesWithout (begin_in (run life.opening (event ∷ before))) H (log_behind before)
   begin_was its = elim (let from = came_from in from.begin) [
     | inl same ↦ subst (λ (a : Addr). DoesWithout a.0 H (log_behind before)) (sym same) (record { fixed = its.fixed; live = its.live })
-    | inr ends ↦ subst (λ (a : Addr). DoesWithout a.0 H (log_behind before)) (sym ends.2) (its.commit ends.0 ends.1)
+    | inr ends ↦ subst (λ (a : Addr). DoesWithout a.0 H (log_behind before)) (sym ends.2) ((its.commit ends.0 ends.1).its)
   ]
 
   -- and whoever is told of a begin is told of none above it

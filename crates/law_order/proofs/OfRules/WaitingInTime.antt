@@ -68,10 +68,10 @@ few_before : (later before : List Event) → HasFewCalls (later ++ before) → H
 few_before [] before few = few
 few_before (event ∷ later) before few = few_before later before (before_few event (later ++ before) few)
 
-abbrev life_of : List ℕ → Opened → Now → List Event → Life
+abbrev pub life_of : List ℕ → Opened → Now → List Event → Life
 life_of bytes o n events = record { bytes = bytes; opened = o; world = n; events = events }
 
-life_before : (bytes : List ℕ) (o : Opened) (n : Now) (later before : List Event) → IsLife (life_of bytes o n (later ++ before)) → IsLife (life_of bytes o n before)
+pub life_before : (bytes : List ℕ) (o : Opened) (n : Now) (later before : List Event) → IsLife (life_of bytes o n (later ++ before)) → IsLife (life_of bytes o n before)
 life_before bytes o n later before its = record { store = its.store; begins = its.begins; fits = fits_before later before its.fits; few = few_before later before its.few }
 
 -- ---- where a read waits
