@@ -8,3 +8,4 @@ pub use Rattle.law_commit.proofs.PhaseStores.{keeper_stores}
 pub use Rattle.law_commit.proofs.OldBegins.{run_old}
 pub use Rattle.law_commit.proofs.Specified.{BeginStays, run_stays}
 pub use Rattle.law_commit.proofs.OwnTurnStores.{own_turn_stores}
+pub use Rattle.law_commit.proofs.Sweeps.{sweep_begins, sweep_moves, sweep_reads}

@@ -30,8 +30,9 @@ use Rattle.law_commit.specs.Below.law_refine.Events.GhostEvents.{life_ghosts, ma
 use Rattle.law_commit.specs.Below.law_refine.Records.Changes.{AreChangesPublished}
 use Rattle.law_commit.proofs.Below.fkv_keeper.Shown.{IsOfStore, each_move, run_begins, run_of_store, sweep_moves}
 use Rattle.law_commit.proofs.Below.fkv_world.Shown.{happens_keeper, keeper_runs, keeper_runs_on, places_stay, shape_stays}
+use Rattle.law_commit.proofs.Below.law_refine.OfMail.GoneTold.{begin_above}
 use Rattle.law_commit.proofs.Below.law_refine.OfSeen.HeadStays.{KeepsHead, head_stays}
-use Rattle.law_commit.proofs.Below.law_world.OfKeeper.OwnRun.{keeper_begins, keeper_goes_on}
+use Rattle.law_commit.proofs.Below.law_world.OfKeeper.OwnRun.{keeper_begins}
 use Rattle.law_log.specs.Begins.{Live}
 use Rattle.law_log.specs.Enabled.{AreEnabled}
 use Rattle.law_log.specs.Ghosts.{Log}
@@ -76,14 +77,6 @@ module _ (life : BegunLife) where
       subst (λ (s : KeeperState). IsOfStore life.opening.now.shape life.opening.now.places s.sweep) (sym (keeper_runs life.opening events))
       (run_of_store life.opening.now.shape life.opening.now.places life.opening.now.shape life.opening.now.places life.opening.now.keeper (keeper_events life.opening events) (record { its_shape = store.0; its_places = store.1 }))
 
-  begin_on : (events : List Event) → begin_in life.opening ≤ begin_in (run life.opening events)
-  unfolding run
-  begin_on [] = omega arith
-  begin_on (event ∷ before) =
-      let low = begin_on before in
-      let up : begin_in (run life.opening before) ≤ begin_in (run life.opening (event ∷ before)) = keeper_goes_on life.opening (event ∷ []) before life.begins.world in
-      omega (arith, low, up)
-
   -- it ends at or above the log's begin
   to_on : (s : KeeperState) → HasBegin s → s.last.begin.0 ≤ s.sweep.to.0
   to_on s has = elim has.sweeps [
@@ -93,7 +86,7 @@ module _ (life : BegunLife) where
 
   its_end : (events : List Event) → begin_in life.opening ≤ (keeper_behind events).sweep.to.0
   its_end events =
-      let up = begin_on events in
+      let up = begin_above life.opening events life.begins.world in
       let to = to_on (keeper_behind events) (keeper_begins life.opening events life.begins.world) in
       omega (arith, up, to)
 

@@ -10,8 +10,8 @@ use Rattle.law_log.specs.Chains.{Cell, Published}
 use Rattle.law_log.specs.Ghosts.{Ghosts}
 use Rattle.law_log.specs.Enabled as order
 use Rattle.law_commit.specs.Below.fkv_world.Opened.{IsOpenedWorld}
-use Rattle.law_commit.specs.Below.fkv_world.Runs.{World}
-use Rattle.law_commit.specs.Below.fkv_world.World.{Now}
+use Rattle.law_commit.specs.Below.fkv_world.Runs.{World, run}
+use Rattle.law_commit.specs.Below.fkv_world.World.{Event, Now}
 use Rattle.law_commit.specs.Below.law_world.Guarded.OpenedStore.{IsOpenedStore}
 use Rattle.law_commit.specs.Below.law_refine.Heads.Heads.{LeadToHeads}
 use Rattle.law_commit.specs.Below.law_refine.Index.Shows as index
@@ -28,6 +28,10 @@ home_of_world w = home_in w.now.shape.bucket_bits
 -- the address at which its log begins
 abbrev pub begin_in : World → ℕ
 begin_in w = begin_at w.now
+
+-- no commit that was finished since has moved it
+abbrev pub BeginStays : World → List Event → Type 0
+BeginStays opening events = begin_in (run opening events) ≡ begin_in opening
 
 -- each session has it as its floor
 abbrev pub GoByBegin : World → Type 0
