@@ -17,7 +17,7 @@ use Rattle.fkv_sweep.specs.SweptLogs.{SweptLog}
 use Rattle.law_commit.specs.Below.fkv_commit.Commit.{Commit}
 use Rattle.law_commit.specs.Below.fkv_flush.GuardLevels.{levels_of}
 use Rattle.law_commit.specs.Below.fkv_keeper.CheckpointLaws.{IsFinished, MayFollow, MayStep}
-use Rattle.law_commit.specs.Below.fkv_keeper.Keeping.{Finality, KeeperState, keeper_ask, may_set, sweep_set}
+use Rattle.law_commit.specs.Below.fkv_keeper.Keeping.{Finality, KeeperState, is_swept, keeper_ask, may_set, sweep_set}
 use Rattle.law_commit.specs.Below.fkv_keeper.KeeperRun.{Calls, KeeperEvent, Replies, keeper_happens, keeper_run}
 use Rattle.law_commit.specs.Below.fkv_keeper.SlotLaws.{HasBegin, HasMoved}
 use Rattle.law_commit.specs.Below.fkv_keeper.SweepLaws.{IsSweepBegun, IsSweepLeft, IsSweepSet}
@@ -289,6 +289,14 @@ module _ (life : BegunLife) where
     unfolding run
     sweeps_between = subst Between (sym (happens_keeper W event)) behind_part
 
+    -- where it ends all below is fixed in the log as it was
+    pub sweeps_fixed : (keeper_behind (event ∷ before)).sweep.to.0 ≤ (log_behind before).fixed
+    sweeps_fixed =
+        let between : Between (keeper_behind (event ∷ before)) = sweeps_between in
+        let to = between.to in
+        let fixed = flushed_is_fixed life before in
+        omega (arith, to, fixed)
+
     -- so it goes on to be sound as the log grows
     pub sweeps_then : AreEnabled (home_of_world life.opening) life.ghosts (mapped life.opening (event ∷ before)) → SweepsSo (event ∷ before)
     sweeps_then later =
@@ -307,17 +315,22 @@ module _ (life : BegunLife) where
         }
 
   -- ---- where the log begins
-  -- The log does without its records below the begin of the commit in hand, where it does without those below the newest finished one's.
+  -- The log does without its records below the end of a sweep that is done, where it does without those below where that began.
+  pub sweep_live : (events : List Event) → AreEnabled (home_of_world life.opening) life.ghosts (mapped life.opening events) → SweepsSo events → Live (begin_in (run life.opening events)) (home_of_world life.opening) (log_behind events)
+      → is_swept (keeper_behind events).sweep ≡ true → (keeper_behind events).sweep.from ≡ (keeper_behind events).last.begin → Live (keeper_behind events).sweep.to.0 (home_of_world life.opening) (log_behind events)
+  sweep_live events enabled so live swept begun =
+      let w : Sweeper = (keeper_behind events).sweep in
+      let done : w.at.0 ≡ w.to.0 = eqb-true w.at.0 w.to.0 swept in
+      let from : Live w.from.0 (home_of_world life.opening) (log_behind events) = subst (λ (a : Addr). Live a.0 (home_of_world life.opening) (log_behind events)) (sym begun) live in
+      life_live_swept life w events enabled (ap (λ (x : Shape). x.bucket_bits) (of_store events).its_shape) done (sweep_sound_swept w (swept_log (log_behind events)) so.sound) from
+
+  -- So it does without its records below the begin of the commit in hand, where it does without those below the newest finished one's.
   pub hand_live : (events : List Event) (c : Commit) → AreEnabled (home_of_world life.opening) life.ghosts (mapped life.opening events) → SweepsSo events
       → Live (begin_in (run life.opening events)) (home_of_world life.opening) (log_behind events) → (keeper_behind events).commit ≡ Some c → Live c.begin.0 (home_of_world life.opening) (log_behind events)
   hand_live events c enabled so live is = elim ((keeper_begins life.opening events life.begins.world).commit c is) [
     | inl same ↦ subst (λ (a : Addr). Live a.0 (home_of_world life.opening) (log_behind events)) (sym same) live
     | inr moved ↦
-        let w : Sweeper = (keeper_behind events).sweep in
-        let done : w.at.0 ≡ w.to.0 = eqb-true w.at.0 w.to.0 moved.swept in
-        let from : Live w.from.0 (home_of_world life.opening) (log_behind events) = subst (λ (a : Addr). Live a.0 (home_of_world life.opening) (log_behind events)) (sym moved.from) live in
-        subst (λ (a : Addr). Live a.0 (home_of_world life.opening) (log_behind events)) (sym moved.to)
-        (life_live_swept life w events enabled (ap (λ (x : Shape). x.bucket_bits) (of_store events).its_shape) done (sweep_sound_swept w (swept_log (log_behind events)) so.sound) from)
+        subst (λ (a : Addr). Live a.0 (home_of_world life.opening) (log_behind events)) (sym moved.to) (sweep_live events enabled so live moved.swept moved.from)
   ]
 
   -- and what lies there is fixed
