@@ -130,11 +130,11 @@ module _ (calls : CallsLaw) (words : WordsLaw) (given : Given) (life : BegunLife
       let truly : AreToldTruly H (life_ghosts life.opening life.ghosts before).log (run life.opening before).now = told_truly before fits.1 order in
       let known : AllKnowBehind life.opening life.ghosts before = (λ session s found. known_now life.opening life.ghosts before order.known session s found) in
       let none : NoneHasShifted life.opening (event ∷ before) = none_then given life opens before event order.enabled known truly order.apart its.shifts its.none in
-      let then = ordered_on before event fits apart none order its.sweeps its.upto in
+      let goes = ordered_on before event fits apart none order its.sweeps its.upto in
       record {
-        order = then.0;
-        sweeps = then.1;
-        upto = then.2;
+        order = goes.0;
+        sweeps = goes.1;
+        upto = goes.2;
         shifts = shifts_then given life opens before event order.enabled known truly order.apart its.shifts its.none;
         none = none;
       }

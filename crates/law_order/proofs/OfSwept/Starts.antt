@@ -24,7 +24,8 @@ use Rattle.law_commit.specs.Below.fkv_commit.Starting.{StartState, is_lost_full,
 use Rattle.law_commit.specs.Below.fkv_commit.TheStarting.{Starting}
 use Rattle.law_commit.specs.Below.fkv_commit.TheStarting.TheVariants as starting
 use Rattle.law_commit.specs.Below.fkv_keeper.CheckpointLaws.{IsFinished, MayFollow, MayStep}
-use Rattle.law_commit.specs.Below.fkv_keeper.Keeping.{KeeperState, commit_asked, start_ledto, turn_asked}
+use Rattle.law_commit.specs.Below.fkv_keeper.Keeping.{KeeperState, keeping_called, keeping_given, keeping_next, start_ledto}
+use Rattle.law_commit.specs.Below.fkv_keeper.KeeperTold.{KeeperTold}
 use Rattle.law_commit.specs.Below.fkv_keeper.KeeperRun.{BeginsCommit, BeginsTurn, Calls, Gets, KeeperEvent, Replies, begins, is_in_hand, keeper_happens}
 use Rattle.law_commit.specs.Below.fkv_keeper.SlotLaws.{HasBegin}
 use Rattle.law_commit.specs.Below.fkv_keeper.SweepLaws.{IsBeginAfter, IsBeginChosen, IsBeginKept}
@@ -49,13 +50,12 @@ abbrev pub IsUnderWay : KeeperState → Type 0
 IsUnderWay s = ((c : Commit) × (s.commit ≡ Some c)) ⊎ ((s.step ≡ Starts) × IsPast s.start.step)
 
 -- ---- one reply to the start
+either_none : (c : Bool) (x y : StartState) → (IsPast x.step → ⊥) → (IsPast y.step → ⊥) → IsPast (if c then x else y).step → ⊥
+either_none true x y one second = one
+either_none false x y one second = second
+
 none_found : (m : StartState) (said : PhaseSaid) → IsPast (phase_found m said).step → ⊥
-none_found m (Says phase.Rest number) = either (nat_le (last_of m.asked.class) number.0) (is_lost_full m.asked number.0)
-  where
-    either : (a b : Bool) → IsPast (if a then starting.Ended (start.Refused _) else (if b then starting.Ended (start.Refused _) else starting.Seeks number)) → ⊥
-    either true b past = past
-    either false true past = past
-    either false false past = past
+none_found m (Says phase.Rest number) = either_none (nat_le (last_of m.asked.class) number.0) _ _ (λ past. past) (either_none (is_lost_full m.asked number.0) _ _ (λ past. past) (λ past. past))
 none_found m said = λ past. past
 
 none_sought : (number : Version) (m : StartState) (ask : Ask DeferAnswer) → (IsPast m.step → ⊥) → IsPast (seek_led number m ask).step → ⊥
@@ -103,22 +103,23 @@ record CameSo (s a : KeeperState) : Type 0 where
 itself : (s : KeeperState) → CameSo s s
 itself s = record { starts = λ at past. (at, inl past); begun = λ none c is. let clash : None ≡ Some c = sym none ∙ is in cc }
 
-other : (s a : KeeperState) → a.commit ≡ s.commit → (a.step ≡ Starts → ⊥) → CameSo s a
-other s a same no = record { starts = λ at past. absurd (no at); begun = λ none c is. let clash : None ≡ Some c = sym none ∙ (sym same ∙ is) in cc }
+else_so : (s a : KeeperState) → a.commit ≡ s.commit → (a.step ≡ Starts → ⊥) → CameSo s a
+else_so s a same elsewhere = record { starts = λ at past. absurd (elsewhere at); begun = λ none c is. let clash : None ≡ Some c = sym none ∙ (sym same ∙ is) in cc }
 
 either_so : (s a b : KeeperState) (c : Bool) → CameSo s a → CameSo s b → CameSo s (if c then a else b)
-either_so s a b true one other = one
-either_so s a b false one other = other
+either_so s a b true one second = one
+either_so s a b false one second = second
 
 led_so : (s : KeeperState) (next : StartState) (ask : Ask StartAnswer) → s.step ≡ Starts → start_ask next ≡ ask → (IsPast next.step → Before s) → CameSo s (start_ledto (record s { start = next }) ask)
 unfolding start_ledto
 led_so s next (Done (start.Begun number first)) at asks before = record { starts = λ e past. cc; begun = λ none c is. before (told_past next next.step number first asks) }
-led_so s next (Done (start.Refused why)) at asks before = other s _ refl (λ e. cc)
-led_so s next (Done start.Idle) at asks before = other s _ refl (λ e. cc)
+led_so s next (Done (start.Refused why)) at asks before = else_so s _ refl (λ e. cc)
+led_so s next (Done start.Idle) at asks before = else_so s _ refl (λ e. cc)
 led_so s next ask at asks before = record { starts = λ e past. (at, before past); begun = λ none c is. let clash : None ≡ Some c = sym none ∙ is in cc }
 
 -- as it starts
 started : (shape : Shape) (p : Places) (s : KeeperState) (event : KeeperEvent) → s.step ≡ Starts → CameSo s (happens_at shape p s Starts event)
+unfolding keeping_next keeping_given keeping_called
 started shape p s BeginsTurn at = itself s
 started shape p s (BeginsCommit kind) at = itself s
 started shape p s (Replies reply granted) at = led_so s (start_next s.start reply) (start_ask (start_next s.start reply)) at refl (next_past s.start s.start.step reply refl)
@@ -126,18 +127,19 @@ started shape p s (Gets action) at = itself s
 started shape p s (Calls done bytes) at = itself s
 
 -- where a call is begun
-asked : (shape : Shape) (p : Places) (s : KeeperState) (told : _) (event : KeeperEvent) → s.step ≡ Ended told → CameSo s (happens_at shape p s (Ended told) event)
-asked shape p s told BeginsTurn at = either_so s _ _ s.is_broken (other s _ refl (λ e. cc)) (other s _ refl (λ e. cc))
+asked : (shape : Shape) (p : Places) (s : KeeperState) (told : KeeperTold) (event : KeeperEvent) → s.step ≡ Ended told → CameSo s (happens_at shape p s (Ended told) event)
+unfolding keeping_next keeping_given keeping_called
+asked shape p s told BeginsTurn at = either_so s _ _ s.is_broken (else_so s _ refl (λ e. cc)) (else_so s _ refl (λ e. cc))
 asked shape p s told (BeginsCommit kind) at =
-    either_so s _ _ s.is_broken (other s _ refl (λ e. cc)) (either_so s _ _ s.rests (other s _ refl (λ e. cc)) (record { starts = λ e past. absurd past; begun = λ none c is. let clash : None ≡ Some c = sym none ∙ is in cc }))
+    either_so s _ _ s.is_broken (else_so s _ refl (λ e. cc)) (either_so s _ _ s.rests (else_so s _ refl (λ e. cc)) (record { starts = λ e past. absurd past; begun = λ none c is. let clash : None ≡ Some c = sym none ∙ is in cc }))
 asked shape p s told (Replies reply granted) at = itself s
 asked shape p s told (Gets action) at = itself s
 asked shape p s told (Calls done bytes) at = itself s
 
-no_start : (rests : Bool) (step after : Keeping) → MayStep rests step after → after ≡ Starts → (step ≡ Starts) ⊎ ((told : _) × (step ≡ Ended told))
+no_start : (rests : Bool) (step after : Keeping) → MayStep rests step after → after ≡ Starts → (step ≡ Starts) ⊎ ((told : KeeperTold) × (step ≡ Ended told))
 no_start rests step after may at = by rests step (subst (MayStep rests step) at may)
   where
-    by : (b : Bool) (k : Keeping) → MayStep b k Starts → (k ≡ Starts) ⊎ ((told : _) × (k ≡ Ended told))
+    by : (b : Bool) (k : Keeping) → MayStep b k Starts → (k ≡ Starts) ⊎ ((told : KeeperTold) × (k ≡ Ended told))
     by b (Ended told) may = inr (told, refl)
     by b Starts may = inl refl
     by true Maintains may = absurd may
@@ -166,11 +168,11 @@ module _ (shape : Shape) (p : Places) (s : KeeperState) (event : KeeperEvent) wh
   at_starts : s.step ≡ Starts → CameSo s a
   at_starts at = subst (CameSo s) (ap (λ (k : Keeping). happens_at shape p s k event) (sym at) ∙ happens_so shape p s event) (started shape p s event at)
 
-  at_ended : (told : _) → s.step ≡ Ended told → CameSo s a
+  at_ended : (told : KeeperTold) → s.step ≡ Ended told → CameSo s a
   at_ended told at = subst (CameSo s) (ap (λ (k : Keeping). happens_at shape p s k event) (sym at) ∙ happens_so shape p s event) (asked shape p s told event at)
 
   -- ---- no sweep moves there
-  record StaysThere : Type 0 where
+  pub record StaysThere : Type 0 where
     pub last : a.last ≡ s.last
     pub sweep : a.sweep ≡ s.sweep
 
@@ -189,17 +191,17 @@ module _ (shape : Shape) (p : Places) (s : KeeperState) (event : KeeperEvent) wh
   ]
 
   stays_by : HasBegin s → HasBegin a → IsUnderWay a → SweepMove s a event → StaysThere
-  stays_by has then under (Stays left) = record { last = left.newest; sweep = left.same }
-  stays_by has then (inl (c, is)) (TurnBegins begun) = let clash : None ≡ Some c = sym (then.alone begun.comes) ∙ is in cc
-  stays_by has then (inr (starts, past)) (TurnBegins begun) = let clash : Sweeps ≡ Starts = sym begun.comes ∙ starts in cc
-  stays_by has then (inl (c, is)) (IsSet at set) = let clash : None ≡ Some c = sym set.none_left ∙ is in cc
-  stays_by has then (inr (starts, past)) (IsSet at set) = elim (no_start s.rests s.step a.step (each_move shape p s event).one.steps starts) [
+  stays_by has had under (Stays left) = record { last = left.newest; sweep = left.same }
+  stays_by has had (inl (c, is)) (TurnBegins begun) = let clash : None ≡ Some c = sym (had.alone begun.comes) ∙ is in cc
+  stays_by has had (inr (starts, past)) (TurnBegins begun) = let clash : Sweeps ≡ Starts = sym begun.comes ∙ starts in cc
+  stays_by has had (inl (c, is)) (IsSet at set) = let clash : None ≡ Some c = sym set.none_left ∙ is in cc
+  stays_by has had (inr (starts, past)) (IsSet at set) = elim (no_start s.rests s.step a.step (each_move shape p s event).one.steps starts) [
     | inl same ↦ let clash : Finishes ≡ Starts = sym at ∙ same in cc
     | inr (told, same) ↦ let clash : Finishes ≡ Ended told = sym at ∙ same in cc
   ]
-  stays_by has then under (IsReplied reply granted e at is) = absurd (not_swept has at under)
-  stays_by has then under (IsRead bytes e at is) = absurd (not_swept has at under)
-  stays_by has then under (ReadFails at is) = absurd (not_swept has at under)
+  stays_by has had under (IsReplied reply granted e at is) = absurd (not_swept has at under)
+  stays_by has had under (IsRead bytes e at is) = absurd (not_swept has at under)
+  stays_by has had under (ReadFails at is) = absurd (not_swept has at under)
 
   -- it was under way before, or its first address is loaded just now
   came_by : (found : Option Commit) → s.commit ≡ found → IsUnderWay a → IsUnderWay s ⊎ ((s.step ≡ Starts) × LoadsFirst s.start.step)
@@ -226,4 +228,4 @@ module _ (shape : Shape) (p : Places) (s : KeeperState) (event : KeeperEvent) wh
     pub before : IsUnderWay s ⊎ ((s.step ≡ Starts) × LoadsFirst s.start.step)
 
   pub came_under_way : HasBegin s → HasBegin a → IsUnderWay a → CameUnderWay
-  came_under_way has then under = record { stays = stays_by has then under (move_of s a s.step event refl (sweep_moves shape p s event)); before = came_by s.commit refl under }
+  came_under_way has had under = record { stays = stays_by has had under (move_of s a s.step event refl (sweep_moves shape p s event)); before = came_by s.commit refl under }
