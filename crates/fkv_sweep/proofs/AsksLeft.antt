@@ -181,8 +181,8 @@ read_left s (LoadsKey key addr) bytes same = stays_left s (LoadsKey key addr) sa
 read_left s (LoadsHeader key addr) bytes same = stays_left s (LoadsHeader key addr) same
 read_left s (Reads key addr) bytes same = let few = chain_left s key addr (words_at bytes 0) in omega (arith, few)
 
-pub read_fewer : (s : Sweeper) (bytes : List ℕ) → sweep_asks_left (sweep_read s bytes) ≤ sweep_asks_left s - steps_asked (sweep_ask s)
-read_fewer s bytes = read_left s s.step bytes refl
+pub sweep_read_fewer : (s : Sweeper) (bytes : List ℕ) → sweep_asks_left (sweep_read s bytes) ≤ sweep_asks_left s - steps_asked (sweep_ask s)
+sweep_read_fewer s bytes = read_left s s.step bytes refl
 
 -- ---- it asks just where it has asks left
 through_left : (left behind : ℕ) (ask : Ask FindAnswer) → IsCounted left ask → GoesOnWhereLeft (sum_left left behind) (passed ask answer.Through)
@@ -211,22 +211,22 @@ step_asked s (Reads key addr) = (λ e. omega arith, λ some. refl)
 pub sweep_asked : (s : Sweeper) (ask : Ask SweepAnswer) → ask ≡ sweep_ask s → GoesOnWhereLeft (sweep_asks_left s) ask
 sweep_asked s ask its = rw its (step_asked s s.step)
 
-pub turn_bounded : (s : Sweeper) → sweep_asks_left (turn_begun s) ≤ most_sweep_asks s.places
+pub sweep_turn_bounded : (s : Sweeper) → sweep_asks_left (turn_begun s) ≤ most_sweep_asks s.places
 unfolding sweeping_asks_left
-turn_bounded s = cases (is_sweeping s)
+sweep_turn_bounded s = cases (is_sweeping s)
   where
     cases : (b : Bool) → sweep_asks_left (record s { next = s.at; left = 256; wanted = []; step = if b then LoadsHead else AtRest }) ≤ most_sweep_asks s.places
     cases true = omega arith
     cases false = omega arith
 
 -- a sweep that rests has none left: one that is new, and one behind a call that failed
-pub begun_none : (shape : Shape) (p : Places) (from to : Addr) → sweep_asks_left (sweep_begun shape p from to) ≡ 0
+pub sweep_begun_none : (shape : Shape) (p : Places) (from to : Addr) → sweep_asks_left (sweep_begun shape p from to) ≡ 0
 unfolding sweeping_asks_left
-begun_none shape p from to = refl
+sweep_begun_none shape p from to = refl
 
-pub failed_none : (s : Sweeper) → sweep_asks_left (sweep_failed s) ≡ 0
+pub sweep_failed_none : (s : Sweeper) → sweep_asks_left (sweep_failed s) ≡ 0
 unfolding sweeping_asks_left
-failed_none s = refl
+sweep_failed_none s = refl
 
 -- ---- it makes a call just where it asks for the device
 step_calls : (s : Sweeper) (step : Sweeping) → steps_asked (sweeping_ask s step) ≡ count_by (read_of s.shape (sweeping_addr s step))

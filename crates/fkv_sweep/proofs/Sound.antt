@@ -19,10 +19,11 @@ use Rattle.fkv_index.specs.Finding.{first_finding, find_next, find_next_ask}
 use Rattle.fkv_sweep.specs.declared.record_words.RecordWords.{RecordWords}
 use Rattle.fkv_sweep.specs.declared.sweeping.Sweeping.{Sweeping}
 use Rattle.fkv_sweep.specs.declared.sweeping.Sweeping.TheVariants.{AtRest, LoadsHead, Takes, Meets, Finds, LoadsKey, LoadsHeader, Reads}
-use Rattle.fkv_sweep.specs.Sweeping.{sweeping_ask, sweep_ask, Sweeper, most_records, most_wanted, previous_in, is_counted, sweep_begun, is_sweeping, turn_begun, coming, gone_on, record_passed, key_wanted, reached, led_down, slot_found, find_ledto, key_met, chain_met, record_met, sweeping_next, sweep_next, sweeping_read, sweep_read, sweep_failed, sweeping_addr, read_addr, piece_read, holds, words_held, words_at, next_met}
+use Rattle.fkv_sweep.specs.Sweeping.{sweep_ask, Sweeper, most_records, most_wanted, previous_in, is_counted, sweep_begun, is_sweeping, turn_begun, coming, gone_on, record_passed, key_wanted, reached, led_down, slot_found, find_ledto, key_met, chain_met, record_met, sweeping_next, sweep_next, sweeping_read, sweep_read, sweep_failed, sweeping_addr, read_addr, piece_read, holds, words_held, words_at, next_met}
 use Rattle.fkv_sweep.specs.SweptLogs.{Standing, SweptLog, IsInChain, HasKeyAt, StandsAbove, Swept, Grows, ShowsEntry, ShowsReply, ShowsRead, ShowsCell, ShowsChained, ShowsPiece}
 use Rattle.fkv_index.proofs.Shown.{IsReading}
-use Rattle.fkv_sweep.proofs.Searches.{find_reads, first_reads, rested_reads, find_loads}
+use Rattle.fkv_sweep.proofs.Searches.{find_reads, first_reads, rested_reads}
+use Rattle.fkv_sweep.proofs.Loads.{sweep_loads}
 use Rattle.fkv_sweep.proofs.Same.{run_same}
 use Rattle.fkv_sweep.proofs.Reading.{first_held}
 use Rattle.fkv_sweep.specs.Swept.{IsLoadOrEnd, LoadsAlone, SweepEvent, TurnBegins, IsReplied, IsRead, ReadFails, SweepMoment, sweep_happens, sweep_run, ShowsEvent, HasGrown, AreShown, AllSwept, ReadsAbove}
@@ -416,22 +417,8 @@ reads_above shape p from to moments log addr shown grown e =
     rw (← (run_same (sweep_begun shape p from to) moments).from) above
 
 -- what is asked
-step_loads : (s : Sweeper) (step : Sweeping) → IsReading s.finding → IsLoadOrEnd (sweeping_ask s step)
-unfolding sweeping_ask
-step_loads s AtRest its = tt
-step_loads s LoadsHead its = tt
-step_loads s Takes its = tt
-step_loads s Meets its = tt
-step_loads s (Finds key) its = find_loads s.finding its
-step_loads s (LoadsKey key addr) its = tt
-step_loads s (LoadsHeader key addr) its = tt
-step_loads s (Reads key addr) its = tt
-
-pub sweep_loads : (s : Sweeper) → IsReading s.finding → IsLoadOrEnd (sweep_ask s)
-sweep_loads s its = step_loads s s.step its
-
 pub sweep_sound_loads : (s : Sweeper) (log : SweptLog) → IsSweepSound s log → IsLoadOrEnd (sweep_ask s)
-sweep_sound_loads s log its = sweep_loads s its.knows.reads
+sweep_sound_loads s log its = sweep_loads s (record { reads = its.knows.reads })
 
 pub sweep_sound_swept : (s : Sweeper) (log : SweptLog) → IsSweepSound s log → Swept s log
 sweep_sound_swept s log its = its.knows.swept
