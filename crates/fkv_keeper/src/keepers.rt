@@ -338,6 +338,13 @@ impl Keeper {
         self.rests || self.maintain.is_flush_resting()
     }
 
+    /// Whether the next step is granted by a word of the caller's, and not by memory: what rests or a sweep goes on, or doesn't.
+    pub fn goes_by_word(&self) -> bool
+        ensures { result ≡ goes_by_word self.now.state }
+    {
+        self.is_resting() || self.commit.is_none()
+    }
+
     /// Goes on with what every turn does. What that asks is passed on at once, and not asked for again.
     #[tactic(auto, using(crate::proofs::GoesOn::maintain_goes_on), unfolding(crate::specs::Keeping::keeping_next, crate::specs::Keeping::keeping_ask))]
     fn go_on_maintaining(&mut self, reply: u64) -> Ask<KeeperTold>

@@ -33,7 +33,8 @@ impl Keeper {
     }
 
     /// Makes the turn's steps of words up to the next call of the device, or to the turn's end, and tells which. The device isn't called.
-    /// Where the writes of a commit rest, or a flush does, they go on only if the caller says so.
+    /// Where the writes of a commit rest, or a flush does, they go on only if the caller says so. Then a sweep of the log's front does too, if that was let
+    /// (`let_sweep`) and no commit is in hand.
     pub fn drive<D: Device>(
         &mut self,
         table: &Table<D>,
@@ -56,6 +57,7 @@ impl Keeper {
             &mut pass.seat,
             &mut self.machine,
             goes_on,
+            goes_on && self.sweeps,
         ) {
             KeeperTold::Device => TurnAsk::Device,
             _ => TurnAsk::Over(turn_told(&mut self.machine)),

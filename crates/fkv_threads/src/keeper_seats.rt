@@ -2,7 +2,7 @@
 ghost use Rattle.std.specs.Prelude.{◌≡◌, true, false};
 ghost use Rattle.fkv_threads.specs.Said as said;
 
-use fkv_base::{CommitKind, Fault, Version};
+use fkv_base::{Addr, CommitKind, Fault, Key, Version};
 use fkv_disk::{Device, DeviceAsk};
 use fkv_keeper::Turn;
 use fkv_posted::{Posted, Told};
@@ -131,7 +131,37 @@ impl<D: Device + Drop> KeeperSeat<D> {
             return Err(Fault::CommitRunning);
         }
         law_threads::<Snapshot<World<D>>>();
+        if !self.keeper.is_sweeping() {
+            self.keeper.let_sweep(false);
+        }
         self.keeper.start_commit(&self.table, &mut self.pass, kind)
+    }
+
+    /// Begins a full commit, as `ask_commit` does. Once it is finished turns sweep the records below its first address, as far as `drive` lets them go on: 256
+    /// at most in a turn, with no commit in hand. When all are passed, the log of the next commit begins there. Up to then a later full commit goes on with it.
+    pub fn ask_trim(&mut self) -> Result<Version, Fault>
+        ensures asked { said.IsAskedToCommit D.Device said.Full self.old result self.new }
+    {
+        let answer = self.ask_commit(CommitKind::Full);
+        if answer.is_ok() {
+            self.keeper.let_sweep(true);
+        }
+        answer
+    }
+
+    /// The keys that the sweep's last turn has found wanted, 16 at most. The log's front can't be given up before somebody has written them anew, as by a merge of
+    /// the kind `Keep`. The next turn probes each again.
+    pub fn wanted(&self) -> &[Key]
+        ensures { result.now ≡ self.now.machine.state.sweep.wanted }
+    {
+        self.keeper.wanted()
+    }
+
+    /// Where the log of the newest finished commit begins. No record below that counts any more, in memory or behind a crash.
+    pub fn begin(&self) -> Addr
+        ensures { result ≡ self.now.machine.state.last.begin }
+    {
+        self.keeper.begin()
     }
 
     /// The device. The share of the table is given up.
