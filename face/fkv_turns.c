@@ -173,6 +173,11 @@ int32_t fkv_serve_turn(fkv_file *file, struct turn *turn, tell_turn_fn *tell, vo
     return end_calls(file, turn, call, tell, user);
 }
 
+int32_t fkv_sweep_turn(fkv_file *file, struct turn *turn, tell_turn_fn *tell, void *user) {
+    int32_t call = fkv_sweep(&file->keeper, &turn->turned, turn->points, FKV_MOST_SESSIONS);
+    return end_calls(file, turn, call, tell, user);
+}
+
 void fkv_sync_ahead(fkv_file *file) {
     if (!file->rests || file->stops || !fkv_has_turns(file)) return;
     /* Nobody writes from here on: whoever has the turn, or takes it, only serves. */

@@ -8,7 +8,7 @@ use crate::outcomes::outcome_of;
 use crate::points::tell_points;
 use fkv_base::{CommitKind, Fault, Version};
 use fkv_disk::{Device, DeviceAsk};
-use fkv_handles::TurnAsk;
+use fkv_handles::{Leave, TurnAsk};
 use fkv_keeper::Turn;
 use fkv_posted::Posted;
 use std::ptr::from_ref;
@@ -108,7 +108,10 @@ fn next(keeper: &mut HeldKeeper, ask: TurnAsk, turned: &mut Turned, points: &mut
 pub extern "C" fn fkv_turn(keeper: &mut HeldKeeper, turned: &mut Turned, points: &mut [u64]) -> i32
     ensures { says.IsTurned ⟦<Posted<'static> as Device>⟧ keeper.old.value result turned.old turned.new points.old points.new keeper.new.value }
 {
-    let ask = keeper.lent().turn(true);
+    let ask = keeper.lent().turn(Leave {
+        rests: true,
+        sweep: true,
+    });
     next(keeper, ask, turned, points).number
 }
 
@@ -117,7 +120,22 @@ pub extern "C" fn fkv_turn(keeper: &mut HeldKeeper, turned: &mut Turned, points:
 pub extern "C" fn fkv_serve(keeper: &mut HeldKeeper, turned: &mut Turned, points: &mut [u64]) -> i32
     ensures { says.IsTurned ⟦<Posted<'static> as Device>⟧ keeper.old.value result turned.old turned.new points.old points.new keeper.new.value }
 {
-    let ask = keeper.lent().turn(false);
+    let ask = keeper.lent().turn(Leave {
+        rests: false,
+        sweep: false,
+    });
+    next(keeper, ask, turned, points).number
+}
+
+/// As `fkv_serve`, but that a sweep of the log's front goes on, behind a commit of the kind `TRIM`.
+#[unsafe(no_mangle)]
+pub extern "C" fn fkv_sweep(keeper: &mut HeldKeeper, turned: &mut Turned, points: &mut [u64]) -> i32
+    ensures { says.IsTurned ⟦<Posted<'static> as Device>⟧ keeper.old.value result turned.old turned.new points.old points.new keeper.new.value }
+{
+    let ask = keeper.lent().turn(Leave {
+        rests: false,
+        sweep: true,
+    });
     next(keeper, ask, turned, points).number
 }
 

@@ -5,7 +5,7 @@ ghost use Rattle.fkv_handles.specs.Said as said;
 use fkv_base::{Addr, CommitKind, Fault, Key, Version};
 use fkv_disk::{Device, DeviceAsk};
 use fkv_posted::{Posted, Told};
-use fkv_threads::{KeeperSeat, TurnAsk};
+use fkv_threads::{KeeperSeat, Leave, TurnAsk};
 
 /// The keeper's handle, until it is ended. It may go into any thread.
 #[derive(Drop)]
@@ -15,13 +15,13 @@ pub struct Keeper {
 
 impl Keeper {
     /// Begins a turn, and carries it on up to its next call of the device or to its end. Where a call is posted that wasn't told yet nothing
-    /// changes, and `Device` is answered again. It ends early as `KeeperSeat::turn` does; `Broken` once the handle is ended. Writes of a commit that rest go on
-    /// if the caller says so, and a flush that rests does in the next turn.
-    pub fn turn(&mut self, goes_on: bool) -> TurnAsk
+    /// changes, and `Device` is answered again. It ends early as `KeeperSeat::turn` does; `Broken` once the handle is ended. What rests and a sweep go on
+    /// as the caller lets them.
+    pub fn turn(&mut self, leave: Leave) -> TurnAsk
         ensures turned { said.IsTurnedBy ⟦<Posted<'static> as Device>⟧ (said.watch_of self.old) result (said.watch_of self.new) }
     {
         match &mut self.seat {
-            Some(seat) => seat.drive(goes_on),
+            Some(seat) => seat.drive(leave),
             None => TurnAsk::Over(Err(Fault::Broken)),
         }
     }

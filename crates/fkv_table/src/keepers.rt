@@ -5,6 +5,7 @@ ghost use Rattle.fkv_table.specs.Said as said;
 use crate::performing::perform;
 use crate::positions::Part;
 use crate::rule::{Knows, Place, Slot, Table, Words};
+use crate::turns::Leave;
 use atomic_table::Play;
 use fkv_base::{Addr, CommitKind, Fault, Key, Version};
 use fkv_checkpoint::CopyRoom;
@@ -251,8 +252,7 @@ fn step<D: Device>(
     seat: &mut Place<D>,
     machine: &mut fkv_keeper::Keeper,
     ask: &Ask<KeeperTold>,
-    goes_on: bool,
-    sweeps: bool,
+    leave: Leave,
 ) -> Ask<KeeperTold>
     requires table { (seat.old.table_id ≡ words.now.table_id) × said.IsTableOf (said.opening_of D.seen words.now.key) words.now.table_id }
     requires keeping { said.IsKeeping (said.opening_of D.seen) words.now.key seat.old.me machine.old }
@@ -270,8 +270,12 @@ fn step<D: Device>(
     ensures ask { result ≡ said.keeper_ask machine.new.shape machine.new.places machine.new.state }
 {
     let room = machine.room();
-    let is_let = if machine.is_resting() { goes_on } else { sweeps };
-    let next = ask_by_grant(words, seat, machine, ask, room, is_let);
+    let goes_on = if machine.is_resting() {
+        leave.rests
+    } else {
+        leave.sweep
+    };
+    let next = ask_by_grant(words, seat, machine, ask, room, goes_on);
     settle(words, seat, machine, next)
 }
 
@@ -361,8 +365,7 @@ pub(crate) fn word_steps<D: Device>(
     words: &Words<D>,
     seat: &mut Place<D>,
     machine: &mut fkv_keeper::Keeper,
-    goes_on: bool,
-    sweeps: bool,
+    leave: Leave,
 ) -> KeeperTold
     requires table { (seat.old.table_id ≡ words.now.table_id) × said.IsTableOf (said.opening_of D.seen words.now.key) words.now.table_id }
     requires keeping { said.IsKeeping (said.opening_of D.seen) words.now.key seat.old.me machine.old }
@@ -382,7 +385,7 @@ pub(crate) fn word_steps<D: Device>(
         if let Ask::Done(told) = ask {
             return told;
         }
-        ask = step(words, seat, machine, &ask, goes_on, sweeps);
+        ask = step(words, seat, machine, &ask, leave);
         if machine.word_due().is_some() {
             load_words(words, seat, machine);
             ask = machine.ask();
@@ -428,7 +431,11 @@ impl Keeper {
     {
         let words = &table.table.shared;
         begin_commit(words, &mut pass.seat, &mut self.machine, kind);
-        word_steps(words, &mut pass.seat, &mut self.machine, false, false);
+        let leave = Leave {
+            rests: false,
+            sweep: false,
+        };
+        word_steps(words, &mut pass.seat, &mut self.machine, leave);
         begin_told(&mut self.machine)
     }
 }

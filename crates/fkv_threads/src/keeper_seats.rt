@@ -6,7 +6,7 @@ use fkv_base::{Addr, CommitKind, Fault, Key, Version};
 use fkv_disk::{Device, DeviceAsk};
 use fkv_keeper::Turn;
 use fkv_posted::{Posted, Told};
-use law_threads::{Keeper, KeeperPass, Table, TurnAsk, World, law_threads};
+use law_threads::{Keeper, KeeperPass, Leave, Table, TurnAsk, World, law_threads};
 use std::alloc::Global;
 use std::marker::Model;
 use std::snapshot::Snapshot;
@@ -22,8 +22,8 @@ pub struct KeeperSeat<D: Device + Drop> {
     pass: KeeperPass<D>,
     device: D,
     in_turn: bool,
-    /// In this turn writes that rest go on, and behind it a flush that rests does.
-    goes_on: bool,
+    /// What this turn lets go on.
+    leave: Leave,
 }
 
 impl<D: Device + Drop> Model for KeeperSeat<D> {
@@ -57,7 +57,10 @@ impl<D: Device + Drop> KeeperSeat<D> {
             pass,
             device,
             in_turn: false,
-            goes_on: false,
+            leave: Leave {
+                rests: false,
+                sweep: false,
+            },
         }
     }
 
@@ -79,17 +82,18 @@ impl<D: Device + Drop> KeeperSeat<D> {
 
     /// Begins a turn, and carries it on up to its next call of the device, which isn't made, or to its end. So it ends with any of the turn's faults but
     /// `Device`. Where a call of the device is due nothing changes, and `Device` is answered again. While the writes of a commit rest, or a flush
-    /// does, a turn serves and does nothing else. If the caller says so, writes go on behind that, and a flush in the next turn.
-    pub fn drive(&mut self, goes_on: bool) -> TurnAsk
+    /// does, a turn serves and does nothing else. If the caller lets what rests go on, writes go on behind that, and a flush in the next turn. With no commit in hand a sweep
+    /// goes on if the caller lets it, behind a commit of `ask_trim`.
+    pub fn drive(&mut self, leave: Leave) -> TurnAsk
         ensures driven { said.IsDriven D.Device self.old result self.new }
     {
         if self.in_turn {
             return TurnAsk::Device;
         }
         law_threads::<Snapshot<World<D>>>();
-        self.goes_on = goes_on;
+        self.leave = leave;
         self.keeper.start_turn(&self.table, &mut self.pass);
-        let next = self.keeper.drive(&self.table, &mut self.pass, goes_on);
+        let next = self.keeper.drive(&self.table, &mut self.pass, leave);
         self.in_turn = is_due(&next);
         next
     }
@@ -116,7 +120,7 @@ impl<D: Device + Drop> KeeperSeat<D> {
         law_threads::<Snapshot<World<D>>>();
         self.keeper
             .device_step(&self.table, &mut self.pass, &mut self.device);
-        let next = self.keeper.drive(&self.table, &mut self.pass, self.goes_on);
+        let next = self.keeper.drive(&self.table, &mut self.pass, self.leave);
         self.in_turn = is_due(&next);
         next
     }
@@ -182,7 +186,8 @@ impl KeeperSeat<Posted<'static>> {
         ensures told { said.IsTold ⟦<Posted<'static> as Device>⟧ told self.old result self.new }
     {
         if !self.in_turn {
-            return self.drive(true);
+            let leave = self.leave;
+            return self.drive(leave);
         }
         self.device.tell(told);
         self.step()

@@ -45,7 +45,10 @@ fn write_and_read<D: Device + Drop>(mut sessions: Vec<Seated<D>>) -> Told
 fn begin_in_pieces<D: Device + Drop>(keeper: &mut KeeperSeat<D>) -> bool
     requires idle { keeper.old.in_turn ≡ false }
 {
-    let asks = matches!(keeper.drive(true), TurnAsk::Device);
+    let asks = matches!(keeper.drive(Leave {
+        rests: true,
+        sweep: true,
+    }), TurnAsk::Device);
     let tells = keeper.posted().is_some();
     if asks {
         keeper.step();
