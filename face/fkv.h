@@ -74,6 +74,9 @@ const char *fkv_formats(void);
 /* Bytes of a read that a turn posts. */
 #define FKV_READ_SIZE 24
 
+/* The most that a read of the file has: that of a sweep. */
+#define FKV_MOST_READ 768
+
 /* Commits that a specified store takes in all its life, and a living one. */
 #define FKV_MOST_COMMITS 8190
 #define FKV_MOST_LIVING_COMMITS UINT64_C(35184372088830)
@@ -460,7 +463,7 @@ uint64_t fkv_begin(fkv_keeper *keeper);
 /*
  * Begins a turn, or asks again what the turn in hand has posted. The answer says what the caller does next:
  *
- *   FKV_READ    reads `length` bytes (24) of the file at `place`, with zeros past its end, and gives them to fkv_io_done
+ *   FKV_READ    reads `length` bytes (24, in a sweep 768) of the file at `place`, with zeros past its end, and gives them to fkv_io_done
  *   FKV_WRITE   writes the `length` bytes at `bytes` to `place`, all of them. It may lie past the end of the file, which then grows
  *   FKV_SYNC    syncs the file (fdatasync)
  *   FKV_OVER    the turn is over. If it has finished a commit, `finished` is 1, `number` is its number, and `points` has each

@@ -33,6 +33,7 @@ struct turn {
     uint64_t written; /* bytes */
     uint64_t end;     /* the furthest place that was written */
     uint64_t reads;   /* records that were read back */
+    uint64_t swept;   /* records that a sweep has read */
     uint64_t copied;  /* entries of the index that were written, as a full commit writes all */
     int why;          /* errno of the call of the file that has failed */
     bool has_called;  /* it has called the file, so the next turn may have something to do */
@@ -293,7 +294,7 @@ bool fkv_read_mapped(fkv_file *file, uint64_t place, uint8_t into[FKV_READ_SIZE]
 void fkv_drop_map(fkv_file *file);
 
 /* Reads a record that a turn has asked for, and notes whether a disk was waited for. 0, or -1 with errno. The caller has the turn. */
-int fkv_read_record(fkv_file *file, const fkv_turned *turned, uint8_t into[FKV_READ_SIZE]);
+int fkv_read_record(fkv_file *file, const fkv_turned *turned, uint8_t into[FKV_MOST_READ]);
 
 /*
  * Asks the system for the records of keys that will be read next, if its last reads had to wait for a disk. Of `count` keys those from `at` on

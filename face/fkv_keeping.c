@@ -19,6 +19,8 @@ enum {
      */
     HASTE_US = 500,
     HASTE_TURN_US = 20,
+    /* So long a commit waits for turns that sweep the log's front, behind the one before. */
+    SWEEPS_US = 10000,
     /* While no session is joined, which is told at once. */
     IDLE_TURN_US = 100000,
     /* While sessions are joined and nothing happens, rests grow after so many turns, up to so long. Who waits for a turn makes it. */
@@ -39,6 +41,7 @@ struct run {
     fkv_file *file;
     struct timespec next;  /* when the next commit by the clock is due */
     struct timespec haste; /* up to then the commit in hand makes haste */
+    struct timespec sweeps; /* up to then the next commit waits for turns that sweep */
     struct patience tends; /* with what was abandoned */
     uint32_t log_left;     /* so many log commits before the next full one */
     uint64_t written;      /* bytes, since the commit in hand began */
@@ -61,6 +64,8 @@ static bool goes_by_clock(const fkv_file *file) {
 static bool is_due(const struct run *run) {
     const fkv_file *file = run->file;
     if (file->in_hand || file->fault) return false;
+    /* Turns sweep with no commit in hand alone. If commits follow one another, they leave them some time. */
+    if (fkv_has_sweep(file) && file->trimmer.has_more && fkv_is_before(fkv_now(), run->sweeps)) return false;
     return file->asked > file->covers || (goes_by_clock(file) && !fkv_is_before(fkv_now(), run->next));
 }
 
@@ -103,7 +108,7 @@ static bool begin_commit(struct run *run) {
 }
 
 /* A store that has taken its last commit says so at once. */
-static void note_finished(const struct run *run, const struct turn *turn) {
+static void note_finished(struct run *run, const struct turn *turn) {
     fkv_file *file = run->file;
     file->finished = file->covers;
     file->number = turn->turned.number;
@@ -112,6 +117,7 @@ static void note_finished(const struct run *run, const struct turn *turn) {
     if (run->is_full) file->entries = run->copied;
     memcpy(file->points, turn->points, sizeof file->points);
     file->stuck = 0;
+    run->sweeps = fkv_later(fkv_now(), SWEEPS_US);
     fkv_find_end(file);
     pthread_cond_broadcast(&file->news);
     if (file->number >= file->most_commits) fkv_note_fault(file, -FKV_VERSIONS_SPENT, 0);
@@ -214,7 +220,7 @@ static void rest(const struct run *run) {
 }
 
 /* Calls the hook of a finished commit, and then wakes who waits for it. The file's lock is held, but in the hook. */
-static void finish_commit(const struct run *run, const struct turn *turn) {
+static void finish_commit(struct run *run, const struct turn *turn) {
     fkv_file *file = run->file;
     const fkv_keeping *keeping = &file->keeping;
     pthread_mutex_unlock(&file->lock);

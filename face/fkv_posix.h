@@ -471,7 +471,7 @@ int32_t fkv_stats_of(fkv_file *file, fkv_stats *stats);
  * Makes the call that a turn has posted, over a descriptor: `call` is what fkv_turn or fkv_io_done has answered. A read goes into `into`.
  * 0, or -1 where it has failed, with errno.
  */
-int fkv_call_file(int fd, int32_t call, const fkv_turned *turned, uint8_t into[FKV_READ_SIZE]);
+int fkv_call_file(int fd, int32_t call, const fkv_turned *turned, uint8_t into[FKV_MOST_READ]);
 
 /*
  * A whole turn over a descriptor: FKV_OVER or a refusal, as fkv_turn. `*written`, if it isn't NULL, grows by the bytes that were

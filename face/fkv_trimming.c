@@ -53,9 +53,9 @@ void fkv_note_swept(fkv_file *file, const struct turn *turn) {
     uint64_t words[FKV_MOST_WANTED];
     its->wanted = fkv_wanted(&file->keeper, words, FKV_MOST_WANTED);
     for (size_t i = 0; i < its->wanted; i++) its->keys[i] = file->keys == FKV_SPREAD ? fkv_spread_back(words[i]) : words[i];
-    its->swept += turn->reads;
-    /* Where it reads nothing, it waits for a commit. */
-    its->has_more = turn->reads > 0;
+    its->swept += turn->swept;
+    /* Where it has read nothing, it waits for a commit. */
+    its->has_more = turn->swept > 0;
 }
 
 void fkv_keep_wanted(fkv_file *file) {
@@ -86,6 +86,7 @@ int fkv_give_back(fkv_file *file) {
 void fkv_note_begin(fkv_file *file) {
     struct trimmer *its = &file->trimmer;
     uint64_t begin = fkv_begin(&file->keeper);
+    its->has_more = its->is_on;
     if (begin <= its->begin) return;
     its->begin = begin;
     its->is_on = false;
