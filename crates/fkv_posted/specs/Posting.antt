@@ -4,7 +4,7 @@ use Rattle.std.specs.Borrow.{Bor}
 use Rattle.fkv_disk.specs.Kinds.{Foretold, Kind, Writing, nothing}
 use Rattle.fkv_posted.specs.Outcomes.{Outcome, Gave}
 use Rattle.fkv_posted.specs.declared.outcomes.Told.{Told}
-use Rattle.fkv_posted.specs.declared.outcomes.Told.TheVariants.{Read, Written, Synced}
+use Rattle.fkv_posted.specs.declared.outcomes.Told.TheVariants.{Piece, Read, Written, Synced}
 
 -- nothing counts any more once a call has failed
 abbrev pub told_now : ℕ → Option Told → Option Told
