@@ -2,12 +2,10 @@
 use Rattle.std.specs.Prelude.{◌≡◌, ◌<◌, ◌≤◌, ℕ, Bool, true, false, not, ◌&&◌, if◌then◌else◌, List, [], map, Option, None, Some, slice_get, slice_set}
 use Rattle.fkv_base.specs.declared.shapes.Shape.{Shape}
 use Rattle.fkv_disk.specs.Asks.{AskedCall, kinds_by}
-use Rattle.fkv_disk.specs.Bytes.{bytes_at}
 use Rattle.fkv_disk.specs.Calls.{Call as DeviceCall}
 use Rattle.fkv_disk.specs.Device.{Rose}
 use Rattle.fkv_disk.specs.Device as device
 use Rattle.fkv_disk.specs.Kinds.{Kind, Foretold}
-use Rattle.fkv_flush.specs.Serving.{mail_place}
 use Rattle.fkv_flush.specs.Devices.{Adds}
 use Rattle.fkv_keeper.specs.declared.answers.KeeperTold.{KeeperTold}
 use Rattle.fkv_keeper.specs.declared.answers.KeeperTold.TheVariants.{Device}
@@ -141,7 +139,7 @@ took_place events.Crash granted done = Crashes
 
 -- what an honest device gives the keeper
 abbrev pub device_gives : Now → List ℕ → List ℕ
-device_gives n seen = bytes_at seen (mail_place n.shape n.keeper.maintain.serving) 24
+device_gives n seen = keeper_read (record { shape = n.shape; places = n.places; state = n.keeper }) seen
 
 -- the write or sync of an event
 abbrev pub event_calls : Now → Event → List DeviceCall
