@@ -1,8 +1,8 @@
 -- What came of a call of the device, as C tells it.
-use Rattle.std.specs.Prelude.{◌-◌, ◌++◌, ℕ, zero, suc, List, length, take, replicate, Option, Some, None}
+use Rattle.std.specs.Prelude.{◌-◌, ◌++◌, ℕ, zero, suc, nat_eq, if◌then◌else◌, List, length, take, replicate, Option, Some, None}
 use Rattle.fkv_disk.specs.Asks.{AskedCall, Reads, Writes, Syncs}
 use Rattle.fkv_posted.specs.declared.outcomes.Told.{Told}
-use Rattle.fkv_posted.specs.declared.outcomes.Told.TheVariants.{Failed, Read, Synced, Written}
+use Rattle.fkv_posted.specs.declared.outcomes.Told.TheVariants.{Failed, Piece, Read, Synced, Written}
 pub use Rattle.fkv_disk.specs.Asks.{asked_call}
 
 -- the first so many, and zeros where there are fewer

@@ -6,7 +6,7 @@ use crate::answers::refused;
 use crate::held_keeper::HeldKeeper;
 use crate::outcomes::outcome_of;
 use crate::points::tell_points;
-use fkv_base::{CommitKind, Fault, Version};
+use fkv_base::{CommitKind, Fault, Key, Version};
 use fkv_disk::{Device, DeviceAsk};
 use fkv_handles::{Leave, TurnAsk};
 use fkv_keeper::Turn;
@@ -202,18 +202,24 @@ pub extern "C" fn fkv_end_keeper(keeper: &mut HeldKeeper)
     keeper.lent().end();
 }
 
+/// Tells the keys, as many as there is room for, and how many those are.
+fn tell_keys(wanted: &[Key], keys: &mut [u64]) -> usize
+    ensures { says.IsWanted wanted.now result keys.old keys.new }
+{
+    let count = wanted.len().min(keys.len());
+    for i in 0..count {
+        keys[i] = wanted[i].0;
+    }
+    count
+}
+
 /// Writes the keys that the sweep's last turn has found wanted, as the store has them, as far as there is room, and tells how many those are.
 #[unsafe(no_mangle)]
 pub extern "C" fn fkv_wanted(keeper: &mut HeldKeeper, keys: &mut [u64]) -> usize
     ensures told { says.IsWanted (says.wanted_of (says.watch_of keeper.old.value)) result keys.old keys.new }
     ensures same { keeper.new.value ≡ keeper.old.value }
 {
-    let mut count = 0;
-    for (place, key) in keys.iter_mut().zip(keeper.lent().wanted()) {
-        *place = key.0;
-        count += 1;
-    }
-    count
+    tell_keys(keeper.lent().wanted(), keys)
 }
 
 /// Where the log of the newest finished commit begins: no record below that is read any more, nor counts behind a crash. 0 once the handle is ended.

@@ -64,7 +64,12 @@ impl Keeper {
             sweep: leave.sweep && self.sweeps,
             ..leave
         };
-        match word_steps(&table.table.shared, &mut pass.seat, &mut self.machine, leave) {
+        match word_steps(
+            &table.table.shared,
+            &mut pass.seat,
+            &mut self.machine,
+            leave,
+        ) {
             KeeperTold::Device => TurnAsk::Device,
             _ => TurnAsk::Over(turn_told(&mut self.machine)),
         }
