@@ -63,7 +63,7 @@ impl OfKeeper for LogCommit {
     ghost its = { said.Commits said.Log };
 }
 
-/// A step of the keeper's, with memory for a copy, or with which writes that rest go on. A call of the device that has succeeded is one too.
+/// A step of the keeper's, with memory for a copy, or with which what rests or a sweep goes on. A call of the device that has succeeded is one too.
 pub(crate) struct Granted;
 
 impl OfKeeper for Granted {
@@ -414,7 +414,7 @@ impl Keeper {
         (pass, answer)
     }
 
-    /// Begins a commit, as `ask_commit` does.
+    /// Begins a commit, as `ask_commit` does. A sweep that is done was let for the last time then: no later one goes on before `let_sweep` says so.
     pub fn start_commit<D: Device>(
         &mut self,
         table: &Table<D>,
@@ -430,6 +430,7 @@ impl Keeper {
         ensures told { said.IsBeginTold (said.keeper_ask self.new.machine.shape self.new.machine.places self.new.machine.state) result }
     {
         let words = &table.table.shared;
+        self.sweeps = self.sweeps && self.machine.is_sweeping();
         begin_commit(words, &mut pass.seat, &mut self.machine, kind);
         let leave = Leave {
             rests: false,

@@ -135,9 +135,6 @@ impl<D: Device + Drop> KeeperSeat<D> {
             return Err(Fault::CommitRunning);
         }
         law_threads::<Snapshot<World<D>>>();
-        if !self.keeper.is_sweeping() {
-            self.keeper.let_sweep(false);
-        }
         self.keeper.start_commit(&self.table, &mut self.pass, kind)
     }
 
