@@ -139,7 +139,7 @@ replied_at w a x seen s keeping.Finishes granted sound got fits k same e plain =
     let reply : ℕ = reply_to n.words ask in
     passed_step (λ reply words. StepLed n a (finishing_events a s.seek.points s.finish s.finish.step) seen granted (keeper_next n.shape n.places here reply granted) words) n.words ask (turn_over s)
     (finishes_kept n a seen (finishing_events a s.seek.points s.finish s.finish.step) s granted (finish_next s.finish reply) (words_after n.words ask) (finish_ask s.seek.points (finish_next s.finish reply)) same
-    (finish_known s.finish (finish_next s.finish reply).step s.finish.step) (finished_at n a x seen s.finish s.seek.points s.finish.step same got fits k (under ask (turn_over s) e)))
+    (finish_known s.finish (finish_next s.finish reply).step s.finish.step) (finished_at n a x seen s.finish s.seek.points s.finish.step same.0 got fits k (under ask (turn_over s) e)))
 replied_at w a x seen s keeping.Sweeps granted sound got fits k same e plain =
     let n : GuardNow = w.now in let here : KeeperState = record s { step = keeping.Sweeps } in
     sweep_step (λ reply words. StepLed n a [] seen granted (keeper_next n.shape n.places here reply granted) words) n.words (sweep_ask s.sweep) (turn_over s)

@@ -1,5 +1,5 @@
 -- The word that the keeper's ask names is one that there is: by what it is at, and by what its machine of the epochs asks.
-use Rattle.std.proofs.Common.{◌≡◌, ℕ, ◌+◌, ◌<◌, ◌≤◌, refl, subst, arith, List}
+use Rattle.std.proofs.Common.{◌≡◌, ℕ, ◌+◌, ◌<◌, ◌≤◌, refl, sym, subst, arith, List}
 use Rattle.std.specs.Prelude.{Option, Some, None, length}
 use Rattle.fkv_base.specs.declared.numbers.Serial.{Serial}
 use Rattle.fkv_plane.specs.declared.places.SessionWord.TheVariants as own

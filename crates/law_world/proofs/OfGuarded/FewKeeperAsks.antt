@@ -102,7 +102,7 @@ life_finishes first start events opened =
 life_sweeps : (first : World) (events : List Event) → (run first events).now.keeper.sweep.places ≡ first.now.keeper.sweep.places
 life_sweeps first events =
     let k : KeeperState = first.now.keeper in
-    ap (λ (s : KeeperState). s.sweep.places) (keeper_runs first events) ∙ (run_of_store k.sweep.shape k.sweep.places first.now.shape first.now.places k (keeper_events first events) (record { shape = refl; places = refl })).places
+    ap (λ (s : KeeperState). s.sweep.places) (keeper_runs first events) ∙ (run_of_store k.sweep.shape k.sweep.places first.now.shape first.now.places k (keeper_events first events) (record { its_shape = refl; its_places = refl })).its_places
 
 life_most : (first : World) (start : ℕ) (events : List Event) → IsOpened first.now start
     → most_keeper_asks (run first events).now.shape (run first events).now.places (run first events).now.keeper ≡ most_keeper_asks first.now.shape first.now.places first.now.keeper

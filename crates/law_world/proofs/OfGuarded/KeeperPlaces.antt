@@ -300,14 +300,14 @@ unfolding keeping_next
 next_row shape p s (Ended its) reply granted buckets of at rest row = stays p s (Ended its) at tt
 next_row shape p s Starts reply granted buckets of at rest row = start_led p (record s { start = start_next s.start reply }) _ at
 next_row shape p s Maintains reply granted buckets of at rest row = maintain_led p (record s { maintain = maintain_next shape p s.maintain reply }) _ at
-next_row shape p s LoadsPhase reply granted buckets of at rest row = phase_led p s s.commit (phase_said reply) granted refl rest of.places
+next_row shape p s LoadsPhase reply granted buckets of at rest row = phase_led p s s.commit (phase_said reply) granted refl rest of.its_places
 next_row shape p s Enters reply granted buckets of at rest row = enter_led p (record s { enter = enter_next s.enter reply }) _ at
 next_row shape p s Copies reply granted buckets of at rest row = copy_led p (record s { copy = copy_driven s.copy reply }) _ at (driven_row p s.copy reply row)
 next_row shape p s Seeks reply granted buckets of at rest row = seek_led p (record s { seek = seek_next s.seek reply }) _ at (seeks_row s.seek s.seek.step reply refl row)
 next_row shape p s Waits reply granted buckets of at rest row = wait_led p shape (record s { wait = wait_next s.wait reply }) _ at
 next_row shape p s Writes reply granted buckets of at rest row = stays p s Writes at tt
 next_row shape p s Finishes reply granted buckets of at rest row = finish_led p (record s { finish = finish_next s.finish reply }) _ at
-next_row shape p s Sweeps reply granted buckets of at rest row = sweep_led p (record s { sweep = sweep_next s.sweep reply }) _ at ((sweep_next_same s.sweep reply).places ∙ of.places, sweep_next_row shape p buckets s.sweep reply of row.1)
+next_row shape p s Sweeps reply granted buckets of at rest row = sweep_led p (record s { sweep = sweep_next s.sweep reply }) _ at ((sweep_next_same s.sweep reply).places ∙ of.its_places, sweep_next_row shape p buckets s.sweep reply of row.1)
 
 given_row : (shape : Shape) (p : Places) (s : KeeperState) (step : Keeping) (action : Action) → s.step ≡ step → KeeperRow p s step → IsKeeperRow p (keeping_given shape p s step action)
 unfolding keeping_given
@@ -329,7 +329,7 @@ writes_row p s false at = tt
 
 swept_row : (shape : Shape) (p : Places) (s : KeeperState) (done : Bool) (bytes : List ℕ) → p.buckets ≡ 2 ^ shape.bucket_bits → IsOfStore shape p s.sweep → s.step ≡ Sweeps → KeeperRow p s Sweeps → IsKeeperRow p (sweep_called s done bytes)
 swept_row shape p s true bytes buckets of at row =
-    sweep_led p (record s { sweep = sweep_read s.sweep bytes }) (sweep_ask (sweep_read s.sweep bytes)) at ((sweep_read_same s.sweep bytes).places ∙ of.places, sweep_read_row shape p buckets s.sweep bytes of row.1)
+    sweep_led p (record s { sweep = sweep_read s.sweep bytes }) (sweep_ask (sweep_read s.sweep bytes)) at ((sweep_read_same s.sweep bytes).places ∙ of.its_places, sweep_read_row shape p buckets s.sweep bytes of row.1)
 swept_row shape p s false bytes buckets of at row = tt
 
 called_row : (shape : Shape) (p : Places) (s : KeeperState) (step : Keeping) (done : Bool) (bytes : List ℕ) → p.buckets ≡ 2 ^ shape.bucket_bits → IsOfStore shape p s.sweep → s.step ≡ step → KeeperRow p s step

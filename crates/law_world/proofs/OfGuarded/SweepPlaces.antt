@@ -15,7 +15,6 @@ use Rattle.fkv_index.specs.declared.finding.Purpose.TheVariants.{Read}
 use Rattle.fkv_index.specs.Finding.{find_next, find_next_ask, first_finding}
 use Rattle.fkv_index.specs.Slots.{entry_addr, home_of}
 use Rattle.fkv_index.proofs.Shown.{homes_are_there}
-use Rattle.fkv_sweep.specs.declared.record_words.RecordWords.{RecordWords}
 use Rattle.fkv_sweep.specs.declared.sweeping.Sweeping.{Sweeping}
 use Rattle.fkv_sweep.specs.declared.sweeping.Sweeping.TheVariants.{AtRest, LoadsHead, Takes, Meets, Finds, LoadsKey, LoadsHeader, Reads}
 use Rattle.fkv_sweep.specs.Sweeping.{Sweeper, chain_met, find_ledto, gone_on, holds, is_counted, is_sweeping, key_met, key_wanted, led_down, most_wanted, piece_read, previous_in, reached, record_met, record_passed, slot_found, sweep_next, sweep_read, sweeping_next, sweeping_read, turn_begun, words_at, words_held}
@@ -68,7 +67,7 @@ find_row p w key ask at there = subst (SweepRow p w) (sym at) (there refl)
 key_row : (p : Places) (w : Sweeper) (key : Key) (addr : Addr) (word : ℕ) → IsSweepRow p (key_met w key addr word)
 key_row p w key addr word = either (word == key.0) p _ _ (passed_row p w) tt
 
-chain_row : (p : Places) (w : Sweeper) (key : Key) (addr : Addr) (words : RecordWords) → IsSweepRow p (chain_met w key addr words)
+chain_row : (p : Places) (w : Sweeper) (key : Key) (addr : Addr) (words : _) → IsSweepRow p (chain_met w key addr words)
 chain_row p w key addr words = either (words.key.0 == key.0) p _ _ (passed_row p w) (led_row p w key addr (previous_in words.header))
 
 -- as its turn begins
@@ -81,9 +80,9 @@ turn_begun_row p w = begun_step p (turn_begun w) (is_sweeping w)
 
 module _ (shape : Shape) (p : Places) (buckets : p.buckets ≡ 2 ^ shape.bucket_bits) where
   -- and begins at one of its own
-  met_row : (w : Sweeper) (words : RecordWords) → IsOfStore shape p w → IsSweepRow p (record_met w words)
-  met_row w words of = either (is_counted words) p _ _ (subst (λ (bits : ℕ). IsAtBucket p (first_finding w.places (home_of bits words.key) Read 0)) (sym (ap (λ (x : Shape). x.bucket_bits) of.shape))
-      (subst (λ (q : Places). IsAtBucket p (first_finding q (home_of shape.bucket_bits words.key) Read 0)) (sym of.places)
+  met_row : (w : Sweeper) (words : _) → IsOfStore shape p w → IsSweepRow p (record_met w words)
+  met_row w words of = either (is_counted words) p _ _ (subst (λ (bits : ℕ). IsAtBucket p (first_finding w.places (home_of bits words.key) Read 0)) (sym (ap (λ (x : Shape). x.bucket_bits) of.its_shape))
+      (subst (λ (q : Places). IsAtBucket p (first_finding q (home_of shape.bucket_bits words.key) Read 0)) (sym of.its_places)
       (first_outer p (home_of shape.bucket_bits words.key) Read 0 (homes_are_there p shape.bucket_bits words.key buckets).few))) (passed_row p w)
 
   -- each reply
@@ -99,7 +98,7 @@ module _ (shape : Shape) (p : Places) (buckets : p.buckets ≡ 2 ^ shape.bucket_
   next_row w Meets reply at of row = subst (SweepRow p w) (sym at) tt
   next_row w (Finds key) reply at of row =
       find_row p (record w { finding = find_next w.places w.finding reply }) key (find_next_ask w.places w.finding reply) at
-      (subst (λ (q : Places). is_done (find_next_ask q w.finding reply) ≡ false → IsAtBucket p (find_next q w.finding reply)) (sym of.places) (finds_outer p w.finding reply row).its)
+      (subst (λ (q : Places). is_done (find_next_ask q w.finding reply) ≡ false → IsAtBucket p (find_next q w.finding reply)) (sym of.its_places) (finds_outer p w.finding reply row).its)
   next_row w (LoadsKey key addr) reply at of row = key_row p w key addr reply
   next_row w (LoadsHeader key addr) reply at of row = led_row p w key addr (previous_in reply)
   next_row w (Reads key addr) reply at of row = subst (SweepRow p w) (sym at) tt
@@ -110,7 +109,7 @@ module _ (shape : Shape) (p : Places) (buckets : p.buckets ≡ 2 ^ shape.bucket_
   -- each read
   read_row : (w : Sweeper) (step : Sweeping) (bytes : List ℕ) → w.step ≡ step → IsOfStore shape p w → SweepRow p w step → IsSweepRow p (sweeping_read w step bytes)
   unfolding sweeping_read
-  read_row w Meets bytes at of row = met_row (record w { piece = piece_read w.next bytes }) (words_held (piece_read w.next bytes) w.next) (record { shape = of.shape; places = of.places })
+  read_row w Meets bytes at of row = met_row (record w { piece = piece_read w.next bytes }) (words_held (piece_read w.next bytes) w.next) (record { its_shape = of.its_shape; its_places = of.its_places })
   read_row w (Reads key addr) bytes at of row = chain_row p w key addr (words_at bytes 0)
   read_row w AtRest bytes at of row = subst (SweepRow p w) (sym at) row
   read_row w LoadsHead bytes at of row = subst (SweepRow p w) (sym at) row
