@@ -111,6 +111,7 @@ static void put(uint64_t key, uint64_t value) {
 
 static void make(const char *name) {
     WANTS("making", fkv_make_file(path_of(name), &SHAPE), 0);
+    asked_count = kept_from = 0;
     open_store(name, false);
     for (uint64_t key = 0; key < KEYS; key++) put(key, key + 1);
 }

@@ -19,7 +19,7 @@ use Rattle.law_commit.specs.Below.fkv_keeper.CheckpointLaws.{IsFinished, MayFoll
 use Rattle.law_commit.specs.Below.fkv_keeper.KeeperTold.{KeeperTold}
 use Rattle.law_commit.specs.Below.fkv_keeper.KeeperTold.TheVariants.{CommitRefused, Turned, TurnRefused}
 use Rattle.law_commit.specs.Below.fkv_keeper.TheKeeping.{Keeping}
-use Rattle.law_commit.specs.Below.fkv_keeper.TheKeeping.TheVariants.{Ended, Starts, Maintains, LoadsPhase, Enters, Copies, Seeks, Waits, Writes, Finishes}
+use Rattle.law_commit.specs.Below.fkv_keeper.TheKeeping.TheVariants.{Ended, Starts, Maintains, LoadsPhase, Enters, Copies, Seeks, Waits, Writes, Finishes, Sweeps}
 use Rattle.law_commit.specs.Below.fkv_keeper.Checkpoint.{Checkpoint}
 use Rattle.law_commit.specs.Below.fkv_keeper.Keeping.{Finality, KeeperState, checkpoint_used, come_to, ended, finish_ledto, finished, keeping_called, keeping_given, keeping_next, lost_left, must_rest, parts_begun, serves_alone, triples_written, turned, wait_ledto, write_ledto, writes_begun, asked_for}
 use Rattle.law_commit.specs.Below.fkv_keeper.KeeperAsks.{keeping_calls}
@@ -69,6 +69,7 @@ no_writes Maintains calm follows = follows
 no_writes LoadsPhase calm follows = follows
 no_writes Enters calm follows = follows
 no_writes Copies calm follows = follows
+no_writes Sweeps calm follows = follows
 no_writes Seeks calm follows = follows
 no_writes step calm follows = absurd calm
 
@@ -78,6 +79,7 @@ no_finish Maintains calm follows = follows
 no_finish LoadsPhase calm follows = follows
 no_finish Enters calm follows = follows
 no_finish Copies calm follows = follows
+no_finish Sweeps calm follows = follows
 no_finish Seeks calm follows = follows
 no_finish step calm follows = absurd calm
 
@@ -90,6 +92,7 @@ calm_after step Maintains calm follows = refl
 calm_after step LoadsPhase calm follows = refl
 calm_after step Enters calm follows = refl
 calm_after step Copies calm follows = refl
+calm_after step Sweeps calm follows = refl
 calm_after step Seeks calm follows = refl
 calm_after step Waits calm follows = refl
 
@@ -175,6 +178,7 @@ module _ (shape : Shape) (opened : List ℕ) (first : BegunCommit) (Good : Begun
   idle_at a its w calls begun LoadsPhase idle last = (refl, last)
   idle_at a its w calls begun Enters idle last = (refl, last)
   idle_at a its w calls begun Copies idle last = (refl, last)
+  idle_at a its w calls begun Sweeps idle last = (refl, last)
   idle_at a its w calls begun Seeks idle last = (refl, last)
   idle_at a its w calls begun Waits idle last = (refl, last)
 
@@ -504,6 +508,7 @@ module _ (shape : Shape) (opened : List ℕ) (first : BegunCommit) (Good : Begun
   step_on p s was its w calls begun event LoadsPhase none e is so = outside p s was its w _ begun event LoadsPhase none e (λ at. cc) (calm_on p s was its w _ begun event LoadsPhase none e tt is)
   step_on p s was its w calls begun event Enters none e is so = outside p s was its w _ begun event Enters none e (λ at. cc) (calm_on p s was its w _ begun event Enters none e tt is)
   step_on p s was its w calls begun event Copies none e is so = outside p s was its w _ begun event Copies none e (λ at. cc) (calm_on p s was its w _ begun event Copies none e tt is)
+  step_on p s was its w calls begun event Sweeps none e is so = outside p s was its w _ begun event Sweeps none e (λ at. cc) (calm_on p s was its w _ begun event Sweeps none e tt is)
   step_on p s was its w calls begun event Seeks none e is so = outside p s was its w _ begun event Seeks none e (λ at. cc) (calm_on p s was its w _ begun event Seeks none e tt is)
 
   -- ---- while its writes rest
@@ -610,6 +615,7 @@ module _ (shape : Shape) (opened : List ℕ) (first : BegunCommit) (Good : Begun
   either was s its w calls begun LoadsPhase is = inl is
   either was s its w calls begun Enters is = inl is
   either was s its w calls begun Copies is = inl is
+  either was s its w calls begun Sweeps is = inl is
   either was s its w calls begun Seeks is = inl is
   either was s its w calls begun Waits is = inl is
 

@@ -1,0 +1,17 @@
+pub mod Device
+pub mod Grows
+pub mod Headers
+pub mod Heads
+pub mod Knows
+pub mod Life
+pub mod Live
+pub mod Logs
+pub mod Low
+pub mod Memory
+pub mod Moves
+pub mod Opened
+pub mod Replies
+pub mod Shown
+pub mod Sound
+pub mod Told
+pub mod Words
