@@ -64,6 +64,9 @@ typedef void fkv_stopped_fn(void *user, int32_t fault);
 /* Nothing keeps this store's memory warm: see fkv_start. */
 typedef void fkv_unwarmed_fn(void *user);
 
+/* The log's front can't be given back: the store has no session for it (`why` is 0), or the file system can't (errno). */
+typedef void fkv_untrimmed_fn(void *user, int why);
+
 /* ---- Sizes ---------------------------------------------------------------------------------------------------------------- */
 
 /*
@@ -325,7 +328,12 @@ typedef struct {
     fkv_stopped_fn *stopped;     /* called once, as commits end for good or the log is found full, or NULL. See fkv_tick */
     fkv_unwarmed_fn *unwarmed;   /* called once, as the thread begins, if memory can't be kept warm in this store, or NULL. See below */
     uint32_t no_warmer;          /* not 0: memory isn't kept warm, though it could be */
+    uint64_t log_bytes;          /* the log's front is given back if it is longer; 0: than four times the records of all keys. See below */
+    fkv_untrimmed_fn *untrimmed; /* called once if the front can't be given back, or NULL. See below */
 } fkv_keeping;
+
+/* In place of fkv_keeping's log_bytes: nothing is given back. */
+#define FKV_LOG_KEEPS UINT64_MAX
 
 /*
  * Starts the keeper's thread. `turn_us` is how long it rests while a session is joined and no commit is in hand. Where it is 0, and nothing
@@ -430,7 +438,9 @@ typedef struct {
     uint64_t fetched;       /* records that the system was asked for ahead of their reads, by fkv_read_many and fkv_read */
     uint64_t kept;          /* records that the library has kept in memory, each by an update of its own session */
     uint64_t file_bytes;    /* bytes of the file */
-    uint64_t begin;         /* where the log begins: the address of its first record, which is 1. The next four are of fkv_offsets */
+    uint64_t disk_bytes;    /* bytes that it takes on the disk: what was given back of the log's front takes none */
+    uint64_t swept;         /* records that sweeps of the log's front have read */
+    uint64_t begin;         /* where the log begins: no record below counts any more. The next four are of fkv_offsets */
     uint64_t head;          /* records below it are read from the file */
     uint64_t flushed;       /* records below it are in the file, and synced */
     uint64_t read_only;     /* records below it aren't updated in place */
@@ -461,7 +471,7 @@ int32_t fkv_stats_of(fkv_file *file, fkv_stats *stats);
  * Makes the call that a turn has posted, over a descriptor: `call` is what fkv_turn or fkv_io_done has answered. A read goes into `into`.
  * 0, or -1 where it has failed, with errno.
  */
-int fkv_call_file(int fd, int32_t call, const fkv_turned *turned, uint8_t into[FKV_READ_SIZE]);
+int fkv_call_file(int fd, int32_t call, const fkv_turned *turned, uint8_t into[FKV_MOST_READ]);
 
 /*
  * A whole turn over a descriptor: FKV_OVER or a refusal, as fkv_turn. `*written`, if it isn't NULL, grows by the bytes that were
