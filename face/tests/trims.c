@@ -5,7 +5,7 @@
  */
 #include "device.h"
 
-enum { KEYS = 40, OPS = 6000, MOST_UPDATES = OPS * 64, LOG_PLACE_UNKNOWN = 0 };
+enum { KEYS = 40, OPS = 6000, MOST_UPDATES = OPS * 64, BUCKETS = 8, BUCKET_BYTES = 2 * 16 * 7, RECORD = 24, MOST_POLLS = 2000 };
 
 static const fkv_shape SHAPE = {3, 16, 4, 2, 1, 16, 4096};
 static struct device device;
@@ -56,7 +56,7 @@ static void settle(struct opened *it) {
     fkv_turned turned;
     fkv_seen seen;
     uint64_t count;
-    for (int i = 0; i < 2000; i++) {
+    for (int i = 0; i < MOST_POLLS; i++) {
         if (fkv_poll(&it->session, finished, FKV_MOST_PENDING, &count) == 0) return;
         WANTS("a refresh", fkv_refresh(&it->session, &seen), 0);
         WANTS("a turn", turn(it, &turned), FKV_OVER);
@@ -86,7 +86,7 @@ static void read_all(struct opened *it) {
     for (uint64_t key = 0; key < KEYS; key++) {
         uint64_t value = 0, wanted = value_at(updates, key);
         int32_t result = fkv_get(&it->session, key, &value);
-        for (int i = 0; result == FKV_PENDING && i < 2000; i++) {
+        for (int i = 0; result == FKV_PENDING && i < MOST_POLLS; i++) {
             fkv_finished finished[FKV_MOST_PENDING];
             fkv_turned turned;
             fkv_seen seen;
@@ -147,7 +147,7 @@ static void crash(uint64_t log, uint64_t begin) {
         memcpy(device.now, device.synced, DEVICE_SIZE);
         device.size = device.synced_size;
     }
-    for (uint64_t at = log + 24; at < log + 24 * begin; at++) device.now[at] = (uint8_t)drawn(256);
+    for (uint64_t at = log + RECORD; at < log + RECORD * begin; at++) device.now[at] = (uint8_t)drawn(256);
     memcpy(device.synced, device.now, DEVICE_SIZE);
     device.synced_size = device.size;
 }
@@ -162,16 +162,14 @@ int main(int count, char **words) {
     if (count < 2) return 2;
     state = strtoull(words[1], NULL, 10) * 2 + 1;
     int lives = count > 2 ? atoi(words[2]) : 20;
-    fkv_shape of = {3, 16, 4, 2, 1, 16, 4096};
-    (void)SHAPE;
-    begin_device(&device, &of);
-    /* The log lies behind both areas: the place of its first write minus the first record. */
+    begin_device(&device, &SHAPE);
     uint64_t log = 0;
     updates = 0, begin_last = 1;
     for (int life = 0; life < lives; life++) {
         struct opened it = {0};
         open_it(&it);
-        if (life == 0) log = FKV_IMAGE_SIZE + 2 * 16 * 7 * (UINT64_C(8) + it.shape.overflow);
+        /* (the log lies behind both areas for the index) */
+        log = FKV_IMAGE_SIZE + BUCKET_BYTES * (BUCKETS + it.shape.overflow);
         WANTS("whether no point is later than what was done", it.points[0] <= updates, true);
         updates = it.points[0];
         uint64_t begin = fkv_begin(&it.keeper);
