@@ -14,7 +14,7 @@ use Rattle.fkv_maintain.proofs.Shown as parts
 use Rattle.fkv_keeper.specs.declared.answers.KeeperTold.{KeeperTold}
 use Rattle.fkv_keeper.specs.declared.answers.KeeperTold.TheVariants.{Device}
 use Rattle.fkv_keeper.specs.declared.keepers.Keeping.{Keeping}
-use Rattle.fkv_keeper.specs.declared.keepers.Keeping.TheVariants.{Ended, Starts, Maintains, LoadsPhase, Enters, Copies, Seeks, Waits, Writes, Finishes}
+use Rattle.fkv_keeper.specs.declared.keepers.Keeping.TheVariants.{Ended, Starts, Maintains, LoadsPhase, Enters, Copies, Seeks, Waits, Writes, Finishes, Sweeps}
 use Rattle.fkv_keeper.specs.Keeping.{KeeperState, device_passed, keeper_ask, keeper_next, keeper_word_due, keeping_ask, keeping_next, maintain_ledto, turn_over, word_due_at}
 
 pub maintain_goes_on : (s : KeeperState) (ask : Ask MaintainAnswer) → ((its : MaintainAnswer) → ask ≢ Done its) → maintain_ledto s ask ≡ s
@@ -41,6 +41,7 @@ due_maintains p s Seeks place due = absurd (none-some place due)
 due_maintains p s Waits place due = absurd (none-some place due)
 due_maintains p s Writes place due = absurd (none-some place due)
 due_maintains p s Finishes place due = absurd (none-some place due)
+due_maintains p s Sweeps place due = absurd (none-some place due)
 
 led_no_further : (s : KeeperState) (ask : Ask MaintainAnswer) → parts.IsLoadOrCall MaintainDevice ask → maintain_ledto s ask ≡ s
 unfolding maintain_ledto

@@ -1,4 +1,4 @@
-mod BeginKept
+mod BeginMoves
 mod BeginRun
 mod CheckpointAsks
 mod CheckpointMoves
@@ -35,5 +35,7 @@ mod PointsFound
 mod PointsWritten
 mod Rests
 pub mod Shown
+mod SweepMoves
+mod SweepRuns
 mod TurnRun
 mod WholeCalls

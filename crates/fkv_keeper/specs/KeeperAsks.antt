@@ -132,8 +132,8 @@ most_behind_phase p seeks finishes = most_part_asks seeks finishes + most_sweep_
 unfoldable pub keeping_asks_left : Shape → Places → KeeperState → Keeping → ℕ
 keeping_asks_left shape p s (Ended its) = 0
 keeping_asks_left shape p s Starts = start_asks_left s.start
-keeping_asks_left shape p s Maintains = sum_left (maintain_asks_left shape s.maintain) (most_behind_phase p s.seek.sessions s.finish.sessions + 1)
-keeping_asks_left shape p s LoadsPhase = most_behind_phase p s.seek.sessions s.finish.sessions + 1
+keeping_asks_left shape p s Maintains = sum_left (maintain_asks_left shape s.maintain) (most_behind_phase s.sweep.places s.seek.sessions s.finish.sessions + 1)
+keeping_asks_left shape p s LoadsPhase = most_behind_phase s.sweep.places s.seek.sessions s.finish.sessions + 1
 keeping_asks_left shape p s Enters = enter_asks_left s.enter
 keeping_asks_left shape p s Copies = copy_left s.copy
 keeping_asks_left shape p s Seeks = seek_asks_left s.seek

@@ -415,9 +415,13 @@ step_may_copy step commit has_entered rests = false
 abbrev pub may_copy : KeeperState → Bool
 may_copy s = step_may_copy s.step s.commit s.has_entered (is_copy_resting s.copy)
 
--- What a step is granted: where writes or a flush rest, or no commit is in hand, that they or a sweep go on, and elsewhere memory for a copy.
+-- A step goes by the caller's word where writes or a flush rest, or no commit is in hand: whether they or a sweep go on.
+abbrev pub goes_by_word : KeeperState → Bool
+goes_by_word s = is_resting s || not (is_some s.commit)
+
+-- What it is granted: there what the caller says, and elsewhere memory for a copy.
 abbrev pub granted_for : KeeperState → Bool → Bool → Bool
-granted_for s has_room goes_on = if is_resting s || not (is_some s.commit) then goes_on else has_room
+granted_for s has_room goes_on = if goes_by_word s then goes_on else has_room
 
 -- Where the reply leads. Where a copy begins, or writes or a flush rest, it goes by what was granted.
 unfoldable pub keeping_next : Shape → Places → KeeperState → Keeping → ℕ → Bool → KeeperState

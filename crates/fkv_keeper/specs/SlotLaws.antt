@@ -36,20 +36,24 @@ pub record IsSlotWhole (shape : Shape) (s a : KeeperState) : Type 0 where
   pub few_lost : length said.lost ≤ max_lost
   pub named : IsSlotOf commit.number.0 a.writes.gate.slot
 
--- The log of a commit begins where that of the newest finished one does; or at the end of a sweep that is done, which began there, and which lies behind neither the
--- checkpoint in force nor the commit.
+-- A sweep is done. It began where the log of the newest finished commit does, and the log of this commit begins at its end. That is at or below the first
+-- address of the checkpoint in force, and of the commit itself.
 pub record HasMoved (s : KeeperState) (c : Commit) : Type 0 where
   pub swept : is_swept s.sweep ≡ true
   pub from : s.sweep.from ≡ s.last.begin
   pub to : c.begin ≡ s.sweep.to
+  pub on : s.last.begin.0 ≤ c.begin.0
   pub in_force : c.begin.0 ≤ s.last.checkpoint.first.0
   pub before : c.begin.0 ≤ c.first.0
 
--- Where the log begins for the newest finished commit, mailboxes are served, and a read for one is at or above that. A sweep begins there, with no commit in hand while its
--- turn is; or it is done, and the log begins at its end.
+-- Mailboxes are served of the log of the newest finished commit, and a read for one is at or above that log's begin. A sweep begins there too; or it is
+-- done, and that log begins at its end. While a sweep's turn is in hand no commit is. A commit's log begins where that of the newest finished one
+-- does, or it has moved on.
 pub record HasBegin (s : KeeperState) : Type 0 where
   pub serves : s.maintain.begin ≡ s.last.begin
   pub reads : ReadsAbove s.maintain
+  pub on : s.sweep.from.0 ≤ s.sweep.to.0
   pub sweeps : (s.sweep.from ≡ s.last.begin) ⊎ ((is_swept s.sweep ≡ true) × (s.sweep.to ≡ s.last.begin))
   pub alone : s.step ≡ Sweeps → s.commit ≡ None
+  pub from : s.step ≡ Sweeps → s.sweep.from ≡ s.last.begin
   pub commit : (c : Commit) → s.commit ≡ Some c → (c.begin ≡ s.last.begin) ⊎ HasMoved s c

@@ -15,7 +15,7 @@ ghost use Rattle.fkv_keeper.specs.declared.answers.KeeperTold.TheVariants.{Devic
 ghost use Rattle.fkv_disk.specs.Device.{Elapses, HasCause, MakesCalls};
 ghost use Rattle.fkv_flush.specs.Devices.{Adds};
 ghost use Rattle.fkv_keeper.specs.KeeperAsks.{IsBusyWhereLeft, keeper_asks_left, most_begin_asks, most_turn_asks, keeper_calls, keeper_calls_asked, keeper_due, keeper_made, keeper_read};
-ghost use Rattle.fkv_keeper.specs.Keeping.{commit_asked, turn_asked, keeper_ask, keeper_next, keeper_given, keeper_called, granted_for, is_resting, serves_alone, may_copy, turn_called, writes_called, sweep_called, keeper_word_due};
+ghost use Rattle.fkv_keeper.specs.Keeping.{commit_asked, turn_asked, keeper_ask, keeper_next, keeper_given, keeper_called, granted_for, goes_by_word, is_resting, serves_alone, may_copy, turn_called, writes_called, sweep_called, keeper_word_due};
 ghost use Rattle.fkv_keeper.specs.KeeperRun.{IsOpened};
 ghost use Rattle.fkv_keeper.specs.NewKeepers.{IsNewKeeper};
 ghost use Rattle.fkv_keeper.specs.declared.keepers.Keeping.TheVariants.{Ended, Maintains, Sweeps};
@@ -338,7 +338,7 @@ impl Keeper {
         self.rests || self.maintain.is_flush_resting()
     }
 
-    /// Whether the next step is granted by a word of the caller's, and not by memory: what rests or a sweep goes on, or doesn't.
+    /// Whether a step goes by what the caller of `go_on_with` says: writes or a flush rest, or no commit is in hand. Elsewhere it goes by the room.
     pub fn goes_by_word(&self) -> bool
         ensures { result ≡ goes_by_word self.now.state }
     {
@@ -426,6 +426,7 @@ impl Keeper {
 
     /// The call of the device that a part of every turn makes.
     fn call_for_turn<D: Device>(&mut self, d: &mut D) -> Result<Ask<KeeperTold>, Fault>
+        requires { self.old.state.step ≡ Maintains }
         ensures next { (bytes : List ℕ) × (self.new ≡ record self.old { state = turn_called self.old.shape self.old.places self.old.state (is_ok result) bytes }) }
         ensures ask { IfOk result (λ ask. ask ≡ keeper_ask self.old.shape self.old.places self.new.state) }
         ensures refused { OnErr result (self.new.state.step ≡ Ended (TurnRefused Failed)) }

@@ -562,7 +562,8 @@ impl Keeper {
     fn may_set(&self, commit: Commit) -> bool
         ensures { result ≡ may_set self.now.state commit }
     {
-        let is_free = self.sweep.at().0 == self.sweep.from().0 || self.sweep.to().0 == commit.begin.0;
+        let is_free = self.sweep.at().0 == self.sweep.from().0
+            || self.sweep.to().0 == commit.begin.0;
         self.start.class() != StoreClass::Specified
             && commit.kind == CommitKind::Full
             && is_free

@@ -1,4 +1,6 @@
+mod Actions
 pub mod AsksLeft
+mod Finds
 mod Loads
 pub mod Reading
 mod Same

@@ -233,9 +233,10 @@ abbrev pub sweep_failed : Sweeper → Sweeper
 sweep_failed s = record s { step = AtRest }
 
 -- ---- what holds of the numbers
--- a record is met that there is, the turn may meet it, and one more key may be wanted
+-- a record is met that there is, at an address that 48 bits hold, the turn may meet it, and one more key may be wanted
 pub record IsUnderWay (s : Sweeper) : Type 0 where
   pub below : s.next.0 < s.to.0
+  pub low : s.to.0 ≤ 2 ^ 48
   pub some : 0 < s.left
   pub room : length s.wanted < most_wanted
 
@@ -250,6 +251,6 @@ IsStepInRange s (LoadsHeader key addr) = IsUnderWay s
 IsStepInRange s (Reads key addr) = IsUnderWay s × (addr.0 < 2 ^ 48)
 
 pub record IsSweepInRange (s : Sweeper) : Type 0 where
-  pub its_end : s.to.0 ≤ 2 ^ 48
+  pub its_end : s.at.0 < s.to.0 → s.to.0 ≤ 2 ^ 48
   pub few : s.piece.end.0 ≤ s.piece.first.0 + piece_records
   pub its_step : IsStepInRange s s.step

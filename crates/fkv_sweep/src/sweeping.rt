@@ -80,7 +80,7 @@ impl Sweep {
     /// A sweep from one address up to another, of a store with these places. It rests.
     pub fn new(shape: Shape, places: Places, from: Addr, to: Addr) -> Sweep
         requires buckets { places.buckets ≡ 2 ^ shape.bucket_bits }
-        requires end { to.0 ≤ 2 ^ 48 }
+        requires end { from.0 < to.0 → to.0 ≤ 2 ^ 48 }
         ensures { result ≡ sweep_begun shape places from to }
     {
         Sweep {
@@ -101,7 +101,7 @@ impl Sweep {
 
     /// Forgets what it has swept, and is the sweep from one address up to another. It rests.
     pub fn restart(&mut self, from: Addr, to: Addr)
-        requires end { to.0 ≤ 2 ^ 48 }
+        requires end { from.0 < to.0 → to.0 ≤ 2 ^ 48 }
         ensures { self.new ≡ sweep_begun self.old.shape self.old.places from to }
     {
         self.step = Sweeping::AtRest;
@@ -112,7 +112,7 @@ impl Sweep {
         self.left = 0;
         self.piece = Piece::none();
         self.head = Addr(0);
-        self.wanted.clear();
+        self.wanted = ArrayVec::new();
         self.find.rest();
     }
 
@@ -406,6 +406,7 @@ impl Sweep {
     /// Goes on to the next record, where there is one for this turn.
     fn go_on(&mut self)
         requires below { self.old.next.0 < self.old.to.0 }
+        requires low { self.old.to.0 ≤ 2 ^ 48 }
         requires some { 0 < self.old.left }
         ensures { self.new ≡ gone_on self.old }
     {

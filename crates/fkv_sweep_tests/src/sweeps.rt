@@ -48,23 +48,28 @@ fn store(plane: &mut PlainWords, place: usize, number: u64) {
     plane.perform::<()>(&Ask::Store(place, number));
 }
 
-/// One turn, to its end.
-fn turn(sweep: &mut Sweep, plane: &mut PlainWords, disk: &mut MemDisk) -> Result<(), Fault> {
+/// One turn, to its end, and how many reads it made.
+fn turn(sweep: &mut Sweep, plane: &mut PlainWords, disk: &mut MemDisk) -> Result<usize, Fault> {
+    let mut reads: usize = 0;
     let mut ask = sweep.start();
     for _ in 0..MANY {
         ask = match ask {
-            Ask::Done(SweepAnswer::Through) => return Ok(()),
-            Ask::Done(SweepAnswer::Device) => sweep.device_step(disk)?,
+            Ask::Done(SweepAnswer::Through) => return Ok(reads),
+            Ask::Done(SweepAnswer::Device) => {
+                reads = reads.saturating_add(1);
+                sweep.device_step(disk)?
+            }
             word => {
                 let reply = plane.perform(&word);
                 sweep.drive(reply)
             }
         };
     }
-    Ok(())
+    Ok(reads)
 }
 
 /// The first turn passes what it may, and wants key 4. Once that stands in memory further on, the second one comes to the end.
+/// Another sweep goes over the fifth record, whose key stands nowhere above.
 #[test]
 fn wanted_keys_are_probed_again(rt: HostRuntime) -> Result<(), Fail> {
     let shape = Shape::new(0, 4, 2, 1, 1, 0, 8)?;
@@ -75,13 +80,20 @@ fn wanted_keys_are_probed_again(rt: HostRuntime) -> Result<(), Fail> {
     store(&mut plane, SharedWord::Head.place(), 6);
     store(&mut plane, places.bucket(0, 0), FIRST_ENTRY);
     let mut sweep = Sweep::new(shape, places, Addr(1), Addr(5));
-    turn(&mut sweep, &mut plane, &mut disk)?;
+    assert_eq!(rt; turn(&mut sweep, &mut plane, &mut disk)?, 2);
     assert_eq!(rt; sweep.at(), Addr(4));
+    assert!(rt; sweep.is_sweeping());
     assert!(rt; sweep.wanted() == [Key(4)].as_slice());
     store(&mut plane, places.bucket(0, 1), FOURTH_ENTRY);
     store(&mut plane, places.record(Addr(6), RecordWord::Key), 4);
-    turn(&mut sweep, &mut plane, &mut disk)?;
+    assert_eq!(rt; turn(&mut sweep, &mut plane, &mut disk)?, 0);
     assert_eq!(rt; sweep.at(), Addr(5));
+    assert!(rt; !sweep.is_sweeping());
     assert!(rt; sweep.wanted().is_empty());
+    sweep.restart(Addr(5), Addr(6));
+    assert_eq!(rt; turn(&mut sweep, &mut plane, &mut disk)?, 1);
+    assert_eq!(rt; sweep.from(), Addr(5));
+    assert_eq!(rt; sweep.at(), Addr(5));
+    assert!(rt; sweep.wanted() == [Key(1)].as_slice());
     Ok(())
 }
