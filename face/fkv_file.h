@@ -89,6 +89,7 @@ struct fkv_file {
     char *path; /* without links; NULL where the system didn't say */
     uint32_t keys; /* how they are placed: see fkv_open */
     uint64_t warm; /* how many records an opening gives memory: see fkv_open */
+    uint64_t log_bytes; /* that were wished for the log, or 0 */
     fkv_shape shape; /* with the sessions of users alone, and all overflow buckets */
     bool is_living;  /* its calls leave room to its polls, so that none of these ever finds it full */
     bool has_own;    /* the session behind those of users is the library's */

@@ -327,7 +327,7 @@ static void *keep(void *its_file) {
     wake_in_time();
     pthread_mutex_lock(&file->lock);
     tell_unwarmed(file);
-    if (!fkv_can_trim(file) && file->keeping.log_bytes != FKV_LOG_KEEPS) tell_untrimmed(file, 0);
+    if (!fkv_can_trim(file)) tell_untrimmed(file, 0);
     run.next = fkv_later(fkv_now(), (uint64_t)file->keeping.commit_ms * 1000);
     while (!file->stops) {
         if (fkv_has_turns(file)) go_on(&run);

@@ -84,7 +84,7 @@ typedef struct {
     uint64_t sessions;               /* threads that use it at once, at most 31; 8. A turn takes 0.1 microseconds for each */
     uint64_t memory_bytes;           /* memory that it may take once it is open, at most; as its keys want: some 250 bytes for each */
     uint64_t updates_between_commits; /* keys that are updated between two commits; all of them. The page and the log go by it */
-    uint64_t log_bytes;              /* not used yet: kept for how long the log may grow */
+    uint64_t log_bytes;              /* as in fkv_keeping, which goes before it; of fkv_open_or_make */
 } fkv_wish;
 
 /* What a store of a shape takes, and holds. */
@@ -352,6 +352,12 @@ typedef struct {
  *   time    Half of the thread's at most, and none while a commit waits for sessions. If it is behind with what is about to leave memory, it
  *           works for it before each turn all the same, for 2 milliseconds at most. Updates by calls of this header then wait before they
  *           begin, for 0.2 seconds at most, and refresh their sessions meanwhile
+ *
+ * The log's front is given back if the log is longer than `log_bytes`, or where that is 0, than four times the records of all keys and a megabyte. Then the
+ * next commit is a full one, behind which the thread's turns go over the records of the front. The library's session keeps the keys that have
+ * none further on: that makes new records. The log of a later commit begins behind the front, and once that is finished these bytes become a hole
+ * of the file, which gets no shorter. Between two commits so much of the thread's time is taken for it that the next one may come 10 milliseconds later.
+ * FKV_LOG_KEEPS gives nothing back. `untrimmed` is called once if it can't be: the store has no session for it, or the file system makes no holes.
  *
  * If memory has no room for the newest records of all homes, more than three in four of those that leave it are such. Then pages are let go
  * as they are, until they are half at most. Of keys that share a home only the last updated is kept.

@@ -35,13 +35,13 @@ void fkv_begin_trimming(fkv_file *file) {
 
 /* How many bytes the log may have. */
 static uint64_t limit_of(const fkv_file *file) {
-    uint64_t asked = file->keeping.log_bytes;
+    uint64_t asked = file->keeping.log_bytes ? file->keeping.log_bytes : file->log_bytes;
     return asked ? asked : most(FACTOR * RECORD_SIZE * file->entries, LEAST_BYTES);
 }
 
 bool fkv_wants_trim(fkv_file *file) {
     fkv_offsets at;
-    if (!fkv_can_trim(file) || file->keeping.log_bytes == FKV_LOG_KEEPS || file->trimmer.is_on) return false;
+    if (!fkv_can_trim(file) || limit_of(file) == FKV_LOG_KEEPS || file->trimmer.is_on) return false;
     if (fkv_hint_store(&file->store, &at) < 0) return false;
     return (at.tail - least(at.tail, file->trimmer.begin)) * RECORD_SIZE > limit_of(file);
 }
