@@ -5,15 +5,18 @@ use Rattle.std.proofs.lemmas.Bool.{cases_lt}
 use Rattle.fkv_base.specs.declared.numbers.Addr.{Addr}
 use Rattle.fkv_base.specs.declared.numbers.Version.{Version}
 use Rattle.fkv_base.specs.declared.shapes.Shape.{Shape}
+use Rattle.fkv_base.specs.declared.faults.Fault.TheVariants as fault
 use Rattle.fkv_plane.specs.declared.places.Places.{Places}
+use Rattle.fkv_plane.specs.Passing.{passed}
 use Rattle.fkv_sweep.specs.Sweeping.{Sweeper}
 use Rattle.law_commit.specs.Below.fkv_commit.Commit.{Commit}
-use Rattle.law_commit.specs.Below.fkv_commit.Starting.{start_ask, starting_ask}
+use Rattle.law_commit.specs.Below.fkv_commit.Starting.{starting_ask}
 use Rattle.law_commit.specs.Below.fkv_commit.TheStarting.{Starting}
 use Rattle.law_commit.specs.Below.fkv_commit.TheStarting.TheVariants as starting
 use Rattle.law_commit.specs.Below.fkv_keeper.Keeping.{Finality, KeeperState, is_swept, keeper_ask, keeping_ask}
 use Rattle.law_commit.specs.Below.fkv_keeper.KeeperRun.{KeeperEvent, is_in_hand, keeper_happens, keeper_run}
 use Rattle.law_commit.specs.Below.fkv_keeper.SlotLaws.{HasBegin}
+use Rattle.law_commit.specs.Below.fkv_keeper.KeeperTold.TheVariants.{CommitRefused}
 use Rattle.law_commit.specs.Below.fkv_keeper.TheKeeping.{Keeping}
 use Rattle.law_commit.specs.Below.fkv_keeper.TheKeeping.TheVariants.{Starts}
 use Rattle.law_commit.specs.Below.fkv_world.OwnEvents.{keeper_events, keeper_part_of}
@@ -52,17 +55,14 @@ same_upto version home log s a last sweep its = record {
 }
 
 -- a start that is about to load its first address turns to no drain slot
+loads_slot : {X : Type 0} (s : KeeperState) (step : Starting) → LoadsFirst step → IsSlotAsk (passed (starting_ask s.start step) (CommitRefused fault.CommitRunning)) → X
+unfolding starting_ask passed
+loads_slot s (starting.LoadsTail number) loads slot = absurd slot
+loads_slot s step loads slot = absurd loads
+
 loads_no_slot : {X : Type 0} (shape : Shape) (p : Places) (s : KeeperState) → s.step ≡ Starts → LoadsFirst s.start.step → IsSlotAsk (keeper_ask shape p s) → X
 unfolding keeping_ask
-loads_no_slot shape p s at loads slot = by s.start.step refl loads
-  where
-    at_start : IsSlotAsk (keeping_ask shape p s Starts)
-    at_start = subst (λ (k : Keeping). IsSlotAsk (keeping_ask shape p s k)) at slot
-
-    by : (step : Starting) → s.start.step ≡ step → LoadsFirst step → _
-    unfolding starting_ask
-    by (starting.LoadsTail number) e loads = absurd (subst (λ (k : Starting). IsSlotAsk (keeping_ask shape p (record s { start = (let m = s.start in record m { step = k }) }) Starts)) e at_start)
-    by step e loads = absurd loads
+loads_no_slot shape p s at loads slot = loads_slot s s.start.step loads (subst (λ (k : Keeping). IsSlotAsk (keeping_ask shape p s k)) at slot)
 
 module _ (life : BegunLife) where
   abbrev H : ℕ → ℕ
@@ -98,7 +98,7 @@ module _ (life : BegunLife) where
   prepares number stage s at loads step = by s.start.step loads (subst (λ (k : Keeping). StepAt number stage s k) at step)
     where
       by : (start : Starting) → LoadsFirst start → StartAt number stage s.start start → stage ≡ Prepares
-      by (starting.LoadsTail its) loads starts = starts.1.0
+      by (starting.LoadsTail its) loads starts = starts.1
       by start loads starts = absurd loads
 
   version_low : (before : List Event) → (keeper_behind before).step ≡ Starts → LoadsFirst (let m = (keeper_behind before).start in m.step) → version_now life.opening before ≤ next_number (keeper_behind before)
