@@ -2,7 +2,7 @@ mod Actors
 mod AppendParts
 pub mod AttemptParts
 pub mod Permitted
-mod FindingFacts
+pub mod FindingFacts
 pub mod Goes
 mod Leaves
 pub mod LifeFacts

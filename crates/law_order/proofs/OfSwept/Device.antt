@@ -123,7 +123,7 @@ module _ (calls : CallsLaw) (life : BegunLife) (events : List Event) where
     fits = fits;
   }
 
--- Whatever a sweep reads of the device of a life, when all below its end and below the head that it has loaded is flushed, shows the log.
+-- What a sweep reads of the device of a life shows the log. All below its end is flushed then, and so is all below the head that it has loaded.
 pub life_read : CallsLaw → (life : BegunLife) (events : List Event) → CellsFit life.ghosts.log → CellsFit (life_ghosts life.opening life.ghosts events).log → AreEnabled (home_of_world life.opening) life.ghosts (mapped life.opening events)
     → (s : Sweeper) → s.shape ≡ life.opening.now.shape → begin_in life.opening ≤ s.to.0 → 0 < s.to.0 → s.to.0 ≤ (levels_of (run life.opening events).now.words).flushed → s.head.0 ≤ (levels_of (run life.opening events).now.words).flushed
     → ShowsRead (swept_log (life_ghosts life.opening life.ghosts events).log) s s.step (bytes_at (device_seen (run life.opening events)) (read_place s) piece_bytes)

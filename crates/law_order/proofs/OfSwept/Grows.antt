@@ -2,7 +2,6 @@
 use Rattle.std.proofs.Common.{◌≡◌, ℕ, ◌<◌, ◌≤◌, ◌∙◌, inl, inr, refl, sym, ap, subst, arith, List, [], ◌∷◌, ◌++◌}
 use Rattle.fkv_map.specs.declared.history.HistoryEntry.{HistoryEntry}
 use Rattle.fkv_map.specs.Map.{Map}
-use Rattle.fkv_index.specs.declared.homes.Home.{Home}
 use Rattle.fkv_sweep.specs.SweptLogs as swept
 use Rattle.fkv_sweep.specs.SweptLogs.{SweptLog}
 use Rattle.law_commit.specs.Below.law_refine.Events.GhostEvents.{home_number}
@@ -11,7 +10,7 @@ use Rattle.law_log.specs.Chains.{Cell, Logged, Unborn, Reserved, Published, Drop
 use Rattle.law_log.specs.Enabled.{AreEnabled, IsChangeEnabled, IsEnabled, IsOpened}
 use Rattle.law_log.specs.Ghosts.{Changes, Drops, FindsEntry, Fixes, GhostEvent, Ghosts, Log, Publishes, Reserves, TakesValue, Tells, changed, changed_by, dropped, ghost_run, ghosts_after, log_after, published, set_at}
 use Rattle.law_log.specs.Trace.{IsIn}
-use Rattle.law_log.proofs.Shown.{Grows, Held, Steps, at_one, log_steps, not_unborn, run_held}
+use Rattle.law_log.proofs.Shown.{Grows, Held, at_one, log_steps, not_unborn, run_held}
 use Rattle.law_order.specs.Swept.Logs.{standing_at, swept_log}
 use Rattle.law_order.proofs.OfSwept.Logs.{has_key_at, in_swept, in_trace, is_of_key}
 

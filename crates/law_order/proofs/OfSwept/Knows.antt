@@ -10,21 +10,19 @@ use Rattle.fkv_plane.specs.declared.places.Places.{Places}
 use Rattle.fkv_plane.specs.Asked.{reply_to}
 use Rattle.fkv_plane.proofs.Shown.{passed_reply}
 use Rattle.fkv_index.specs.declared.finding.FindAnswer.{FindAnswer}
-use Rattle.fkv_index.specs.declared.finding.Finding.{Finding}
 use Rattle.fkv_index.specs.declared.finding.Found.{Found}
 use Rattle.fkv_index.specs.declared.finding.Found.TheVariants.{Slot}
 use Rattle.fkv_index.specs.declared.finding.Purpose.TheVariants.{Read}
-use Rattle.fkv_index.specs.declared.homes.Home.{Home}
 use Rattle.fkv_index.specs.Finding.{first_finding, find_ask, find_next, find_next_ask}
 use Rattle.fkv_index.specs.Slots.{entry_addr, home_of}
 use Rattle.fkv_sweep.specs.declared.sweeping.SweepAnswer.TheVariants as answer
 use Rattle.fkv_sweep.specs.declared.sweeping.Sweeping.{Sweeping}
 use Rattle.fkv_sweep.specs.declared.sweeping.Sweeping.TheVariants.{AtRest, LoadsHead, Takes, Meets, Finds, LoadsKey, LoadsHeader, Reads}
 use Rattle.fkv_sweep.proofs.Shown.{IsSameSweep}
-use Rattle.fkv_sweep.specs.Sweeping.{Sweeper, most_records, most_wanted, words_at, words_held, piece_read, holds, is_counted, previous_in, is_sweeping, turn_begun, coming, gone_on, record_passed, key_wanted, reached, led_down, slot_found, find_ledto, key_met, chain_met, record_met, sweeping_ask, sweep_ask, next_met, sweeping_next, sweep_next, sweeping_read, sweep_read, sweep_failed}
+use Rattle.fkv_sweep.specs.Sweeping.{Sweeper, most_records, most_wanted, words_at, words_held, piece_read, holds, is_counted, previous_in, is_sweeping, turn_begun, coming, gone_on, record_passed, key_wanted, reached, led_down, slot_found, find_ledto, key_met, chain_met, record_met, sweeping_ask, sweep_ask, sweeping_next, sweep_next, sweeping_read, sweep_read, sweep_failed}
 use Rattle.law_commit.specs.Below.fkv_flush.GuardLevels.{levels_of}
 use Rattle.law_commit.specs.Below.fkv_world.Runs.{World, run}
-use Rattle.law_commit.specs.Below.fkv_world.World.{Event, Now}
+use Rattle.law_commit.specs.Below.fkv_world.World.{Event}
 use Rattle.law_commit.specs.Below.law_refine.Index.Shows.{IsOpened}
 use Rattle.law_commit.proofs.Below.fkv_world.Shown.{places_stay}
 use Rattle.law_commit.proofs.Below.law_refine.OfHeads.LifeReaders.{ReadsBehind, life_read_first, life_read_next, life_read_stays}

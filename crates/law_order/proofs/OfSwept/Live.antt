@@ -4,7 +4,6 @@ use Rattle.std.specs.Prelude.{nat_eq}
 use Rattle.std.proofs.lemmas.Bool.{cases_lt}
 use Rattle.std.proofs.lemmas.Bool.Decides.{nat_tests}
 use Rattle.fkv_sweep.specs.Sweeping.{Sweeper}
-use Rattle.fkv_sweep.specs.SweptLogs as swept
 use Rattle.fkv_sweep.specs.SweptLogs.{StandsAbove, Swept}
 use Rattle.law_commit.specs.Below.law_refine.Events.GhostEvents.{home_in}
 use Rattle.law_log.specs.Begins.{Live}

@@ -1,5 +1,5 @@
 -- What the log of a sweep says of the log that it is made of.
-use Rattle.std.proofs.Common.{◌≡◌, ℕ, ◌∙◌, inl, inr, refl, sym, ap, Bool, true, List, [], ◌∷◌}
+use Rattle.std.proofs.Common.{◌≡◌, ℕ, ◌∙◌, inl, inr, refl, sym, ap, true, List, [], ◌∷◌}
 use Rattle.std.specs.Prelude.{is_none, Option, Some, None}
 use Rattle.fkv_base.specs.declared.numbers.Key.{Key}
 use Rattle.fkv_sweep.specs.SweptLogs as swept

@@ -1,22 +1,20 @@
 -- What memory has of a record from the closed offset up: its words show the log beside the life. So a sweep that loads them meets its key, and goes on in its chain.
-use Rattle.std.proofs.Common.{◌≡◌, ℕ, ◌+◌, ◌<◌, ◌≤◌, ◌∙◌, inl, inr, refl, sym, ap, subst, arith, Bool, true, false, List, []}
-use Rattle.std.specs.Prelude.{◌%◌, ◌^◌, if◌then◌else◌, Some}
+use Rattle.std.proofs.Common.{◌≡◌, ℕ, ◌<◌, ◌≤◌, ◌∙◌, inl, inr, sym, ap, subst, arith, Bool, true, false, List, []}
+use Rattle.std.specs.Prelude.{if◌then◌else◌, Some}
 use Rattle.fkv_base.specs.declared.numbers.Addr.{Addr}
 use Rattle.fkv_base.specs.declared.numbers.Key.{Key}
 use Rattle.fkv_base.specs.declared.numbers.Version.{Version}
 use Rattle.fkv_plane.specs.declared.places.Places.{Places}
 use Rattle.fkv_plane.specs.declared.places.RecordWord.TheVariants as rec
-use Rattle.fkv_sweep.specs.SweptLogs as swept
 use Rattle.fkv_sweep.specs.SweptLogs.{HasKeyAt, IsInChain}
 use Rattle.fkv_sweep.specs.Sweeping.{previous_in}
 use Rattle.law_commit.specs.Below.fkv_flush.GuardLevels.{levels_of}
-use Rattle.law_commit.specs.Below.fkv_ops.HeaderSaid.{HeaderSaid}
 use Rattle.law_commit.specs.Below.fkv_ops.HeaderSaid.TheVariants.{Says, Spoiled}
 use Rattle.law_commit.specs.Below.fkv_ops.HeaderWords as header
 use Rattle.law_commit.specs.Below.fkv_ops.HeaderWords.{header_said, is_header, version_in}
 use Rattle.law_commit.specs.Below.fkv_world.Runs.{World, run}
 use Rattle.law_commit.specs.Below.fkv_world.World.{Event, Now}
-use Rattle.law_commit.specs.Below.law_refine.Events.GhostEvents.{home_number, life_ghosts, mapped}
+use Rattle.law_commit.specs.Below.law_refine.Events.GhostEvents.{life_ghosts, mapped}
 use Rattle.law_commit.specs.Below.law_refine.Records.Cells.{ShowsCell}
 use Rattle.law_commit.specs.Below.law_refine.Records.Changes.{AreChangesPublished}
 use Rattle.law_commit.specs.Below.law_refine.Records.Frames.{IsFramed, words_framed}
@@ -26,7 +24,7 @@ use Rattle.law_commit.proofs.Below.law_refine.OfEvents.Fixed.{life_rises}
 use Rattle.law_commit.proofs.Below.law_refine.OfRecords.Frames.{frames_show_log}
 use Rattle.law_commit.proofs.Below.law_refine.OfRecords.Standing.{limit_near}
 use Rattle.law_commit.proofs.Below.law_world.OfGuarded.Worlds as guarded
-use Rattle.law_log.specs.Chains.{Cell, Logged, Published, head_of, IsWithin}
+use Rattle.law_log.specs.Chains.{Cell, Published, head_of, IsWithin}
 use Rattle.law_log.specs.Enabled.{AreChains, AreEnabled, IsOfHome, previous_of}
 use Rattle.law_log.specs.Ghosts.{Log}
 use Rattle.law_log.specs.Trace.{IsIn}

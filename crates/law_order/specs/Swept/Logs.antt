@@ -1,5 +1,5 @@
 -- The log of the order law as a sweep sees it.
-use Rattle.std.specs.Prelude.{ℕ, is_none, Option, Some, None}
+use Rattle.std.specs.Prelude.{is_none, Option, Some, None}
 use Rattle.fkv_sweep.specs.SweptLogs.{Standing, SweptLog}
 use Rattle.law_commit.specs.Below.law_refine.Events.GhostEvents.{home_number}
 use Rattle.law_log.specs.Chains.{Logged, Published}

@@ -1,5 +1,5 @@
 -- A sweep of the store of a life.
-use Rattle.std.specs.Prelude.{◌≡◌, ℕ, ◌<◌}
+use Rattle.std.specs.Prelude.{◌≡◌, ◌<◌}
 use Rattle.fkv_sweep.specs.Sweeping.{Sweeper}
 use Rattle.law_commit.specs.Below.fkv_world.Runs.{World}
 

@@ -14,7 +14,7 @@ use Rattle.fkv_index.proofs.Shown.{IsSound, homes_are_there}
 use Rattle.law_log.specs.Ghosts.{Ghosts, Log}
 use Rattle.law_world.specs.Below.fkv_world.Runs.{World, run}
 use Rattle.law_world.specs.Below.fkv_world.World.{Event, Now}
-use Rattle.law_world.proofs.Below.fkv_world.Shown.{places_stay, shape_stays}
+use Rattle.law_world.proofs.Below.fkv_world.Shown.{places_stay}
 use Rattle.law_world.specs.Guarded.Shows as guard
 use Rattle.law_refine.specs.Events.GhostEvents.{life_ghosts}
 use Rattle.law_refine.specs.Events.Reserved.{IsUnbornFrom, ReservesNothing, tail_at}

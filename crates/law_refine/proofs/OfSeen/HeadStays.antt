@@ -1,6 +1,6 @@
 -- The keeper alone moves the head. A session's step leaves it where it is, and so does each event of the keeper whose ask does.
-use Rattle.std.proofs.Common.{◌≡◌, ◌≢◌, ℕ, zero, suc, ◌∙◌, refl, sym, ap, subst, arith, Bool, true, false, List, [], ◌∷◌}
-use Rattle.std.specs.Prelude.{⊤, ◌==◌, if◌then◌else◌, Option, Some, None, replicate, slice_get}
+use Rattle.std.proofs.Common.{◌≡◌, ◌≢◌, ℕ, zero, suc, ◌∙◌, refl, sym, ap, subst, arith, Bool, true, false, List, ◌∷◌}
+use Rattle.std.specs.Prelude.{⊤, if◌then◌else◌, Option, Some, None, replicate, slice_get}
 use Rattle.std.proofs.lemmas.List.{set-get_or}
 use Rattle.fkv_base.specs.declared.shapes.Shape.{Shape}
 use Rattle.fkv_plane.specs.declared.actions.Action.{Action}
@@ -10,11 +10,10 @@ use Rattle.fkv_plane.specs.declared.asks.Ask.TheVariants.{Load, Store, Swap, Cas
 use Rattle.fkv_plane.specs.declared.places.Places.{Places}
 use Rattle.fkv_plane.specs.declared.places.RecordWord.{RecordWord}
 use Rattle.fkv_plane.specs.declared.places.RecordWord.TheVariants as rec
-use Rattle.fkv_plane.specs.declared.places.SessionWord.{SessionWord}
 use Rattle.fkv_plane.specs.declared.places.SharedWord.TheVariants as one
-use Rattle.fkv_plane.specs.Asked.{asked, word_at, words_after}
+use Rattle.fkv_plane.specs.Asked.{word_at, words_after}
 use Rattle.fkv_plane.specs.Passing.{passed}
-use Rattle.fkv_plane.specs.Places.{record_place, session_place, shared_place}
+use Rattle.fkv_plane.specs.Places.{record_place, shared_place}
 use Rattle.fkv_epoch.specs.declared.arming.Arming.{Arming}
 use Rattle.fkv_epoch.specs.declared.arming.Arming.TheVariants as arm
 use Rattle.fkv_epoch.specs.declared.claiming.Claiming.{Claiming}
@@ -41,7 +40,7 @@ use Rattle.law_world.specs.Below.fkv_flush.Guarded.{first_actor}
 use Rattle.law_world.specs.Below.fkv_flush.GuardLevels.{levels_of}
 use Rattle.law_world.specs.Below.fkv_flush.GuardSeen.{LastSeen}
 use Rattle.law_world.specs.Below.fkv_flush.GuardWorld as guard
-use Rattle.law_world.specs.Below.fkv_flush.GuardWorld.{Actor, GuardWorld, Work, is_guarded, shift_rests}
+use Rattle.law_world.specs.Below.fkv_flush.GuardWorld.{Actor, Work, is_guarded, shift_rests}
 use Rattle.law_world.specs.Below.fkv_keeper.Keeping.{keeper_ask}
 use Rattle.law_world.specs.Below.fkv_log.Filling.{fill_ask}
 use Rattle.law_world.specs.Below.fkv_log.Invalidating.{invalidate_ask}
@@ -79,7 +78,7 @@ use Rattle.law_world.specs.Below.fkv_pending.TheMailing.{Mailing}
 use Rattle.law_world.specs.Below.fkv_pending.TheMailing.TheVariants as mail
 use Rattle.law_world.specs.Below.fkv_session.Catching.{Catching}
 use Rattle.law_world.specs.Below.fkv_session.Catching.TheVariants as catching
-use Rattle.law_world.specs.Below.fkv_session.CatchingUp.{CatchState, catch_ask, catching_ask, cut_of}
+use Rattle.law_world.specs.Below.fkv_session.CatchingUp.{CatchState, catch_ask, catching_ask}
 use Rattle.law_world.specs.Below.fkv_session.OwnTurning.{OwnTurning}
 use Rattle.law_world.specs.Below.fkv_session.OwnTurning.TheVariants as turning
 use Rattle.law_world.specs.Below.fkv_session.OwnTurns.{OwnTurnState, own_turn_ask, own_turning_ask}
