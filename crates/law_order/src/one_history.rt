@@ -46,8 +46,8 @@ pub fn law_lives_keep_order()
     law_given();
 }
 
-/// In each life, while its log begins where it did at first, each read that waits seeks a record of the device, but for the one that is polled just then. No poll
-/// tries it again.
+/// In each life each read that waits seeks a record of the device, but for the one that is polled just then, or it was told that its record is gone. A poll tries it
+/// again only where it was told so. While the log begins where it did at first none is.
 pub fn law_lives_seek()
     ensures { said.InEachLife said.SeeksItsReads }
 {

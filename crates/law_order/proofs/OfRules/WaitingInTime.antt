@@ -134,7 +134,7 @@ module _ (begins : BeginsItsLife) (keeps : InEachLife KeepsItsOrder) (seeks : In
         subst (λ (t : ℕ). IsSettledHere home (life_ghosts opening ghosts events).log ((life_ghosts opening ghosts events).reads (read_waiting number t (run opening events).past.trace))) its_ticket
         (sought_settled home map_of (life_ghosts opening ghosts events).log (floor_in waiting.pending.request) (key_in waiting.pending.request) (head_in waiting.s.seen) ((life_ghosts opening ghosts events).reads (read_waiting number (ticket_of waiting.pending.name) (run opening events).past.trace)) waiting.pending.sought
         (run_held home map_of o.number.0 ghosts (mapped opening events) start.log order.enabled)
-        ((seeks (life_of bytes o n events) is_life stays).0 number waiting.s waiting.index waiting.pending waiting.found waiting.got (not_polling waiting.s.step waiting.index waiting.idle) read)
+        ((seeks (life_of bytes o n events) is_life).seek stays number waiting.s waiting.index waiting.pending waiting.found waiting.got (not_polling waiting.s.step waiting.index waiting.idle) read)
         so.1 knows.sought knows.request.low);
   }
     where
@@ -236,7 +236,7 @@ module _ (begins : BeginsItsLife) (keeps : InEachLife KeepsItsOrder) (seeks : In
       polls : (more front : List Event) → answer ∷ between ≡ front ++ more → PollsTryNoRead opening (more ++ there)
       polls more front so =
           let whole : answer ∷ upto ≡ front ++ (more ++ there) = ap (λ (x : List Event). x ++ there) so ∙ append_assoc front more there in
-          (seeks (life_of bytes o n (more ++ there)) (life_before bytes o n front (more ++ there) (subst (λ (x : List Event). IsLife (life_of bytes o n x)) whole is_life)) (stayed_in at_first front (more ++ there) (subst (BeginStays opening) whole stays))).1
+          (seeks (life_of bytes o n (more ++ there)) (life_before bytes o n front (more ++ there) (subst (λ (x : List Event). IsLife (life_of bytes o n x)) whole is_life))).try_none (stayed_in at_first front (more ++ there) (subst (BeginStays opening) whole stays))
 
       front : IsBehindSpared opening between there reader
       front = behind_spared opening between there number reader start.world (λ more earlier so. polls more (answer ∷ earlier) (ap (λ (x : List Event). answer ∷ x) so)) its.past
