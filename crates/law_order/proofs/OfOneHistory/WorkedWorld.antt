@@ -28,6 +28,10 @@ use Rattle.law_commit.specs.WorkedRuns.{resting_keeper}
 use Rattle.law_commit.specs.Below.law_refine.Events.Worked.{first_session, first_words, first_world}
 use Rattle.law_order.proofs.OfOneHistory.WorkedShape.{places, shape}
 
+-- The keeper's sweep is of this store, and has nothing to go over.
+abbrev pub swept_keeper : KeeperState → KeeperState
+swept_keeper k = record k { sweep = sweep_begun shape places k.last.begin k.last.begin }
+
 places_fit : ArePlacesOfStore shape places
 unfolding shape places
 places_fit = record { sessions = refl; buckets = refl; overflow = refl; ring = refl }
@@ -151,7 +155,11 @@ module _ (o : Opened) (new : IsNewStore shape o) where
   unfolding shape
   its_class = ap (λ (s : Shape). s.class) (sym new.its_shape)
 
+<<<<<<< HEAD
   keeper_opens : (n : Now) → IsOpeningWorld o n → IsNewKeeper o.shape (newest_commit o) o.lost.items (record { shape = shape; places = places; state = resting_keeper (with_sweep n.keeper) })
+=======
+  keeper_opens : (n : Now) → IsOpeningWorld o n → IsNewKeeper o.shape (newest_commit o) o.lost.items (record { shape = shape; places = places; state = resting_keeper (swept_keeper n.keeper) })
+>>>>>>> w-fix
   keeper_opens n its =
       let was = its.its_keeper in
       record {
@@ -179,7 +187,11 @@ module _ (o : Opened) (new : IsNewStore shape o) where
         none_swept = ap (λ (last : Finality). sweep_begun shape places last.begin last.begin) was.newest;
       }
 
+<<<<<<< HEAD
   pub world_opens : (n : Now) (one other : SessionState) → one.floor ≡ o.begin → other.floor ≡ o.begin → IsOpeningWorld o n → IsOpeningWorld o (worked_now (resting_keeper (with_sweep n.keeper)) one other)
+=======
+  pub world_opens : (n : Now) (one other : SessionState) → one.floor ≡ o.begin → other.floor ≡ o.begin → IsOpeningWorld o n → IsOpeningWorld o (worked_now (resting_keeper (swept_keeper n.keeper)) one other)
+>>>>>>> w-fix
   unfolding worked_now shape
   world_opens n one other floor second its = record {
     its_shape = sym new.its_shape;
