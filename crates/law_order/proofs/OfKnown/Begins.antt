@@ -42,11 +42,7 @@ begin_fixed life events =
 
 -- so at first the log does without what lies there
 pub first_live : (life : BegunLife) → Live (begin_in life.opening) (home_of_world life.opening) life.ghosts.log
-<<<<<<< HEAD
-unfolding AreEnabled ghost_run
-=======
 unfolding run AreEnabled mapped ghost_run
->>>>>>> w-fix
 first_live life =
     let home : ℕ → ℕ = home_of_world life.opening in
     let held = run_held home life.map life.number life.ghosts [] life.begins.log tt in
