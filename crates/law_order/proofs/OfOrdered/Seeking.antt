@@ -36,10 +36,11 @@ use Rattle.law_order.specs.Rows.Asked.{AttemptSeeks, SeeksWhereAsked}
 use Rattle.law_order.proofs.OfOrdered.Waits.{LooksSo, MeetsTry, SeeksBy, Waits, WaitsRow, attempt_begun_waits, attempt_waits, pending_on, row_on}
 use Rattle.law_order.proofs.OfLooks.Looks.{TellsAbove, look_asks}
 use Rattle.law_order.proofs.OfLooks.Ready.{look_mailing}
-use Rattle.law_order.proofs.OfKnown.Begins.{begin_rises}
 use Rattle.law_order.proofs.OfRows.Asks.{anew_seeks}
 use Rattle.law_order.proofs.OfRows.Seeks.{attempt_begun_seeks, attempt_seeks, latch_seeks}
 use Rattle.law_opening.proofs.OfChanges.OfSessions.Attempting.{life_attempts}
+use Rattle.law_commit.specs.Below.fkv_world.Opened.{IsOpenedWorld}
+use Rattle.law_commit.proofs.Below.law_world.OfKeeper.OwnRun.{keeper_goes_on}
 use Rattle.law_commit.proofs.Below.law_refine.OfSeen.Alone.{moves_alone}
 use Rattle.law_commit.proofs.Below.law_refine.OfSeen.There.{there_before}
 use Rattle.law_commit.specs.Below.law_refine.Mail.Reads.{IsTaking}
@@ -149,18 +150,18 @@ seeking_polls life events all session s index found at tries read = row.1 (ap is
     row = subst (WaitsRow (WasToldGone life.opening session events) s.attempt) tries ((all session s found).attempted (ap is_attempting at)).waits
 
 -- ---- while the log begins where it did at first nobody is told so
-none_told : (life : BegunLife) (events : List Event) (session floor : ℕ) → BeginStays life.opening events → WasToldGone life.opening session events floor → ⊥
-none_told life events session floor stays told =
+pub none_told : (opening : World) (events : List Event) (session floor : ℕ) → IsOpenedWorld opening → BeginStays opening events → WasToldGone opening session events floor → ⊥
+none_told opening events session floor opened stays told =
     let above = told.above in
     let upto = told.upto in
-    let next = begin_rises life (told.event ∷ []) told.earlier in
-    let later = begin_rises life told.later (told.event ∷ told.earlier) in
-    let same = ap (λ (es : List Event). begin_in (run life.opening es)) told.cut in
+    let next = keeper_goes_on opening (told.event ∷ []) told.earlier opened in
+    let later = keeper_goes_on opening told.later (told.event ∷ told.earlier) opened in
+    let same = ap (λ (es : List Event). begin_in (run opening es)) told.cut in
     omega (arith, above, upto, next, later, same, stays)
 
 seeks_one : (life : BegunLife) (events : List Event) (session floor : ℕ) (some : Bool) → BeginStays life.opening events → (some ≡ true) ⊎ WasToldGone life.opening session events floor → some ≡ true
 seeks_one life events session floor some stays (inl is) = is
-seeks_one life events session floor some stays (inr told) = absurd (none_told life events session floor stays told)
+seeks_one life events session floor some stays (inr told) = absurd (none_told life.opening events session floor life.begins.world stays told)
 
 pub stays_seeking : (life : BegunLife) (events : List Event) → BeginStays life.opening events → ReadsSeekOrWereTold life.opening events → AllReadsSeek life.opening events
 stays_seeking life events stays all session s index pending found got other = λ read.
@@ -170,11 +171,11 @@ pub stays_untried : (life : BegunLife) (events : List Event) → BeginStays life
 stays_untried life events stays all session s index found at tries = by_read (is_read s.attempt.pending.request.op) refl
   where
     by_read : (b : Bool) → is_read s.attempt.pending.request.op ≡ b → b ≡ false
-    by_read true read = absurd (none_told life events session s.attempt.pending.request.floor.0 stays (all session s index found at tries read).1)
+    by_read true read = absurd (none_told life.opening events session s.attempt.pending.request.floor.0 life.begins.world stays (all session s index found at tries read).1)
     by_read false read = refl
 
 -- ---- by each event
-told_on : (opening : World) (session : ℕ) (event : Event) (before : List Event) (floor : ℕ) → WasToldGone opening session before floor → WasToldGone opening session (event ∷ before) floor
+pub told_on : (opening : World) (session : ℕ) (event : Event) (before : List Event) (floor : ℕ) → WasToldGone opening session before floor → WasToldGone opening session (event ∷ before) floor
 told_on opening session event before floor told = record {
   later = event ∷ told.later;
   event = told.event;
@@ -187,6 +188,10 @@ told_on opening session event before floor told = record {
   above = told.above;
   upto = told.upto;
 }
+
+pub told_later : (opening : World) (session : ℕ) (later before : List Event) (floor : ℕ) → WasToldGone opening session before floor → WasToldGone opening session (later ++ before) floor
+told_later opening session [] before floor told = told
+told_later opening session (event ∷ later) before floor told = told_on opening session event (later ++ before) floor (told_later opening session later before floor told)
 
 module _ (life : BegunLife) (before : List Event) (event : Event) (met : MeetsItsReads life.opening before) (tells_above : TellsAbove (begin_in life.opening) (run life.opening before).now)
     (tells_upto : TellsUpto (begin_in (run life.opening before)) (run life.opening before).now) (all : AllSeekSo life.opening before) where
