@@ -7,7 +7,8 @@ use Rattle.fkv_base.specs.declared.numbers.Addr.{Addr}
 use Rattle.fkv_base.specs.declared.phases.Phase.TheVariants.{Rest}
 use Rattle.fkv_base.specs.declared.shapes.Shape.{Shape}
 use Rattle.fkv_marks.specs.Marks.{mark}
-use Rattle.fkv_sweep.specs.Sweeping.{sweep_begun}
+use Rattle.fkv_plane.specs.declared.places.Places.{Places}
+use Rattle.fkv_sweep.specs.Sweeping.{Sweeper, sweep_begun}
 use Rattle.law_opening.specs.Below.fkv_core.OpeningWords.{AreWordsOfOpened, frames_of, laid_round, ring_words, warm_place, words_before_frames, words_of_sessions, words_once}
 use Rattle.law_opening.specs.Below.fkv_core.Openings.{IsOpeningSession, IsOpeningWorld, newest_commit}
 use Rattle.law_opening.specs.Below.fkv_creating.Created.{IsNewStore}
@@ -35,10 +36,6 @@ swept_keeper k = record k { sweep = sweep_begun shape places k.last.begin k.last
 places_fit : ArePlacesOfStore shape places
 unfolding shape places
 places_fit = record { sessions = refl; buckets = refl; overflow = refl; ring = refl }
-
--- a keeper whose sweep is of this store
-abbrev pub with_sweep : KeeperState → KeeperState
-with_sweep k = record k { sweep = sweep_begun shape places k.last.begin k.last.begin }
 
 -- its world, with this keeper and these sessions
 unfoldable pub worked_now : KeeperState → SessionState → SessionState → Now
@@ -155,11 +152,7 @@ module _ (o : Opened) (new : IsNewStore shape o) where
   unfolding shape
   its_class = ap (λ (s : Shape). s.class) (sym new.its_shape)
 
-<<<<<<< HEAD
-  keeper_opens : (n : Now) → IsOpeningWorld o n → IsNewKeeper o.shape (newest_commit o) o.lost.items (record { shape = shape; places = places; state = resting_keeper (with_sweep n.keeper) })
-=======
   keeper_opens : (n : Now) → IsOpeningWorld o n → IsNewKeeper o.shape (newest_commit o) o.lost.items (record { shape = shape; places = places; state = resting_keeper (swept_keeper n.keeper) })
->>>>>>> w-fix
   keeper_opens n its =
       let was = its.its_keeper in
       record {
@@ -187,11 +180,7 @@ module _ (o : Opened) (new : IsNewStore shape o) where
         none_swept = ap (λ (last : Finality). sweep_begun shape places last.begin last.begin) was.newest;
       }
 
-<<<<<<< HEAD
-  pub world_opens : (n : Now) (one other : SessionState) → one.floor ≡ o.begin → other.floor ≡ o.begin → IsOpeningWorld o n → IsOpeningWorld o (worked_now (resting_keeper (with_sweep n.keeper)) one other)
-=======
   pub world_opens : (n : Now) (one other : SessionState) → one.floor ≡ o.begin → other.floor ≡ o.begin → IsOpeningWorld o n → IsOpeningWorld o (worked_now (resting_keeper (swept_keeper n.keeper)) one other)
->>>>>>> w-fix
   unfolding worked_now shape
   world_opens n one other floor second its = record {
     its_shape = sym new.its_shape;
