@@ -47,8 +47,8 @@ pub fn law_lives_keep_order()
     law_given();
 }
 
-/// In each life, while its log begins where it did at first, each read that waits seeks a record of the device, but for the one that is polled just then. No poll
-/// tries it again.
+/// In each life each read that waits seeks a record of the device, but for the one that is polled just then, or it was told that its record is gone. A poll tries it
+/// again only where it was told so. While the log begins where it did at first none is.
 pub fn law_lives_seek()
     ensures { said.InEachLife said.SeeksItsReads }
 {
@@ -117,13 +117,21 @@ pub fn law_order()
 }
 
 /// In each life a read that waits has the value by then that its answer tells: that of its key at some moment between its call and any later one at which its
-/// session rests with it. What it seeks lies below the head, where no value changes, and no step searches for it again. So it is while the log begins where it did
-/// at first: a read that is told that its record is gone finds its entry again.
-pub fn law_waiting_reads()
-    ensures { said.InEachLife said.WaitingReadsInTime }
+/// session rests with it. What it seeks lies below the head, where no value changes, and no step searches for it again. So it is while its session is told of no record
+/// that is gone. A read that is told so finds its entry again.
+pub fn law_untold_reads()
+    ensures { said.InEachLife said.UntoldReadsInTime }
 {
     law_life_begins();
     law_lives_keep_order();
     law_lives_seek();
     law_history_beside();
+}
+
+/// So it is of each read that waits while the log begins where it did at first, for none is told so.
+pub fn law_waiting_reads()
+    ensures { said.InEachLife said.WaitingReadsInTime }
+{
+    law_life_begins();
+    law_untold_reads();
 }

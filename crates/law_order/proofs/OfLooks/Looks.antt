@@ -1,6 +1,6 @@
 -- What a session loads from its mailbox is true of the log: the record that it seeks was asked for where it is published and flushed, and that record was served. Or it was
 -- told that it is gone, with the log's begin.
-use Rattle.std.proofs.Common.{◌≡◌, ◌≢◌, ◌⊎◌, inl, inr, ℕ, ◌≤◌, ◌∙◌, refl, sym, ap, subst, arith, eqb-true, Bool, true, false, List, [], ◌∷◌, ◌++◌}
+use Rattle.std.proofs.Common.{◌≡◌, ◌≢◌, ◌⊎◌, inl, inr, ℕ, ◌<◌, ◌≤◌, ◌∙◌, refl, sym, ap, subst, arith, eqb-true, Bool, true, false, List, [], ◌∷◌, ◌++◌}
 use Rattle.std.specs.Prelude.{◌==◌, Option, Some, None, slice_get}
 use Rattle.std.proofs.lemmas.List.{append_assoc}
 use Rattle.fkv_base.specs.declared.numbers.Addr.{Addr}
@@ -31,7 +31,7 @@ use Rattle.law_commit.specs.Below.law_local.Tries.MailRows.{IsRecordOf, IsTrueOf
 use Rattle.law_commit.specs.Below.law_local.Tries.TryRows.{floor_in}
 use Rattle.law_commit.specs.Below.fkv_world.Runs.{World, run}
 use Rattle.law_commit.specs.Below.fkv_world.World.{Event, Now, seat_at}
-use Rattle.law_order.specs.Known.Begins.{BeginStays, BegunLife, begin_in, home_of_world}
+use Rattle.law_order.specs.Known.Begins.{BegunLife, begin_in, home_of_world}
 use Rattle.law_order.specs.Known.Floors.{AttemptsGoFrom}
 use Rattle.law_order.specs.Known.Knows.{AreKnown}
 use Rattle.law_order.specs.Known.Told.{LookTruly, reply_in}
@@ -123,9 +123,9 @@ abbrev pub LooksLaw : World → List Event → Type 0
 LooksLaw opening events =
     (session : ℕ) (s : SessionState) → slice_get (run opening events).now.sessions session ≡ Some s → is_attempting s.step ≡ true → LooksForAsked (mail_notes opening session events) s.attempt s.attempt.step
 
--- nobody who takes a record is told that it is gone
-abbrev pub NoneGone : Now → Type 0
-NoneGone n = n.crashed ≡ false → (session : ℕ) (its : MailRecord) → IsTaking n session its → is_gone its ≡ false
+-- who is told that a record is gone is told a begin above this one
+abbrev pub TellsAbove : ℕ → Now → Type 0
+TellsAbove begin n = n.crashed ≡ false → (session : ℕ) (its : MailRecord) → IsTaking n session its → is_gone its ≡ true → begin < its.key.0
 
 -- in a life of a store that was opened
 module _ (life : BegunLife) (events : List Event)
@@ -241,20 +241,19 @@ module _ (life : BegunLife) (events : List Event)
         | inr told ↦ told.key
       ]
 
-  -- but while the log begins where it did at first none is: what is asked for lies at or above that
-  pub none_gone : BeginStays life.opening events → NoneGone n
-  none_gone stays alive session its taking =
+  -- what is asked for lies at or above where the log began at first, and the begin that is told lies above that
+  pub all_above : TellsAbove B n
+  all_above alive session its taking gone =
       let taken = taken_given alive session its taking in
       let opened = its_mailbox life events session taking.taker taking.there in
       elim taken.given [
-        | inl read ↦ is_there B (log.cells (let a = taken.addr in a.0)) its (read_true session taken.addr its taken.before opened read)
-        | inr gone ↦ (
-            let later : List Event = gone.later ++ (gone.event ∷ []) in
-            let cut : events ≡ later ++ gone.earlier = gone.cut ∙ sym (append_assoc gone.later (gone.event ∷ []) gone.earlier) in
-            let there = there_then session taken.addr taken.before later gone.earlier opened cut gone.since in
-            let above : B ≤ (let a = taken.addr in a.0) = life_above life gone.earlier (let a = taken.addr in a.0) there.cell there.published in
-            let told : TellsBegin B B' taken.addr its = told_begin session taken.addr its (HasAskedFor taken.addr ∷ taken.before) gone in
+        | inl read ↦ not_both (is_gone its) (is_there B (log.cells (let a = taken.addr in a.0)) its (read_true session taken.addr its taken.before opened read)) gone
+        | inr since ↦ (
+            let later : List Event = since.later ++ (since.event ∷ []) in
+            let cut : events ≡ later ++ since.earlier = since.cut ∙ sym (append_assoc since.later (since.event ∷ []) since.earlier) in
+            let there = there_then session taken.addr taken.before later since.earlier opened cut since.since in
+            let above : B ≤ (let a = taken.addr in a.0) = life_above life since.earlier (let a = taken.addr in a.0) there.cell there.published in
+            let told : TellsBegin B B' taken.addr its = told_begin session taken.addr its (HasAskedFor taken.addr ∷ taken.before) since in
             let below = told.above in
-            let key = told.key in
-            absurd (omega (arith, above, below, key, stays)))
+            omega (arith, above, below))
       ]

@@ -10,11 +10,10 @@ use Rattle.law_order.specs.Known.Begins.{BeginStays, BegunLife, begin_in, home_o
 use Rattle.law_order.specs.Known.Floors.{AttemptsGoFrom}
 use Rattle.law_order.specs.Known.Knows.{AllKnowBehind, AreKnown}
 use Rattle.law_order.specs.Known.Told.{AreToldTruly, TicketsAreApart}
-use Rattle.law_order.proofs.OfKnown.Begins.{stayed_before}
 use Rattle.law_order.proofs.OfKnown.Begun.{begun_known}
 use Rattle.law_commit.specs.Below.law_refine.Events.GhostEvents.{life_ghosts, mapped}
-use Rattle.law_order.proofs.OfLooks.Looks.{NoneGone}
-use Rattle.law_order.proofs.OfLooks.Truth.{looks_true, takes_there, tells_upto}
+use Rattle.law_order.proofs.OfLooks.Looks.{TellsAbove}
+use Rattle.law_order.proofs.OfLooks.Truth.{looks_true, tells_above, tells_upto}
 use Rattle.law_order.proofs.OfEnabled.Changes.{changes_published}
 use Rattle.law_order.proofs.OfEnabled.Own.{own_enabled}
 use Rattle.law_order.proofs.OfReads.LifeReads.{answers_enabled, reads_begin_so, reads_go_on}
@@ -38,10 +37,10 @@ use Rattle.law_order.proofs.OfSwept.Upto.{UptoSo, upto_first, upto_then}
 use Rattle.law_order.proofs.OfTold.Enabled.{lines_enabled, mapped_crashed}
 use Rattle.law_order.proofs.OfTruth.Truth.{words_true}
 use Rattle.law_order.specs.Ordered.Keeps.{KeepsOrder}
-use Rattle.law_order.specs.Ordered.Met.{AllReadsSeek, MeetsItsReads, PollsTryNoRead}
+use Rattle.law_order.specs.Ordered.Met.{AllReadsSeek, MeetsItsReads, PollsTryNoRead, PollsTryWhatIsGone, ReadsSeekOrWereTold}
 use Rattle.law_order.proofs.OfOrdered.Floors.{begin_was, begins_first, begins_then}
 use Rattle.law_order.proofs.OfOrdered.Met.{reads_met}
-use Rattle.law_order.proofs.OfOrdered.Seeking.{AllSeekSo, seeking_all, seeking_first, seeking_polls, seeking_then}
+use Rattle.law_order.proofs.OfOrdered.Seeking.{AllSeekSo, seeking_all, seeking_first, seeking_polls, seeking_then, stays_seeking, stays_untried}
 
 -- ---- at first nothing has happened
 pub begins_ordered : (life : BegunLife) → KeepsOrder life.opening life.ghosts []
@@ -152,18 +151,24 @@ module _ (calls : CallsLaw) (words : WordsLaw) (given : Given) (life : BegunLife
       let its : Going events = through events fits apart in
       reads_met given life opens events its.order.enabled (λ session s found. known_now life.opening life.ghosts events its.order.known session s found) (told_truly events fits its.order) its.order.apart its.shifts
 
-  -- so each that waits seeks a record, while the log begins where it did at first
-  seek_through : (events : List Event) → CallsFit events → TicketsAreApart life.opening events → BeginStays life.opening events → AllSeekSo life.opening events
-  seek_through [] fits apart stays = seeking_first life
-  seek_through (event ∷ before) fits apart stays =
-      let stayed : BeginStays life.opening before = stayed_before life (event ∷ []) before stays in
+  -- so each that waits seeks a record, or was told that it is gone
+  seek_through : (events : List Event) → CallsFit events → TicketsAreApart life.opening events → AllSeekSo life.opening events
+  seek_through [] fits apart = seeking_first life
+  seek_through (event ∷ before) fits apart =
       let earlier : TicketsAreApart life.opening before = apart_before life.opening before event apart in
       let its : KeepsOrder life.opening life.ghosts before = life_goes before fits.1 earlier in
-      let none : NoneGone (run life.opening before).now = takes_there life before its.enabled its.known (go before fits.1) (served before fits.1 its) stayed in
-      seeking_then life before event (life_meets before fits.1 earlier) none (seek_through before fits.1 earlier stayed)
+      let above : TellsAbove (begin_in life.opening) (run life.opening before).now = tells_above life before its.enabled its.known (go before fits.1) (served before fits.1 its) in
+      seeking_then life before event (life_meets before fits.1 earlier) above (told_upto before fits.1 its) (seek_through before fits.1 earlier)
 
+  pub life_seek_or_told : (events : List Event) → CallsFit events → TicketsAreApart life.opening events → ReadsSeekOrWereTold life.opening events
+  life_seek_or_told events fits apart = seeking_all life.opening events (seek_through events fits apart)
+
+  pub life_polls_gone : (events : List Event) → CallsFit events → TicketsAreApart life.opening events → PollsTryWhatIsGone life.opening events
+  life_polls_gone events fits apart = seeking_polls life events (seek_through events fits apart)
+
+  -- while the log begins where it did at first none is
   pub life_seek : (events : List Event) → CallsFit events → TicketsAreApart life.opening events → BeginStays life.opening events → AllReadsSeek life.opening events
-  life_seek events fits apart stays = seeking_all life.opening events (seek_through events fits apart stays)
+  life_seek events fits apart stays = stays_seeking life events stays (life_seek_or_told events fits apart)
 
   pub life_polls : (events : List Event) → CallsFit events → TicketsAreApart life.opening events → BeginStays life.opening events → PollsTryNoRead life.opening events
-  life_polls events fits apart stays = seeking_polls life events (seek_through events fits apart stays)
+  life_polls events fits apart stays = stays_untried life events stays (life_polls_gone events fits apart)

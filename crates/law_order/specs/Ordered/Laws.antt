@@ -6,7 +6,7 @@ use Rattle.law_order.specs.Known.Begins.{BeginStays, BegunLife, home_of_world}
 use Rattle.law_order.specs.Known.Told.{TicketsAreApart}
 use Rattle.law_commit.specs.Below.law_refine.Events.GhostEvents.{mapped}
 use Rattle.law_order.specs.Ordered.Keeps.{KeepsOrder}
-use Rattle.law_order.specs.Ordered.Met.{AllReadsSeek, MeetsItsReads, PollsTryNoRead}
+use Rattle.law_order.specs.Ordered.Met.{AllReadsSeek, MeetsItsReads, PollsTryNoRead, PollsTryWhatIsGone, ReadsSeekOrWereTold}
 use Rattle.law_commit.specs.Below.law_refine.Records.Changes.{AreChangesPublished}
 use Rattle.law_order.specs.Apart.Given.{Given}
 use Rattle.law_order.specs.Apart.Lives.{OpensApart}
@@ -35,6 +35,18 @@ abbrev pub MeetsReadsInLives : Type 0
 MeetsReadsInLives =
     (life : BegunLife) (events : List Event) → Given → OpensApart life → CellsFit life.ghosts.log → CallsFit events → TicketsAreApart life.opening events
     → MeetsItsReads life.opening events
+
+-- so each that waits seeks a record of the device, or was told that its record is gone
+abbrev pub SeeksOrWasToldInLives : Type 0
+SeeksOrWasToldInLives =
+    (life : BegunLife) (events : List Event) → Given → OpensApart life → CellsFit life.ghosts.log → CallsFit events → TicketsAreApart life.opening events
+    → ReadsSeekOrWereTold life.opening events
+
+-- and a poll tries one only where it was told so
+abbrev pub PollsTryWhatIsGoneInLives : Type 0
+PollsTryWhatIsGoneInLives =
+    (life : BegunLife) (events : List Event) → Given → OpensApart life → CellsFit life.ghosts.log → CallsFit events → TicketsAreApart life.opening events
+    → PollsTryWhatIsGone life.opening events
 
 -- so while the log begins where it did at first each that waits seeks a record of the device
 abbrev pub SeeksInLives : Type 0
