@@ -1,5 +1,5 @@
 -- Where the log of each commit begins that has begun in a life: where the newest finished one's does, or further on, at the end of a sweep.
-use Rattle.std.proofs.Common.{◌≡◌, ◌⊎◌, inl, inr, ℕ, ◌≤◌, List, [], ◌∷◌, refl, ap, sym, subst, arith, Bool, true, false}
+use Rattle.std.proofs.Common.{◌≡◌, inl, inr, ℕ, ◌≤◌, List, [], ◌∷◌, refl, ap, sym, subst, arith, Bool, true, false}
 use Rattle.std.specs.Prelude.{Option, Some, None}
 use Rattle.fkv_base.specs.declared.numbers.Addr.{Addr}
 use Rattle.fkv_base.specs.declared.numbers.Serial.{Serial}
@@ -16,7 +16,7 @@ use Rattle.law_refine.specs.Below.fkv_keeper.TheKeeping.TheVariants.{Ended, Star
 use Rattle.law_refine.specs.Below.fkv_keeper.Keeping.{KeeperState, come_to}
 use Rattle.law_refine.specs.Below.fkv_keeper.KeeperLaws.{MayRest}
 use Rattle.law_refine.specs.Below.fkv_keeper.KeeperRun.{BeginsCommit, BeginsTurn, Calls, Gets, IsOpened, KeeperEvent, Replies, keeper_run}
-use Rattle.law_refine.specs.Below.fkv_keeper.SlotLaws.{HasBegin, HasMoved}
+use Rattle.law_refine.specs.Below.fkv_keeper.SlotLaws.{HasBegin}
 use Rattle.law_refine.specs.Below.fkv_world.Opened.{IsOpenedWorld}
 use Rattle.law_refine.specs.Below.fkv_world.OwnEvents.{keeper_events}
 use Rattle.law_refine.specs.Below.fkv_world.Runs.{World, run}

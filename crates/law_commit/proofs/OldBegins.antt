@@ -26,7 +26,7 @@ use Rattle.law_refine.proofs.Below.fkv_keeper.Shown.{each_move, run_begins, swee
 use Rattle.law_refine.proofs.Below.law_world.OfKeeper.OwnRun.{of_keeper}
 use Rattle.law_commit.specs.Begins.{OldBeginAsOpened, OpensScanned}
 use Rattle.law_commit.specs.BegunCommits.{life_begun}
-use Rattle.law_commit.specs.CommitParts.{CommitParts, parts_opening}
+use Rattle.law_commit.specs.CommitParts.{CommitParts}
 use Rattle.law_commit.proofs.AllBegun.{AllParts, event_parts, opened_parts, parts_of}
 use Rattle.law_commit.proofs.InTurn.{NextInHand, run_next, some_commit}
 use Rattle.law_commit.proofs.NextNumbers.{numbers_in_turn}
@@ -115,7 +115,7 @@ event_old shape p opening event before opened turn past = by (each_move shape p 
         ends_old opening.last.begin opening.last.checkpoint s a next c found (ap (λ (f : Finality). f.number) last) (ap (λ (f : Finality). f.begin) last) (ap (λ (f : Finality). f.checkpoint) last) c.kind refl
         (run_uses_by shape p opening before c opened (subst IsBehindWait (sym ends.2.finishes) tt) found) (λ none. hand_stays s c none ((run_begins shape p opening before opened).commit c found))
         (λ log none. event_none event s.step s a
-            (λ set. is_none (sweep_set s set.commit) a.sweep set.same (set_none s set.commit (ap (λ (x : Commit). x.kind) (some_commit s.commit set.commit c set.in_hand found) ∙ log) none)) none (sweep_moves shape p s event))
+        (λ set. is_none (sweep_set s set.commit) a.sweep set.same (set_none s set.commit (ap (λ (x : Commit). x.kind) (some_commit s.commit set.commit c set.in_hand found) ∙ log) none)) none (sweep_moves shape p s event))
         past
 
 run_is_old : (shape : Shape) (p : Places) (opening : KeeperState) (events : List KeeperEvent) → IsOpened opening → AreNumbersInTurn shape p opening events → opening.last.checkpoint.number.0 ≤ opening.last.number.0

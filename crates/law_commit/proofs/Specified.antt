@@ -1,8 +1,7 @@
 -- A specified store sets no sweep, so its log begins for good where it did as the store was opened.
 use Rattle.std.proofs.Common.{◌≡◌, ◌⊎◌, inl, inr, ◌∙◌, List, [], ◌∷◌, refl, ap, sym, subst, Bool, true, false}
-use Rattle.std.specs.Prelude.{Some, None, ◌&&◌, ◌||◌, ◌==◌, ◌^◌, not, nat_le, if◌then◌else◌}
+use Rattle.std.specs.Prelude.{Some, ◌&&◌, ◌||◌, ◌==◌, ◌^◌, not, nat_le, if◌then◌else◌}
 use Rattle.fkv_base.specs.Limits.{is_specified}
-use Rattle.fkv_base.specs.declared.classes.StoreClass.{StoreClass}
 use Rattle.fkv_base.specs.declared.numbers.Addr.{Addr}
 use Rattle.fkv_base.specs.declared.numbers.Serial.{Serial}
 use Rattle.fkv_base.specs.declared.shapes.Shape.{Shape}

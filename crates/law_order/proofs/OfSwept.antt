@@ -13,5 +13,7 @@ pub mod Opened
 pub mod Replies
 pub mod Shown
 pub mod Sound
+pub mod Starts
 pub mod Told
+pub mod Upto
 pub mod Words

@@ -1,5 +1,5 @@
 -- The log of each commit that has begun in a life begins at or below its first address, and that of the checkpoint that it uses.
-use Rattle.std.proofs.Common.{◌≡◌, ◌⊎◌, inl, inr, ℕ, ◌+◌, ◌≤◌, ◌∙◌, List, [], ◌∷◌, ◌++◌, refl, ap, sym, subst, arith}
+use Rattle.std.proofs.Common.{◌≡◌, ◌⊎◌, inl, inr, ℕ, ◌+◌, ◌≤◌, List, [], ◌∷◌, refl, ap, sym, subst, arith}
 use Rattle.std.specs.Prelude.{Some}
 use Rattle.fkv_base.specs.declared.commits.CommitKind.{CommitKind}
 use Rattle.fkv_base.specs.declared.commits.CommitKind.TheVariants.{Full, Log}
@@ -14,18 +14,18 @@ use Rattle.law_refine.specs.Below.fkv_keeper.CheckpointLaws.{IsBehindWait}
 use Rattle.law_refine.specs.Below.fkv_keeper.Keeping.{Finality, KeeperState, come_to}
 use Rattle.law_refine.specs.Below.fkv_keeper.SlotLaws.{HasMoved}
 use Rattle.law_refine.specs.Below.fkv_keeper.TheKeeping.{Keeping}
-use Rattle.law_refine.specs.Below.fkv_keeper.TheKeeping.TheVariants.{Starts, Writes}
+use Rattle.law_refine.specs.Below.fkv_keeper.TheKeeping.TheVariants.{Writes}
 use Rattle.law_refine.specs.Below.fkv_world.Opened.{IsOpenedWorld}
 use Rattle.law_refine.specs.Below.fkv_world.OwnEvents.{keeper_events}
 use Rattle.law_refine.specs.Below.fkv_world.Runs.{World, run}
-use Rattle.law_refine.specs.Below.fkv_world.World.{Event, Now}
+use Rattle.law_refine.specs.Below.fkv_world.World.{Event}
 use Rattle.law_refine.specs.Events.Reserved.{tail_at}
 use Rattle.law_refine.proofs.Below.law_world.OfKeeper.OwnRun.{keeper_begins, of_keeper}
 use Rattle.law_commit.specs.Begins.{BegunBeginBelow, BeginsBelow, OpensScanned}
-use Rattle.law_commit.specs.BegunCommits.{BegunCommit, life_begun}
+use Rattle.law_commit.specs.BegunCommits.{life_begun}
 use Rattle.law_commit.specs.CommitParts.{CommitParts, parts_opening}
-use Rattle.law_commit.specs.Decided.Ended.{HadMoment, IsWrittenNow, LoadsFirst, span_in}
-use Rattle.law_commit.specs.Phases.Staged.{HasInHand, Stage, StartAt, StepAt}
+use Rattle.law_commit.specs.Decided.Ended.{HadMoment, LoadsFirst, span_in}
+use Rattle.law_commit.specs.Phases.Staged.{StartAt, StepAt}
 use Rattle.law_commit.proofs.AllBegun.{AllParts, event_parts, opened_parts, parts_of, weaker_parts}
 use Rattle.law_commit.proofs.Lasts.{IsOrNewer, life_last}
 use Rattle.law_commit.proofs.LifeBegun.{life_stands}

@@ -1,5 +1,6 @@
 -- One event of the keeper after another: the newest finished commit stays the newest, until the next one is finished.
 use Rattle.std.proofs.Common.{◌≡◌, ◌⊎◌, inl, inr, ℕ, ◌∙◌, refl, sym, ap, subst, Bool, true, false, List, [], ◌∷◌, ◌++◌, length}
+use Rattle.std.specs.Option.{is_some}
 use Rattle.std.specs.Prelude.{⊤, ◌*◌, if◌then◌else◌, Option, Some, None}
 use Rattle.fkv_base.specs.declared.commits.CommitKind.{CommitKind}
 use Rattle.fkv_base.specs.declared.commits.CommitKind.TheVariants.{Full, Log}
@@ -584,7 +585,7 @@ module _ (shape : Shape) (opened : List ℕ) (first : BegunCommit) (Good : Begun
     by_end none (inr broken) = rest_breaks broken none
 
     rest_now : (b : Bool) → after.rests ≡ b → Now after
-    rest_now true e = rest_still (rests_still shape p s event rests resting.rests resting.serves e) e
+    rest_now true e = rest_still (rests_still shape p s event rests (ap is_some resting.in_hand) resting.rests resting.serves e) e
     rest_now false e = by_end e (rest_ends shape p s event rests resting.rests e)
 
     rest_on : Comes p s was its w begun event s.step (calls_of shape s event ++ calls) after

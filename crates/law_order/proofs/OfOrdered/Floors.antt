@@ -17,12 +17,13 @@ use Rattle.law_commit.proofs.Below.law_local.OfSessions.Known.{opened_known}
 use Rattle.law_commit.proofs.Below.law_refine.OfSeen.Floors.{floors_rise, floors_stay}
 use Rattle.law_log.specs.Begins.{Live, StaysFromThere}
 use Rattle.law_log.specs.Enabled.{AreEnabled}
-use Rattle.law_log.specs.Ghosts.{Log}
+use Rattle.law_log.specs.Ghosts.{Log, ghost_run}
 use Rattle.law_order.specs.Known.Begins.{BegunLife, begin_in, home_of_world}
 use Rattle.law_order.specs.Known.Floors.{DoesWithout, GoesByBegin}
 use Rattle.law_order.proofs.OfKnown.Begins.{begin_fixed, begin_rises, first_live}
 use Rattle.law_order.proofs.OfOneHistory.StaysLive.{life_stays}
 use Rattle.law_order.proofs.OfSwept.Sound.{SweepsSo, hand_fixed, hand_live}
+use Rattle.law_order.proofs.OfSwept.Upto.{UptoSo, hand_upto}
 use Rattle.law_order.proofs.OfSwept.Told.{IsSlotAsk, event_parts, finishes_no_slot}
 
 -- ---- as a life begins each has it as its floor, and no request
@@ -39,7 +40,7 @@ no_commit : {X : Type 0} (c : Commit) → None ≡ Some c → X
 no_commit c e = cc
 
 pub begins_first : (life : BegunLife) → GoesByBegin life.opening life.ghosts []
-unfolding run mapped
+unfolding run mapped ghost_run
 begins_first life = record { fixed = begin_fixed life []; live = first_live life; floors = first_floors life; commit = λ c is. no_commit c (sym life.begins.world.keeper.no_commit ∙ is) }
 
 -- ---- by each event
@@ -91,16 +92,16 @@ module _ (life : BegunLife) (before : List Event) (event : Event) where
       (event_parts (run life.opening before) event (λ own. CameFrom N.keeper (keeper_run N.shape N.places N.keeper own)) (same_from N.keeper) (λ own told. one_from N.keeper own) (λ own other told slot. two_from N.keeper own other slot))
 
   -- so the log as it was does without what lies below the begin of now
-  begin_was : GoesByBegin life.opening life.ghosts before → DoesWithout (begin_in (run life.opening (event ∷ before))) H (log_behind before)
+  pub begin_was : GoesByBegin life.opening life.ghosts before → DoesWithout (begin_in (run life.opening (event ∷ before))) H (log_behind before)
   begin_was its = elim (let from = came_from in from.begin) [
     | inl same ↦ subst (λ (a : Addr). DoesWithout a.0 H (log_behind before)) (sym same) (record { fixed = its.fixed; live = its.live })
     | inr ends ↦ subst (λ (a : Addr). DoesWithout a.0 H (log_behind before)) (sym ends.2) ((its.commit ends.0 ends.1).its)
   ]
 
   -- and whoever is told of a begin is told of none above it
-  pub begins_then : StaysFromThere Live → AreEnabled H life.ghosts (mapped life.opening (event ∷ before)) → TellsUpto (begin_in (run life.opening before)) N → GoesByBegin life.opening life.ghosts before → SweepsSo life (event ∷ before)
+  pub begins_then : StaysFromThere Live → AreEnabled H life.ghosts (mapped life.opening (event ∷ before)) → TellsUpto (begin_in (run life.opening before)) N → GoesByBegin life.opening life.ghosts before → SweepsSo life (event ∷ before) → UptoSo life (event ∷ before)
       → GoesByBegin life.opening life.ghosts (event ∷ before)
-  begins_then stays enabled tells its sweeps =
+  begins_then stays enabled tells its sweeps upto =
       let was : DoesWithout (begin_in (run life.opening (event ∷ before))) H (log_behind before) = begin_was its in
       let live : Live (begin_in (run life.opening (event ∷ before))) H (log_behind (event ∷ before)) =
       life_stays life Live (begin_in (run life.opening (event ∷ before))) (event ∷ []) before stays enabled was.fixed was.live in
@@ -109,5 +110,5 @@ module _ (life : BegunLife) (before : List Event) (event : Event) where
         live = live;
         floors = floors_rise (begin_in (run life.opening before)) (begin_in (run life.opening (event ∷ before))) (run life.opening (event ∷ before)).now (begin_rises life (event ∷ []) before)
             (floors_stay (begin_in (run life.opening before)) life.opening before event tells its.floors);
-        commit = λ c is. record { fixed = hand_fixed life (event ∷ before) c is; live = hand_live life (event ∷ before) c enabled sweeps live is };
+        commit = λ c is. record { its = record { fixed = hand_fixed life (event ∷ before) c is; live = hand_live life (event ∷ before) c enabled sweeps live is }; upto = hand_upto life (event ∷ before) c upto is };
       }

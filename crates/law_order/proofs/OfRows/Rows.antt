@@ -1,5 +1,5 @@
 -- What sessions know of the log beside a life goes on by each event.
-use Rattle.std.proofs.Common.{◌≡◌, ◌≢◌, ℕ, ◌<◌, ◌≤◌, ◌∙◌, List, ◌∷◌, refl, arith, ap, sym, subst, Bool, true, false, eqb-true}
+use Rattle.std.proofs.Common.{◌≡◌, ◌≢◌, ℕ, ◌<◌, ◌≤◌, ◌∙◌, List, ◌∷◌, refl, arith, ap, sym, subst, Bool, true, false, eqb-true, []}
 use Rattle.std.specs.Prelude.{Some, None, slice_get}
 use Rattle.fkv_map.specs.Map.{is_reserved}
 use Rattle.law_log.specs.Begins.{Live}

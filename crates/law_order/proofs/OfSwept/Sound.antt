@@ -17,7 +17,7 @@ use Rattle.fkv_sweep.specs.SweptLogs.{SweptLog}
 use Rattle.law_commit.specs.Below.fkv_commit.Commit.{Commit}
 use Rattle.law_commit.specs.Below.fkv_flush.GuardLevels.{levels_of}
 use Rattle.law_commit.specs.Below.fkv_keeper.CheckpointLaws.{IsFinished, MayFollow, MayStep}
-use Rattle.law_commit.specs.Below.fkv_keeper.Keeping.{Finality, KeeperState, keeper_ask, may_set, sweep_set}
+use Rattle.law_commit.specs.Below.fkv_keeper.Keeping.{Finality, KeeperState, is_swept, keeper_ask, may_set, sweep_set}
 use Rattle.law_commit.specs.Below.fkv_keeper.KeeperRun.{Calls, KeeperEvent, Replies, keeper_happens, keeper_run}
 use Rattle.law_commit.specs.Below.fkv_keeper.SlotLaws.{HasBegin, HasMoved}
 use Rattle.law_commit.specs.Below.fkv_keeper.SweepLaws.{IsSweepBegun, IsSweepLeft, IsSweepSet}
@@ -163,7 +163,7 @@ module _ (life : BegunLife) where
 
     -- no turn of a sweep follows a finish
     none_follows : {X : Type 0} (rests : Bool) (step after : Keeping) → MayStep rests step after → step ≡ Finishes → after ≡ Sweeps → X
-    none_follows rests step after may at then = absurd (by rests (subst (λ (k : Keeping). MayStep rests k Sweeps) at (subst (λ (k : Keeping). MayStep rests step k) then may)))
+    none_follows rests step after may at next = absurd (by rests (subst (λ (k : Keeping). MayStep rests k Sweeps) at (subst (λ (k : Keeping). MayStep rests step k) next may)))
       where
         by : (b : Bool) → MayStep b Finishes Sweeps → ⊥
         by true may = may
@@ -211,7 +211,7 @@ module _ (life : BegunLife) where
       }
       goes_by (IsSet at set) = record {
         sound = subst (λ (w : Sweeper). IsSweepSound w L) (sym set.same) (set_sound first set.commit (may_set first set.commit) its.sound);
-        knows = λ then. none_follows first.rests first.step a.step (each_move N.shape N.places first own).one.steps at then;
+        knows = λ next. none_follows first.rests first.step a.step (each_move N.shape N.places first own).one.steps at next;
         head = (let is = ap (λ (w : Sweeper). w.head.0) set.same in let low : (sweep_set first set.commit).head.0 ≤ flushed = set_head first set.commit (may_set first set.commit) its.head in omega (arith, is, low));
         to = its_to;
       }
@@ -221,7 +221,7 @@ module _ (life : BegunLife) where
           let now : a.sweep ≡ sweep_next first.sweep answer = is ∙ ap (λ (x : ℕ). sweep_next first.sweep x) same in
           record {
             sound = subst (λ (w : Sweeper). IsSweepSound w L) (sym now) (reply_sound life before first.sweep store enabled published (its.knows at) its.sound);
-            knows = λ then. subst (KnowsWords life.opening life.lists (event ∷ before)) (sym now) (knows_on (sweep_next first.sweep answer) at (replied_knows life.opening life.lists before life.begins.index first.sweep store (its.knows at)));
+            knows = λ next. subst (KnowsWords life.opening life.lists (event ∷ before)) (sym now) (knows_on (sweep_next first.sweep answer) at (replied_knows life.opening life.lists before life.begins.index first.sweep store (its.knows at)));
             head = (let there = ap (λ (w : Sweeper). w.head.0) now in let low = head_next flushed first.sweep answer (loads_head answer refl) its.head in omega (arith, there, low));
             to = its_to;
           }
@@ -232,13 +232,13 @@ module _ (life : BegunLife) where
           let some : 0 < first.sweep.to.0 = store.its_end in
           record {
             sound = subst (λ (w : Sweeper). IsSweepSound w L) (sym now) (life_read_sound calls life before was fits enabled first.sweep (of_store before).its_shape (its_end before) some its.to its.head its.sound);
-            knows = λ then. subst (KnowsWords life.opening life.lists (event ∷ before)) (sym now) (knows_on (sweep_read first.sweep seen) at (read_knows life.opening life.lists before life.begins.index first.sweep seen store (its.knows at)));
+            knows = λ next. subst (KnowsWords life.opening life.lists (event ∷ before)) (sym now) (knows_on (sweep_read first.sweep seen) at (read_knows life.opening life.lists before life.begins.index first.sweep seen store (its.knows at)));
             head = (let there = ap (λ (w : Sweeper). w.head.0) now in let low = head_read flushed first.sweep seen its.head in omega (arith, there, low));
             to = its_to;
           }
       goes_by (ReadFails at is) = record {
         sound = subst (λ (w : Sweeper). IsSweepSound w L) (sym is) (sweep_failed_sound first.sweep L its.sound);
-        knows = λ then. subst (KnowsWords life.opening life.lists (event ∷ before)) (sym is) (failed_knows life.opening life.lists (event ∷ before) first.sweep);
+        knows = λ next. subst (KnowsWords life.opening life.lists (event ∷ before)) (sym is) (failed_knows life.opening life.lists (event ∷ before) first.sweep);
         head = (let there = ap (λ (w : Sweeper). w.head.0) is in let low = its.head in omega (arith, there, low));
         to = its_to;
       }
@@ -248,32 +248,32 @@ module _ (life : BegunLife) where
 
     -- ---- and the second, which turns to a drain slot: so it is no step of the sweep, and no finish
     module _ (s : KeeperState) (own : KeeperEvent) (slot : IsSlotAsk (keeper_ask N.shape N.places s)) (so : Between s) where
-      abbrev then : KeeperState
-      then = keeper_happens N.shape N.places s own
+      abbrev later_keeper : KeeperState
+      later_keeper = keeper_happens N.shape N.places s own
 
       at_sweep : {X : Type 0} → s.step ≡ Sweeps → X
       at_sweep at = sweeps_no_slot N.shape N.places s at (sweep_sound_loads s.sweep L so.sound) slot
 
-      goes_then : SweepMove s then own → Between then
-      goes_then (Stays left) = record {
+      goes_second : SweepMove s later_keeper own → Between later_keeper
+      goes_second (Stays left) = record {
         sound = subst (λ (w : Sweeper). IsSweepSound w L) (sym left.same) so.sound;
         knows = λ at. at_sweep (left.none_begins at);
         head = (let is = ap (λ (w : Sweeper). w.head.0) left.same in let low = so.head in omega (arith, is, low));
         to = (let is = ap (λ (w : Sweeper). w.to.0) left.same in let low = so.to in omega (arith, is, low));
       }
-      goes_then (TurnBegins begun) = record {
+      goes_second (TurnBegins begun) = record {
         sound = subst (λ (w : Sweeper). IsSweepSound w L) (sym begun.same) (sweep_turn_sound s.sweep L so.sound);
         knows = λ at. subst (KnowsWords life.opening life.lists (event ∷ before)) (sym begun.same) (begun_knows life.opening life.lists (event ∷ before) s.sweep);
         head = (let is = ap (λ (w : Sweeper). w.head.0) begun.same in let low = so.head in omega (arith, is, low));
         to = (let is = ap (λ (w : Sweeper). w.to.0) begun.same in let low = so.to in omega (arith, is, low));
       }
-      goes_then (IsSet at set) = finishes_no_slot N.shape N.places s at slot
-      goes_then (IsReplied reply granted e at is) = at_sweep at
-      goes_then (IsRead bytes e at is) = at_sweep at
-      goes_then (ReadFails at is) = at_sweep at
+      goes_second (IsSet at set) = finishes_no_slot N.shape N.places s at slot
+      goes_second (IsReplied reply granted e at is) = at_sweep at
+      goes_second (IsRead bytes e at is) = at_sweep at
+      goes_second (ReadFails at is) = at_sweep at
 
-      two_steps : Between then
-      two_steps = goes_then (move_of s then s.step own refl (sweep_moves N.shape N.places s own))
+      two_steps : Between later_keeper
+      two_steps = goes_second (move_of s later_keeper s.step own refl (sweep_moves N.shape N.places s own))
 
     -- ---- where it is nothing to the keeper
     no_step : Between first
@@ -288,6 +288,14 @@ module _ (life : BegunLife) where
     pub sweeps_between : Between (keeper_behind (event ∷ before))
     unfolding run
     sweeps_between = subst Between (sym (happens_keeper W event)) behind_part
+
+    -- where it ends all below is fixed in the log as it was
+    pub sweeps_fixed : (keeper_behind (event ∷ before)).sweep.to.0 ≤ (log_behind before).fixed
+    sweeps_fixed =
+        let between : Between (keeper_behind (event ∷ before)) = sweeps_between in
+        let to = between.to in
+        let fixed = flushed_is_fixed life before in
+        omega (arith, to, fixed)
 
     -- so it goes on to be sound as the log grows
     pub sweeps_then : AreEnabled (home_of_world life.opening) life.ghosts (mapped life.opening (event ∷ before)) → SweepsSo (event ∷ before)
@@ -307,17 +315,22 @@ module _ (life : BegunLife) where
         }
 
   -- ---- where the log begins
-  -- The log does without its records below the begin of the commit in hand, where it does without those below the newest finished one's.
+  -- The log does without its records below the end of a sweep that is done, where it does without those below where that began.
+  pub sweep_live : (events : List Event) → AreEnabled (home_of_world life.opening) life.ghosts (mapped life.opening events) → SweepsSo events → Live (begin_in (run life.opening events)) (home_of_world life.opening) (log_behind events)
+      → is_swept (keeper_behind events).sweep ≡ true → (keeper_behind events).sweep.from ≡ (keeper_behind events).last.begin → Live (keeper_behind events).sweep.to.0 (home_of_world life.opening) (log_behind events)
+  sweep_live events enabled so live swept begun =
+      let w : Sweeper = (keeper_behind events).sweep in
+      let done : w.at.0 ≡ w.to.0 = eqb-true w.at.0 w.to.0 swept in
+      let from : Live w.from.0 (home_of_world life.opening) (log_behind events) = subst (λ (a : Addr). Live a.0 (home_of_world life.opening) (log_behind events)) (sym begun) live in
+      life_live_swept life w events enabled (ap (λ (x : Shape). x.bucket_bits) (of_store events).its_shape) done (sweep_sound_swept w (swept_log (log_behind events)) so.sound) from
+
+  -- So it does without its records below the begin of the commit in hand, where it does without those below the newest finished one's.
   pub hand_live : (events : List Event) (c : Commit) → AreEnabled (home_of_world life.opening) life.ghosts (mapped life.opening events) → SweepsSo events
       → Live (begin_in (run life.opening events)) (home_of_world life.opening) (log_behind events) → (keeper_behind events).commit ≡ Some c → Live c.begin.0 (home_of_world life.opening) (log_behind events)
   hand_live events c enabled so live is = elim ((keeper_begins life.opening events life.begins.world).commit c is) [
     | inl same ↦ subst (λ (a : Addr). Live a.0 (home_of_world life.opening) (log_behind events)) (sym same) live
     | inr moved ↦
-        let w : Sweeper = (keeper_behind events).sweep in
-        let done : w.at.0 ≡ w.to.0 = eqb-true w.at.0 w.to.0 moved.swept in
-        let from : Live w.from.0 (home_of_world life.opening) (log_behind events) = subst (λ (a : Addr). Live a.0 (home_of_world life.opening) (log_behind events)) (sym moved.from) live in
-        subst (λ (a : Addr). Live a.0 (home_of_world life.opening) (log_behind events)) (sym moved.to)
-        (life_live_swept life w events enabled (ap (λ (x : Shape). x.bucket_bits) (of_store events).its_shape) done (sweep_sound_swept w (swept_log (log_behind events)) so.sound) from)
+        subst (λ (a : Addr). Live a.0 (home_of_world life.opening) (log_behind events)) (sym moved.to) (sweep_live events enabled so live moved.swept moved.from)
   ]
 
   -- and what lies there is fixed

@@ -49,9 +49,9 @@ IsSlotAsk ask = ⊥
 -- ---- An event of a life is nothing to the keeper, or one event, or two, of which the second is of a drain slot.
 module _ (words read : List ℕ) (shape : Shape) (p : Places) (P : List KeeperEvent → Type 0) where
   record Parts (s : KeeperState) : Type 0 where
-    pub nothing : P []
-    pub one : (event : KeeperEvent) → IsTold words read shape p s event → P (event ∷ [])
-    pub two : (event other : KeeperEvent) → IsTold words read shape p s event → IsSlotAsk (keeper_ask shape p (keeper_happens shape p s event)) → P (other ∷ event ∷ [])
+    nothing : P []
+    one : (event : KeeperEvent) → IsTold words read shape p s event → P (event ∷ [])
+    two : (event other : KeeperEvent) → IsTold words read shape p s event → IsSlotAsk (keeper_ask shape p (keeper_happens shape p s event)) → P (other ∷ event ∷ [])
 
   got_one : (s : KeeperState) (found : Option Action) → Parts s → P (keeper_got found)
   got_one s None parts = parts.nothing

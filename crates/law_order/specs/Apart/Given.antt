@@ -8,7 +8,8 @@ use Rattle.law_commit.specs.Quiet.{LatchesAtItsVersion, NoneIsLeft}
 use Rattle.law_commit.specs.Shares.Alone.{BitIsPastPrepare}
 use Rattle.law_commit.specs.Shares.Since.{OlderComeSharing}
 use Rattle.law_commit.specs.Shares.Waiting.{SharesInPrepare}
-use Rattle.law_log.specs.Begins.{Live, StaysFromThere}
+use Rattle.law_log.specs.Begins.{EachVersionStaysLive, Live, LiveAtRest, StaysFromThere}
+use Rattle.law_commit.specs.Versions.Laws.{HasCellsUpto}
 use Rattle.law_commit.specs.Below.law_refine.Latches.InTries.{StandsBesideNone}
 
 pub record Given : Type 0 where
@@ -27,3 +28,6 @@ pub record Given : Type 0 where
   pub ended : CommitsHaveEnded
   pub later : OfEachBegun IsLaterFromEnd
   pub stays : StaysFromThere Live
+  pub versions : EachVersionStaysLive
+  pub rest : LiveAtRest
+  pub cells : HasCellsUpto

@@ -18,4 +18,7 @@ returns c = record {
   ended = c.law_commits_ended.ensures;
   later = c.law_commits_cut.ensures.later;
   stays = c.law_live_stays.ensures.stays;
+  versions = c.law_live_stays.ensures.versions;
+  rest = c.law_live_stays.ensures.rest;
+  cells = c.law_versions_bounded.ensures.cells;
 }

@@ -67,8 +67,8 @@ returns-clause-commits c = λ its is d there.
           let hand = was.commit in
           let number : d.number.0 ≡ hand.number.0 = ap (λ (x : Span). x.number.0) was.its in
           let begin : d.parts.begin.0 ≡ hand.begin.0 = ap (λ (x : Span). x.begin.0) was.its in
-          let then : Life = record { bytes = bytes; opened = o; world = n; events = had.moment } in
-          let keeps : KeepsItsOrder o n bytes had.moment = c.law_lives_keep_order.ensures then (life_before bytes o n had.later had.moment (subst (λ (events : List Event). IsLife (record { bytes = bytes; opened = o; world = n; events = events })) had.split is)) in
+          let short : Life = record { bytes = bytes; opened = o; world = n; events = had.moment } in
+          let keeps : KeepsItsOrder o n bytes had.moment = c.law_lives_keep_order.ensures short (life_before bytes o n had.later had.moment (subst (λ (events : List Event). IsLife (record { bytes = bytes; opened = o; world = n; events = events })) had.split is)) in
           let without = keeps.begin.commit hand was.in_hand in
           let now : LiveUpto hand.number.0 hand.begin.0 (homes_of n) (log_beside o n bytes its.events) =
           (returns-clause-stays c its is).upto hand.number.0 hand.begin.0 had.later had.moment had.split without.its.fixed without.upto in
