@@ -33,6 +33,7 @@ struct turn {
     uint64_t written; /* bytes */
     uint64_t end;     /* the furthest place that was written */
     uint64_t reads;   /* records that were read back */
+    uint64_t swept;   /* records that a sweep has read */
     uint64_t copied;  /* entries of the index that were written, as a full commit writes all */
     int why;          /* errno of the call of the file that has failed */
     bool has_called;  /* it has called the file, so the next turn may have something to do */
@@ -71,11 +72,24 @@ struct warmer {
     struct timespec rests_until;
 };
 
+/* What is known of the log's front, which is to be given back. It is of who has the turn, but for the keys: these are the keeper's thread's. */
+struct trimmer {
+    uint64_t begin;   /* where the newest finished commit's log begins, as far as the thread has seen */
+    uint64_t punched; /* all below was given back */
+    uint64_t swept;   /* records that sweeps have read */
+    size_t wanted;    /* so many keys wait to be kept */
+    uint64_t keys[FKV_MOST_WANTED];
+    bool is_on;       /* a commit was asked for behind which turns sweep, and none has moved the begin yet */
+    bool has_more;    /* the last turn that swept has read something */
+    bool cant_punch;  /* the file system gives nothing back */
+};
+
 struct fkv_file {
     int fd;
     char *path; /* without links; NULL where the system didn't say */
     uint32_t keys; /* how they are placed: see fkv_open */
     uint64_t warm; /* how many records an opening gives memory: see fkv_open */
+    uint64_t log_bytes; /* that were wished for the log, or 0 */
     fkv_shape shape; /* with the sessions of users alone, and all overflow buckets */
     bool is_living;  /* its calls leave room to its polls, so that none of these ever finds it full */
     bool has_own;    /* the session behind those of users is the library's */
@@ -110,6 +124,7 @@ struct fkv_file {
     atomic_bool has_found;   /* some session has found keys in the file alone */
     atomic_ullong kept;      /* updates that the library's session has made */
     struct warmer warmer;
+    struct trimmer trimmer;
     struct found found[FKV_MOST_SESSIONS];
 
     pthread_mutex_t lock;  /* of all that follows */
@@ -133,6 +148,7 @@ struct fkv_file {
     bool runs;         /* the thread itself resets it as it ends */
     bool stops;        /* it is to end */
     bool has_told_unwarmed; /* the hook `unwarmed` was called */
+    bool has_told_untrimmed; /* and `untrimmed` */
     bool nudged;       /* a turn is wanted at once */
     bool is_stirred;   /* something was asked or done since the keeper's last turn */
     bool rests;        /* the writes of the commit in hand rest before a sync, or a flush does */
@@ -241,6 +257,35 @@ bool fkv_awaits_warmer(fkv_file *file);
 /* A read of this session has found the key in the file alone. */
 void fkv_note_found(fkv_file *file, const fkv_session *session, uint64_t key);
 
+/* Keeps the records of these keys by the library's session, nothing of which is pending. Gives how many were taken. */
+size_t fkv_keep_own(fkv_file *file, const uint64_t *keys, size_t count);
+
+/* ---- Of the log's front. Who calls has the turn, but where it is said otherwise. --------------------------------------------------------- */
+
+/* Whether it can be given back in this store. */
+bool fkv_can_trim(const fkv_file *file);
+
+/* A run of the keeper's thread begins. */
+void fkv_begin_trimming(fkv_file *file);
+
+/* Whether the next commit should be one behind which turns sweep: the log is longer than it may be. */
+bool fkv_wants_trim(fkv_file *file);
+
+/* Whether turns may sweep now. The lock is held. */
+bool fkv_has_sweep(const fkv_file *file);
+
+/* Notes what a turn has found that swept. */
+void fkv_note_swept(fkv_file *file, const struct turn *turn);
+
+/* Has the library's session keep the keys that are wanted. The keeper's thread calls, without the turn. */
+void fkv_keep_wanted(fkv_file *file);
+
+/* A commit was finished: its log may begin further on. */
+void fkv_note_begin(fkv_file *file);
+
+/* Gives a piece of the front back. 0, or errno the one time that the file system can't. */
+int fkv_give_back(fkv_file *file);
+
 /* ---- Of records that the file alone has. The lock isn't held. --------------------------------------------------------------- */
 
 /* Reads a record by a mapping of the file. False where it can't, and then it is to be read otherwise. The caller has the turn. */
@@ -250,7 +295,7 @@ bool fkv_read_mapped(fkv_file *file, uint64_t place, uint8_t into[FKV_READ_SIZE]
 void fkv_drop_map(fkv_file *file);
 
 /* Reads a record that a turn has asked for, and notes whether a disk was waited for. 0, or -1 with errno. The caller has the turn. */
-int fkv_read_record(fkv_file *file, const fkv_turned *turned, uint8_t into[FKV_READ_SIZE]);
+int fkv_read_record(fkv_file *file, const fkv_turned *turned, uint8_t into[FKV_MOST_READ]);
 
 /*
  * Asks the system for the records of keys that will be read next, if its last reads had to wait for a disk. Of `count` keys those from `at` on
@@ -273,6 +318,9 @@ int32_t fkv_make_turn(fkv_file *file, struct turn *turn, tell_turn_fn *tell, voi
 
 /* The same of a turn that goes on with nothing that rests: it only serves then. */
 int32_t fkv_serve_turn(fkv_file *file, struct turn *turn, tell_turn_fn *tell, void *user);
+
+/* The same, but that a sweep of the log's front goes on. */
+int32_t fkv_sweep_turn(fkv_file *file, struct turn *turn, tell_turn_fn *tell, void *user);
 
 /*
  * Makes the sync before which the writes of a commit or a flush rest, without the turn. Who waits meanwhile serves by himself. The lock is held, but

@@ -19,6 +19,8 @@ enum {
      */
     HASTE_US = 500,
     HASTE_TURN_US = 20,
+    /* So long a commit waits for turns that sweep the log's front, behind the one before. */
+    SWEEPS_US = 10000,
     /* While no session is joined, which is told at once. */
     IDLE_TURN_US = 100000,
     /* While sessions are joined and nothing happens, rests grow after so many turns, up to so long. Who waits for a turn makes it. */
@@ -39,6 +41,7 @@ struct run {
     fkv_file *file;
     struct timespec next;  /* when the next commit by the clock is due */
     struct timespec haste; /* up to then the commit in hand makes haste */
+    struct timespec sweeps; /* up to then the next commit waits for turns that sweep */
     struct patience tends; /* with what was abandoned */
     uint32_t log_left;     /* so many log commits before the next full one */
     uint64_t written;      /* bytes, since the commit in hand began */
@@ -61,6 +64,8 @@ static bool goes_by_clock(const fkv_file *file) {
 static bool is_due(const struct run *run) {
     const fkv_file *file = run->file;
     if (file->in_hand || file->fault) return false;
+    /* Turns sweep with no commit in hand alone. If commits follow one another, they leave them some time. */
+    if (fkv_has_sweep(file) && file->trimmer.has_more && fkv_is_before(fkv_now(), run->sweeps)) return false;
     return file->asked > file->covers || (goes_by_clock(file) && !fkv_is_before(fkv_now(), run->next));
 }
 
@@ -83,13 +88,14 @@ static bool begin_commit(struct run *run) {
     uint64_t number;
     run->is_put_off = false;
     if (!is_due(run)) return false;
-    bool is_log = run->log_left > 0;
-    int32_t result = fkv_commit(&file->keeper, is_log, &number);
+    bool trims = fkv_wants_trim(file), is_log = !trims && run->log_left > 0;
+    int32_t result = fkv_commit(&file->keeper, trims ? FKV_TRIM : is_log ? FKV_LOG : FKV_FULL, &number);
     if (result == -FKV_LOST_FULL) {
         is_log = false;
-        result = fkv_commit(&file->keeper, 0, &number);
+        result = fkv_commit(&file->keeper, FKV_FULL, &number);
     }
     if (result == 0) {
+        file->trimmer.is_on |= trims;
         run->log_left = is_log ? run->log_left - 1 : file->keeping.log_commits;
         run->is_full = !is_log;
         note_begun(run);
@@ -102,7 +108,7 @@ static bool begin_commit(struct run *run) {
 }
 
 /* A store that has taken its last commit says so at once. */
-static void note_finished(const struct run *run, const struct turn *turn) {
+static void note_finished(struct run *run, const struct turn *turn) {
     fkv_file *file = run->file;
     file->finished = file->covers;
     file->number = turn->turned.number;
@@ -111,6 +117,7 @@ static void note_finished(const struct run *run, const struct turn *turn) {
     if (run->is_full) file->entries = run->copied;
     memcpy(file->points, turn->points, sizeof file->points);
     file->stuck = 0;
+    run->sweeps = fkv_later(fkv_now(), SWEEPS_US);
     fkv_find_end(file);
     pthread_cond_broadcast(&file->news);
     if (file->number >= file->most_commits) fkv_note_fault(file, -FKV_VERSIONS_SPENT, 0);
@@ -213,7 +220,7 @@ static void rest(const struct run *run) {
 }
 
 /* Calls the hook of a finished commit, and then wakes who waits for it. The file's lock is held, but in the hook. */
-static void finish_commit(const struct run *run, const struct turn *turn) {
+static void finish_commit(struct run *run, const struct turn *turn) {
     fkv_file *file = run->file;
     const fkv_keeping *keeping = &file->keeping;
     pthread_mutex_unlock(&file->lock);
@@ -232,6 +239,24 @@ static void warm(const struct run *run) {
     pthread_mutex_lock(&file->lock);
 }
 
+/* The library's session keeps what a sweep wants. The lock is held, but meanwhile. */
+static void keep_wanted(fkv_file *file) {
+    if (file->trimmer.wanted == 0) return;
+    pthread_mutex_unlock(&file->lock);
+    fkv_keep_wanted(file);
+    pthread_mutex_lock(&file->lock);
+}
+
+/* Calls the hook `untrimmed`, once. The file's lock is held, but in the hook. */
+static void tell_untrimmed(fkv_file *file, int why) {
+    const fkv_keeping *keeping = &file->keeping;
+    if (!keeping->untrimmed || file->has_told_untrimmed) return;
+    file->has_told_untrimmed = true;
+    pthread_mutex_unlock(&file->lock);
+    keeping->untrimmed(keeping->user, why);
+    pthread_mutex_lock(&file->lock);
+}
+
 /* A turn, and what it has come to. The file's lock is held, but while the turn goes on. */
 static void go_on(struct run *run) {
     fkv_file *file = run->file;
@@ -239,11 +264,12 @@ static void go_on(struct run *run) {
     fkv_sync_ahead(file);
     tend_abandoned(run);
     warm(run);
+    keep_wanted(file);
     fkv_take_turn(file);
     bool begins = begin_commit(run);
     bool commits = file->in_hand;
     /* What rests goes on once it was synced ahead. What comes to rest in this turn wasn't yet. */
-    bool goes_on = file->rests && (file->sync_why || file->synced == file->writes);
+    bool goes_on = file->rests && (file->sync_why || file->synced == file->writes), sweeps = fkv_has_sweep(file);
     bool is_stirred = file->nudged || file->is_stirred || commits || file->abandoned;
     bool is_helped = file->helped != run->helped;
     run->helped = file->helped;
@@ -252,16 +278,20 @@ static void go_on(struct run *run) {
     pthread_mutex_unlock(&file->lock);
     if (begins) tell_progress(run, &turn);
     tell_turn_fn *tell = commits ? tell_progress : NULL;
-    int32_t result = goes_on ? fkv_make_turn(file, &turn, tell, run) : fkv_serve_turn(file, &turn, tell, run);
+    int32_t result = goes_on ? fkv_make_turn(file, &turn, tell, run) : sweeps ? fkv_sweep_turn(file, &turn, tell, run) : fkv_serve_turn(file, &turn, tell, run);
+    if (sweeps && result == FKV_OVER) fkv_note_swept(file, &turn);
+    bool is_finished = result == FKV_OVER && turn.turned.finished;
+    if (is_finished) fkv_note_begin(file);
+    int why = fkv_give_back(file);
     run->written += turn.written;
     run->copied += turn.copied;
     /* What was let go on does so in the next turn. Who waits for a read makes its turns, and would only find this thread in the way. */
-    run->has_called = goes_on || (turn.has_called && (turn.written > 0 || commits || !is_helped));
+    run->has_called = goes_on || (sweeps && file->trimmer.has_more) || (turn.has_called && (turn.written > 0 || commits || !is_helped));
     pthread_mutex_lock(&file->lock);
-    bool is_finished = result == FKV_OVER && turn.turned.finished;
     if (is_finished) file->in_hand = false;
     fkv_end_turn(file, &turn, result);
     if (is_finished) finish_commit(run, &turn);
+    if (why) tell_untrimmed(file, why);
 }
 
 /* Linux ends a short sleep of a thread up to 50 microseconds late, unless the thread says otherwise. */
@@ -297,6 +327,7 @@ static void *keep(void *its_file) {
     wake_in_time();
     pthread_mutex_lock(&file->lock);
     tell_unwarmed(file);
+    if (!fkv_can_trim(file)) tell_untrimmed(file, 0);
     run.next = fkv_later(fkv_now(), (uint64_t)file->keeping.commit_ms * 1000);
     while (!file->stops) {
         if (fkv_has_turns(file)) go_on(&run);
@@ -330,6 +361,7 @@ int fkv_begin_run(fkv_file *file, const fkv_keeping *keeping) {
     if (file->keeping.commit_ms > MOST_MS) file->keeping.commit_ms = MOST_MS;
     file->stops = false;
     fkv_begin_warming(file);
+    fkv_begin_trimming(file);
     int failed = start_thread(file);
     file->runs = !failed;
     file->run += !failed;

@@ -64,6 +64,9 @@ typedef void fkv_stopped_fn(void *user, int32_t fault);
 /* Nothing keeps this store's memory warm: see fkv_start. */
 typedef void fkv_unwarmed_fn(void *user);
 
+/* The log's front can't be given back: the store has no session for it (`why` is 0), or the file system can't (errno). */
+typedef void fkv_untrimmed_fn(void *user, int why);
+
 /* ---- Sizes ---------------------------------------------------------------------------------------------------------------- */
 
 /*
@@ -81,7 +84,7 @@ typedef struct {
     uint64_t sessions;               /* threads that use it at once, at most 31; 8. A turn takes 0.1 microseconds for each */
     uint64_t memory_bytes;           /* memory that it may take once it is open, at most; as its keys want: some 250 bytes for each */
     uint64_t updates_between_commits; /* keys that are updated between two commits; all of them. The page and the log go by it */
-    uint64_t log_bytes;              /* not used yet: kept for how long the log may grow */
+    uint64_t log_bytes;              /* as in fkv_keeping, which goes before it; of fkv_open_or_make */
 } fkv_wish;
 
 /* What a store of a shape takes, and holds. */
@@ -325,7 +328,12 @@ typedef struct {
     fkv_stopped_fn *stopped;     /* called once, as commits end for good or the log is found full, or NULL. See fkv_tick */
     fkv_unwarmed_fn *unwarmed;   /* called once, as the thread begins, if memory can't be kept warm in this store, or NULL. See below */
     uint32_t no_warmer;          /* not 0: memory isn't kept warm, though it could be */
+    uint64_t log_bytes;          /* the log's front is given back if it is longer; 0: than four times the records of all keys. See below */
+    fkv_untrimmed_fn *untrimmed; /* called once if the front can't be given back, or NULL. See below */
 } fkv_keeping;
+
+/* In place of fkv_keeping's log_bytes: nothing is given back. */
+#define FKV_LOG_KEEPS UINT64_MAX
 
 /*
  * Starts the keeper's thread. `turn_us` is how long it rests while a session is joined and no commit is in hand. Where it is 0, and nothing
@@ -344,6 +352,12 @@ typedef struct {
  *   time    Half of the thread's at most, and none while a commit waits for sessions. If it is behind with what is about to leave memory, it
  *           works for it before each turn all the same, for 2 milliseconds at most. Updates by calls of this header then wait before they
  *           begin, for 0.2 seconds at most, and refresh their sessions meanwhile
+ *
+ * The log's front is given back if the log is longer than `log_bytes`, or where that is 0, than four times the records of all keys and a megabyte. Then the
+ * next commit is a full one, behind which the thread's turns go over the records of the front. The library's session keeps the keys that have
+ * none further on: that makes new records. The log of a later commit begins behind the front, and once that is finished these bytes become a hole
+ * of the file, which gets no shorter. Between two commits so much of the thread's time is taken for it that the next one may come 10 milliseconds later.
+ * FKV_LOG_KEEPS gives nothing back. `untrimmed` is called once if it can't be: the store has no session for it, or the file system makes no holes.
  *
  * If memory has no room for the newest records of all homes, more than three in four of those that leave it are such. Then pages are let go
  * as they are, until they are half at most. Of keys that share a home only the last updated is kept.
@@ -430,7 +444,9 @@ typedef struct {
     uint64_t fetched;       /* records that the system was asked for ahead of their reads, by fkv_read_many and fkv_read */
     uint64_t kept;          /* records that the library has kept in memory, each by an update of its own session */
     uint64_t file_bytes;    /* bytes of the file */
-    uint64_t begin;         /* where the log begins: the address of its first record, which is 1. The next four are of fkv_offsets */
+    uint64_t disk_bytes;    /* bytes that it takes on the disk: what was given back of the log's front takes none */
+    uint64_t swept;         /* records that sweeps of the log's front have read */
+    uint64_t begin;         /* where the log begins: no record below counts any more. The next four are of fkv_offsets */
     uint64_t head;          /* records below it are read from the file */
     uint64_t flushed;       /* records below it are in the file, and synced */
     uint64_t read_only;     /* records below it aren't updated in place */
@@ -461,7 +477,7 @@ int32_t fkv_stats_of(fkv_file *file, fkv_stats *stats);
  * Makes the call that a turn has posted, over a descriptor: `call` is what fkv_turn or fkv_io_done has answered. A read goes into `into`.
  * 0, or -1 where it has failed, with errno.
  */
-int fkv_call_file(int fd, int32_t call, const fkv_turned *turned, uint8_t into[FKV_READ_SIZE]);
+int fkv_call_file(int fd, int32_t call, const fkv_turned *turned, uint8_t into[FKV_MOST_READ]);
 
 /*
  * A whole turn over a descriptor: FKV_OVER or a refusal, as fkv_turn. `*written`, if it isn't NULL, grows by the bytes that were

@@ -116,7 +116,7 @@ static bool keep_some(fkv_file *file, const uint64_t *keys, size_t count) {
  * Keeps the records of these keys, SLICE of them at most, up to those that wait. Gives how many were taken. Nothing of the session is pending.
  * If the page of the log's end is full, the next one may not be open yet. So one key goes first: 64 that wait would take long.
  */
-static size_t keep(fkv_file *file, const uint64_t *keys, size_t count) {
+size_t fkv_keep_own(fkv_file *file, const uint64_t *keys, size_t count) {
     const uint64_t page = file->shape.page;
     size_t taken = 0;
     bool are_done = true;
@@ -163,7 +163,7 @@ static size_t look(fkv_file *file, uint64_t to) {
     if (count == 0) its->next = to;
     /* If memory is crowded, some of each page are enough to find out when it is no more. */
     else its->next = its->is_crowded ? least(to, (from / page + 1) * page) : from + count;
-    size_t kept = its->is_crowded || newest == 0 ? newest : keep(file, keys, newest);
+    size_t kept = its->is_crowded || newest == 0 ? newest : fkv_keep_own(file, keys, newest);
     if (kept < newest) its->next = addresses[kept];
     note_looked(its, &file->shape, kept < newest ? (size_t)(its->next - from) : count, kept);
     return count + KEEPS * newest;
@@ -230,7 +230,7 @@ static bool has_found(fkv_file *file, const fkv_offsets *at) {
 static void keep_found(fkv_file *file, const fkv_offsets *at) {
     uint64_t key;
     for (int i = 0; i < SLICE && may_keep(file) && has_found(file, at); i++) {
-        if (take_found(file, &key) && fkv_hint_where(own(file), key) > 0) keep(file, &key, 1);
+        if (take_found(file, &key) && fkv_hint_where(own(file), key) > 0) fkv_keep_own(file, &key, 1);
     }
 }
 
@@ -239,7 +239,8 @@ static void keep_found(fkv_file *file, const fkv_offsets *at) {
 void fkv_begin_warming(fkv_file *file) {
     struct warmer *its = &file->warmer;
     fkv_offsets at = {.tail = 0};
-    its->is_on = !file->keeping.no_warmer && fkv_can_warm(file) && fkv_serial(own(file), &its->serial) == 0;
+    bool has_serial = file->has_own && fkv_serial(own(file), &its->serial) == 0;
+    its->is_on = !file->keeping.no_warmer && fkv_can_warm(file) && has_serial;
     its->has_more = false;
     if (its->is_on && fkv_hint_offsets(own(file), &at) < 0) its->is_on = false;
     its->begun = at.tail;

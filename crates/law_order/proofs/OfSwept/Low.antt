@@ -1,5 +1,5 @@
--- No begin of the log and no end of a sweep lies above the flushed offset. Each is where the log of the opened store begins, or it is the first address of a
--- commit that was finished, at or below that: its end was flushed before it was written.
+-- No begin of the log and no end of a sweep lies above the flushed offset. At first each is where the log of the opened store begins. Later it is at or below
+-- the first address of a commit that was finished, whose end was flushed before it was written.
 use Rattle.std.proofs.Common.{◌≡◌, ◌⊎◌, inl, inr, ℕ, ◌≤◌, ◌∙◌, List, [], ◌∷◌, ◌++◌, refl, ap, sym, subst, arith, Bool, true, false}
 use Rattle.std.specs.Prelude.{Option, Some, None, if◌then◌else◌}
 use Rattle.fkv_base.specs.declared.numbers.Addr.{Addr}

@@ -315,7 +315,7 @@ module _ (life : BegunLife) where
         }
 
   -- ---- where the log begins
-  -- The log does without its records below the end of a sweep that is done, where it does without those below where that began.
+  -- A sweep that is done began at the log's begin. Then the log does without the records below its end.
   pub sweep_live : (events : List Event) → AreEnabled (home_of_world life.opening) life.ghosts (mapped life.opening events) → SweepsSo events → Live (begin_in (run life.opening events)) (home_of_world life.opening) (log_behind events)
       → is_swept (keeper_behind events).sweep ≡ true → (keeper_behind events).sweep.from ≡ (keeper_behind events).last.begin → Live (keeper_behind events).sweep.to.0 (home_of_world life.opening) (log_behind events)
   sweep_live events enabled so live swept begun =

@@ -1,4 +1,5 @@
--- While a commit is under way the log does without what its begin leaves out, in the versions up to the commit's. For at the load of its first address no record is of a later one.
+-- While a commit is under way the log does without what its begin leaves out, in the versions up to the commit's. For no record is of a later one as its first
+-- address is loaded.
 use Rattle.std.proofs.Common.{◌≡◌, ◌⊎◌, ◌∙◌, inl, inr, ℕ, ◌+◌, ◌≤◌, List, [], ◌∷◌, ◌++◌, refl, ap, sym, subst, arith, Bool, true, false}
 use Rattle.std.specs.Prelude.{Some, None}
 use Rattle.std.proofs.lemmas.Bool.{cases_lt}
@@ -42,7 +43,7 @@ use Rattle.law_order.proofs.OfSwept.Sound.{SweepsSo, sweep_live}
 use Rattle.law_order.proofs.OfSwept.Starts.{CameUnderWay, IsUnderWay, LoadsFirst, StaysThere, came_under_way}
 use Rattle.law_order.proofs.OfSwept.Told.{IsSlotAsk, event_parts}
 
--- The log does without what lies below the begin of the newest finished commit, and below the end of a sweep that is done and began there.
+-- The log does without what lies below the begin of the newest finished commit. So it does below the end of a sweep that is done and began there.
 pub record GoesUpto (version : ℕ) (home : ℕ → ℕ) (log : Log) (s : KeeperState) : Type 0 where
   pub last : LiveUpto version s.last.begin.0 home log
   pub swept : is_swept s.sweep ≡ true → s.sweep.from ≡ s.last.begin → LiveUpto version s.sweep.to.0 home log

@@ -1,0 +1,122 @@
+/*
+ * The keeper's thread gives the log's front back: trimming FOLDER. Threads add to keys, half of them often and half of them seldom, while commits follow one
+ * another. The begin moves, the file's blocks stay few, and nothing is lost, also over a second opening. A store of one session says that it can't.
+ */
+#define _GNU_SOURCE
+#include "fkv_posix.h"
+#include "tests.h"
+
+#include <pthread.h>
+#include <stdatomic.h>
+#include <stdbool.h>
+#include <time.h>
+#include <unistd.h>
+
+enum { WORKERS = 3, KEYS = 3000, SELDOM = 64, MOVES = 4, LOG_BYTES = 1 << 19, MOST_SECONDS = 240, PATH_ROOM = 500, WAIT_NS = 2000000 };
+
+/* Memory has a part of the log, so sweeps read the file too. */
+static const fkv_shape SHAPE = {10, 256, 8, 4, WORKERS + 1, 1024, 0};
+static const char *folder;
+static fkv_file *file;
+static atomic_bool ends;
+static uint64_t counts[WORKERS][KEYS];
+static atomic_int untold, why_untrimmed;
+
+static const char *path_of(const char *name) {
+    static char path[PATH_ROOM];
+    snprintf(path, sizeof path, "%s/%s", folder, name);
+    return path;
+}
+
+static void note_untrimmed(void *user, int why) {
+    (void)user;
+    atomic_store(&why_untrimmed, why);
+    atomic_fetch_add(&untold, 1);
+}
+
+static fkv_stats stats_now(void) {
+    fkv_stats stats;
+    WANTS("how it fares", fkv_stats_of(file, &stats), 0);
+    return stats;
+}
+
+/* Adds to keys: one in many to those of the second half. */
+static void *add(void *its) {
+    uint64_t *its_counts = its, state = (uint64_t)(its_counts - counts[0]) + 88172645463325252u;
+    fkv_session *session;
+    WANTS("joining", fkv_join(file, FKV_ANY_SESSION, &session), 0);
+    while (!atomic_load(&ends)) {
+        state ^= state << 13, state ^= state >> 7, state ^= state << 17;
+        uint64_t key = state % (KEYS / 2) + (state >> 32) % SELDOM / (SELDOM - 1) * (KEYS / 2);
+        WANTS("an add", fkv_increment(file, session, key, 1, NULL), FKV_DONE);
+        WANTS("a tick", fkv_tick(file, session), 0);
+        its_counts[key]++;
+    }
+    WANTS("leaving", fkv_leave(file, session), 0);
+    return NULL;
+}
+
+static void wants_all(void) {
+    fkv_session *session;
+    WANTS("joining", fkv_join(file, FKV_ANY_SESSION, &session), 0);
+    for (uint64_t key = 0; key < KEYS; key++) {
+        uint64_t value = 0, sum = 0;
+        for (int i = 0; i < WORKERS; i++) sum += counts[i][key];
+        WANTS("a read", fkv_read(file, session, key, &value), sum ? FKV_FOUND : FKV_NONE);
+        if (sum) WANTS("its value", value, sum);
+        WANTS("a tick", fkv_tick(file, session), 0);
+    }
+    WANTS("leaving", fkv_leave(file, session), 0);
+}
+
+/* Waits until the log begins further on. */
+static void wait_for_move(uint64_t begin) {
+    while (stats_now().begin <= begin) nanosleep(&(struct timespec){0, WAIT_NS}, NULL);
+}
+
+static void play(void) {
+    fkv_keeping keeping = {.commit_ms = 5, .log_commits = 4, .log_bytes = LOG_BYTES, .untrimmed = note_untrimmed};
+    pthread_t threads[WORKERS];
+    atomic_store(&ends, false);
+    WANTS("opening", fkv_open_file(path_of("store"), NULL, &file), 0);
+    WANTS("starting the keeper", fkv_start(file, &keeping), 0);
+    uint64_t first = stats_now().begin;
+    for (int i = 0; i < WORKERS; i++) WANTS("starting a thread", pthread_create(&threads[i], NULL, add, counts[i]), 0);
+    for (int i = 0; i < MOVES; i++) wait_for_move(stats_now().begin);
+    atomic_store(&ends, true);
+    for (int i = 0; i < WORKERS; i++) pthread_join(threads[i], NULL);
+    fkv_stats stats = stats_now();
+    WANTS("whether the log begins later", stats.begin > first && stats.begin <= stats.tail, true);
+    WANTS("whether records were swept", stats.swept > 0, true);
+    WANTS("whether the file is longer than its blocks", atomic_load(&untold) > 0 || stats.disk_bytes < stats.file_bytes, true);
+    wants_all();
+    WANTS("closing", fkv_close_file(file), 0);
+}
+
+/* A store of one session in its file, as of an older library, has none for the thread. */
+static void alone(void) {
+    uint8_t image[FKV_IMAGE_SIZE];
+    fkv_shape one = SHAPE;
+    one.sessions = 1, one.disk_pages = 4096;
+    WANTS("an image", fkv_image(&one, image, sizeof image), 0);
+    FILE *to = fopen(path_of("alone"), "wb");
+    WANTS("writing it", to && fwrite(image, sizeof image, 1, to) == 1 && fclose(to) == 0, true);
+    atomic_store(&untold, 0);
+    WANTS("opening", fkv_open_file(path_of("alone"), NULL, &file), 0);
+    WANTS("starting the keeper", fkv_start(file, &(fkv_keeping){.untrimmed = note_untrimmed}), 0);
+    while (atomic_load(&untold) == 0) nanosleep(&(struct timespec){0, WAIT_NS}, NULL);
+    WANTS("closing", fkv_close_file(file), 0);
+    WANTS("how often it was told", atomic_load(&untold), 1);
+    WANTS("why", atomic_load(&why_untrimmed), 0);
+}
+
+int main(int count, char **words) {
+    if (count != 2) return 2;
+    folder = words[1];
+    alarm(MOST_SECONDS);
+    WANTS("making", fkv_make_file(path_of("store"), &SHAPE), 0);
+    play();
+    play();
+    alone();
+    return 0;
+}
