@@ -47,8 +47,8 @@ pub fn law_lives_keep_order()
     law_given();
 }
 
-/// In each life each read that waits seeks a record of the device, but for the one that is polled just then, or it was told that its record is gone. A poll tries it
-/// again only where it was told so. While the log begins where it did at first none is.
+/// In each life each read that waits seeks a record of the device, or it was told that its record is gone. So it is of all but the one that is polled just then. A
+/// poll tries a read again only where it was told so. While the log begins where it did at first none is.
 pub fn law_lives_seek()
     ensures { said.InEachLife said.SeeksItsReads }
 {
@@ -117,8 +117,8 @@ pub fn law_order()
 }
 
 /// In each life a read that waits has the value by then that its answer tells: that of its key at some moment between its call and any later one at which its
-/// session rests with it. What it seeks lies below the head, where no value changes, and no step searches for it again. So it is while its session is told of no record
-/// that is gone. A read that is told so finds its entry again.
+/// session rests with it. What it seeks lies below the head, where no value changes, and no step searches for it again. So it is while its session is told of no
+/// record that is gone. A read that is told so finds its entry again.
 pub fn law_untold_reads()
     ensures { said.InEachLife said.UntoldReadsInTime }
 {

@@ -1,4 +1,4 @@
--- No event of a life searches for a read that waits: polls of its session try none again, those of other sessions try others, and the call that a session has in
+-- No event of a life searches for a read that waits. Polls of its session try none again, and those of other sessions try others. The call that a session has in
 -- hand is a later one.
 use Rattle.std.proofs.Common.{◌≡◌, ◌≢◌, ℕ, ◌<◌, ◌∙◌, Bool, true, false, List, [], ◌∷◌, ◌++◌, length, refl, sym, ap, subst, inr, arith, append_assoc}
 use Rattle.std.specs.Prelude.{◌==◌, if◌then◌else◌, map, Option, None, Some, slice_get}
