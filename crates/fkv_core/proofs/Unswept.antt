@@ -15,6 +15,7 @@ use Rattle.fkv_keeper.specs.SlotLaws.{HasBegin, HasMoved}
 use Rattle.fkv_keeper.specs.SweepLaws.{IsSweepAfter}
 use Rattle.fkv_keeper.proofs.Shown.{each_move, run_begins, run_loading, sweep_moves}
 use Rattle.fkv_plane.specs.Asked.{reply_to}
+use Rattle.fkv_plane.specs.Passing.{passed}
 use Rattle.fkv_plane.specs.Plane.{action_at}
 use Rattle.fkv_plane.specs.declared.actions.Action.{Action}
 use Rattle.fkv_plane.specs.declared.asks.Ask.{Ask}
@@ -76,14 +77,14 @@ last_same begin s a first has last (inr ends) = ap (λ (f : Finality). f.begin.0
 
 -- a sweep asks for no action
 never_puts : (ask : Ask SweepAnswer) (told : KeeperTold) (slot : ℕ) (action : Action) → IsLoadOrEnd ask → sweep_passed ask told ≡ Put slot action → ⊥
-unfolding sweep_passed
+unfolding sweep_passed passed
 never_puts (Load place) told slot action loads e = cc
 never_puts (Done swept.Device) told slot action loads e = cc
 never_puts (Done swept.Through) told slot action loads e = cc
 never_puts ask told slot action loads e = absurd loads
 
 never_takes : (ask : Ask SweepAnswer) (told : KeeperTold) (slot : ℕ) → IsLoadOrEnd ask → sweep_passed ask told ≡ Take slot → ⊥
-unfolding sweep_passed
+unfolding sweep_passed passed
 never_takes (Load place) told slot loads e = cc
 never_takes (Done swept.Device) told slot loads e = cc
 never_takes (Done swept.Through) told slot loads e = cc
@@ -178,10 +179,10 @@ opened_idle : (s : KeeperState) (step : Keeping) → s.step ≡ step → IsOpene
 opened_idle s Sweeps e opened sweeps = let never : true ≡ false = sym (rw e refl) ∙ opened.none_in_hand in cc
 opened_idle s step e opened sweeps = let never : step ≡ Sweeps = sym e ∙ sweeps in cc
 
-life_idle : (opening : World) (events : List Event) → IsOpenedWorld opening → NeverSweeps opening events → (run opening events).now.keeper.step ≡ Sweeps → ⊥
+pub unswept_idle : (opening : World) (events : List Event) → IsOpenedWorld opening → NeverSweeps opening events → (run opening events).now.keeper.step ≡ Sweeps → ⊥
 unfolding run
-life_idle opening [] opened never sweeps = opened_idle opening.now.keeper opening.now.keeper.step refl opened.keeper sweeps
-life_idle opening (event ∷ before) opened never sweeps = never.0 sweeps
+unswept_idle opening [] opened never sweeps = opened_idle opening.now.keeper opening.now.keeper.step refl opened.keeper sweeps
+unswept_idle opening (event ∷ before) opened never sweeps = never.0 sweeps
 
 life_stays : (opening : World) (events : List Event) (opened : IsOpenedWorld opening) → NeverSweeps opening events
     → Stays opening.now.shape opening.now.places opening.now.keeper opened.keeper (keeper_run opening.now.shape opening.now.places opening.now.keeper (keeper_events opening events))
@@ -196,7 +197,7 @@ life_stays opening (event ∷ before) opened never =
     let read : List ℕ = read_by_keeper w in
     let was = life_stays opening before opened never.1 in
     let runs : w.now.keeper ≡ s = keeper_runs opening before in
-    let idle : s.step ≡ Sweeps → ⊥ = subst (λ (x : KeeperState). x.step ≡ Sweeps → ⊥) runs (life_idle opening before opened never.1) in
+    let idle : s.step ≡ Sweeps → ⊥ = subst (λ (x : KeeperState). x.step ≡ Sweeps → ⊥) runs (unswept_idle opening before opened never.1) in
     let part = part_stays shape p opening.now.keeper opened.keeper read w.now.words w.now.actions own event idle was in
     let here = subst (λ (x : KeeperState). Stays shape p opening.now.keeper opened.keeper (keeper_run shape p opening.now.keeper (keeper_part shape p read (record { machine = x; words = w.now.words; actions = w.now.actions }) event ++ own))) (sym runs) part in
     let placed = subst (λ (x : Places). Stays shape p opening.now.keeper opened.keeper (keeper_run shape p opening.now.keeper (keeper_part shape x read (near w.now w.now.keeper) event ++ own))) (sym (places_stay opening before)) here in

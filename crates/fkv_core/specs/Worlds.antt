@@ -13,7 +13,7 @@ use Rattle.fkv_keeper.specs.declared.keepers.Keeping.TheVariants.{Sweeps}
 use Rattle.fkv_plane.specs.declared.asks.Ask.{Ask}
 use Rattle.fkv_plane.specs.declared.asks.Ask.TheVariants.{Done}
 use Rattle.fkv_keeper.specs.KeeperAsks.{keeper_calls, keeper_due, keeper_made, keeper_read}
-use Rattle.fkv_keeper.specs.Keeping.{KeeperModel, keeper_ask}
+use Rattle.fkv_keeper.specs.Keeping.{KeeperModel, KeeperState, keeper_ask}
 use Rattle.fkv_map.specs.declared.operations.Call.{Call}
 use Rattle.fkv_plane.specs.declared.places.Places.{Places}
 use Rattle.fkv_plane.specs.Plane.{Plane}
