@@ -1,11 +1,13 @@
 /* Records that only the file has are asked for before they are read, where the system has to fetch them from a disk. */
-#define _POSIX_C_SOURCE 200809L
+#define _GNU_SOURCE
 #include "fkv_file.h"
 
+#include <errno.h>
 #include <fcntl.h>
+#include <sys/uio.h>
 
 enum {
-    /* A read that takes so long has waited for a disk: the system's memory gives one in a microsecond or two. */
+    /* Where the system doesn't tell, a read that takes so long has waited for a disk: its memory gives one in a microsecond or two. */
     SLOW_US = 15,
     /* Two of so many in a row have: one alone may have lost its processor. */
     NEAR = 16,
@@ -15,14 +17,41 @@ enum {
     AHEAD = 64
 };
 
-void fkv_note_read(fkv_file *file, struct timespec begun) {
+/* Notes whether a read has waited for a disk. */
+static void note_read(fkv_file *file, bool has_waited) {
     unsigned left = atomic_load_explicit(&file->slow, memory_order_relaxed);
-    bool was_slow = fkv_since(begun) >= SLOW_US;
+    if (left == 0 && file->near == 0 && !has_waited) return;
     if (left > 0) left--;
-    if (was_slow && file->near > 0) left = SLOW_READS;
-    if (was_slow) file->near = NEAR;
+    if (has_waited && file->near > 0) left = SLOW_READS;
+    if (has_waited) file->near = NEAR;
     else if (file->near > 0) file->near--;
     atomic_store_explicit(&file->slow, left, memory_order_relaxed);
+}
+
+/*
+ * Reads a record if the system has it in memory, and else notes that a disk is waited for. False where it is still to be read. A file system that
+ * doesn't tell isn't asked again: then the time tells, which a thread that lost its processor may spoil.
+ */
+static bool read_kept(fkv_file *file, uint64_t place, uint8_t into[FKV_READ_SIZE]) {
+    struct iovec room = {into, FKV_READ_SIZE};
+    if (file->hides_waits) return false;
+    ssize_t got = preadv2(file->fd, &room, 1, (off_t)place, RWF_NOWAIT);
+    if (got == FKV_READ_SIZE) {
+        note_read(file, false);
+        return true;
+    }
+    if (got < 0 && errno == EAGAIN) note_read(file, true);
+    else if (got < 0) file->hides_waits = errno == EOPNOTSUPP || errno == ENOSYS || errno == EINVAL;
+    return false;
+}
+
+int fkv_read_record(fkv_file *file, const fkv_turned *turned, uint8_t into[FKV_READ_SIZE]) {
+    if (!file->is_mapped && read_kept(file, turned->place, into)) return 0;
+    if (!file->is_mapped && !file->hides_waits) return fkv_call_file(file->fd, FKV_READ, turned, into);
+    struct timespec begun = fkv_now();
+    int failed = fkv_read_mapped(file, turned->place, into) ? 0 : fkv_call_file(file->fd, FKV_READ, turned, into);
+    note_read(file, fkv_since(begun) >= SLOW_US);
+    return failed;
 }
 
 /*

@@ -80,13 +80,14 @@ struct fkv_file {
     bool is_living;  /* its calls leave room to its polls, so that none of these ever finds it full */
     bool has_own;    /* the session behind those of users is the library's */
     fkv_store store;
-    fkv_keeper keeper; /* of whoever has the turn, and so are the next six */
+    fkv_keeper keeper; /* of whoever has the turn, and so are the next seven */
     uint64_t writes;   /* how many writes of the file turns have begun */
     uint64_t synced;   /* all of the first so many are durable */
     int sync_why;      /* errno of a sync of them that has failed, which isn't told yet, or 0 */
     bool is_mapped;    /* records are read back by a mapping, as long as the system gives one */
     struct bytes map;  /* of the file, and of bytes behind it that it hasn't yet */
     unsigned near;     /* so many reads more count as near to one that has waited for a disk */
+    bool hides_waits;  /* the file system doesn't tell which reads wait for a disk */
     /* A joined session is its thread's, an abandoned one the keeper's thread's, and the others are whoever's has the lock. */
     fkv_session sessions[FKV_MOST_SESSIONS];
     struct seat seats[FKV_MOST_SESSIONS];
@@ -248,8 +249,8 @@ bool fkv_read_mapped(fkv_file *file, uint64_t place, uint8_t into[FKV_READ_SIZE]
 /* Gives the mapping back. The next read makes it anew. The caller has the turn. */
 void fkv_drop_map(fkv_file *file);
 
-/* Notes how long a read has taken that began then. The caller has the turn. */
-void fkv_note_read(fkv_file *file, struct timespec begun);
+/* Reads a record that a turn has asked for, and notes whether a disk was waited for. 0, or -1 with errno. The caller has the turn. */
+int fkv_read_record(fkv_file *file, const fkv_turned *turned, uint8_t into[FKV_READ_SIZE]);
 
 /*
  * Asks the system for the records of keys that will be read next, if its last reads had to wait for a disk. Of `count` keys those from `at` on

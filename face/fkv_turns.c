@@ -138,9 +138,7 @@ static int make_call(fkv_file *file, int32_t call, const fkv_turned *turned, uin
     if (call == FKV_SYNC) return make_sync(file);
     if (call == FKV_WRITE) file->writes++;
     if (call != FKV_READ) return fkv_call_file(file->fd, call, turned, into);
-    struct timespec begun = fkv_now();
-    int failed = fkv_read_mapped(file, turned->place, into) ? 0 : fkv_call_file(file->fd, call, turned, into);
-    fkv_note_read(file, begun);
+    int failed = fkv_read_record(file, turned, into);
     return failed ? failed : check_header(into);
 }
 

@@ -12,6 +12,7 @@
 #include <stdbool.h>
 #include <string.h>
 #include <sys/syscall.h>
+#include <sys/uio.h>
 #include <time.h>
 #include <unistd.h>
 
@@ -25,6 +26,13 @@ static atomic_bool reads_fail, ends;
 static atomic_int failed_in_workers, failed_elsewhere;
 static pthread_barrier_t all_joined;
 static _Thread_local bool is_worker;
+
+/* No read says whether it waits for a disk: each is one of those below. */
+ssize_t preadv2(int fd, const struct iovec *room, int rooms, off_t place, int flags) {
+    (void)fd, (void)room, (void)rooms, (void)place, (void)flags;
+    errno = EOPNOTSUPP;
+    return -1;
+}
 
 /* The library's reads of the file come here, before those of the C library: from some time on they fail. */
 ssize_t pread(int fd, void *into, size_t length, off_t place) {

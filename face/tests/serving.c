@@ -13,6 +13,7 @@
 #include <stdatomic.h>
 #include <stdbool.h>
 #include <sys/syscall.h>
+#include <sys/uio.h>
 #include <time.h>
 #include <unistd.h>
 
@@ -37,6 +38,13 @@ int fdatasync(int fd) {
     int result = (int)syscall(SYS_fdatasync, fd);
     atomic_fetch_sub(&syncing, 1);
     return result;
+}
+
+/* No read says whether it waits for a disk: each is one of those below. */
+ssize_t preadv2(int fd, const struct iovec *room, int rooms, off_t place, int flags) {
+    (void)fd, (void)room, (void)rooms, (void)place, (void)flags;
+    errno = EOPNOTSUPP;
+    return -1;
 }
 
 /* So do its reads of the file. Those beside a sync may fail: turns that only serve make them. */

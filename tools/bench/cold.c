@@ -11,7 +11,7 @@
 #include <unistd.h>
 
 /* A round of reads that wait for the disk is shorter. Reads that are counted are of fewer keys. */
-enum { KEYS = 1 << 20, BLOCK = 64, BLOCKS = 300, DISK_BLOCKS = 10, ROUNDS = 5, MOST_THREADS = 4, COUNTED_KEYS = 4096, LONG_US = 60000000 };
+enum { KEYS = 1 << 20, BLOCK = 64, BLOCKS = 300, DISK_BLOCKS = 10, ROUNDS = 15, MOST_THREADS = 4, COUNTED_KEYS = 4096, LONG_US = 60000000 };
 
 static const char *path;
 static fkv_file *file;

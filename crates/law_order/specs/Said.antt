@@ -7,7 +7,7 @@ pub use Rattle.law_order.specs.Decided.Old.{IsLaterAbove, KeepsWhatCounted, Lose
 pub use Rattle.law_order.specs.InTurn.Laws.{HasFloorInItsLife, KeepsItsViewsNear, KeepsSafeBelowItsComing, KeepsSafeBelowItsViews, NumbersItsCommitsInTurn, OneCommitAlwaysStands, OpensItsStoreAtRest, TellsOfItsLife}
 pub use Rattle.law_order.specs.OneHistory.Beside.{HasItsHistory}
 pub use Rattle.law_order.specs.OneHistory.Committed.{CommittedLife, CrashedLife}
-pub use Rattle.law_order.specs.OneHistory.EachLife.{InEachLife, IsLive, StaysLive}
+pub use Rattle.law_order.specs.OneHistory.EachLife.{CommitsAreLive, InEachLife, IsLive, StaysLive}
 pub use Rattle.law_order.specs.OneHistory.NewLives.{ShapesHaveLives, StoresHaveLives, WorkedLife}
 pub use Rattle.law_order.specs.Opened.{OfItsLives, OfItsSessions}
 pub use Rattle.law_order.specs.Ordered.Keeps.{KeepsItsOrder}

@@ -25,8 +25,8 @@ pub fn law_rules_kept()
 
 /// In each such life no try of a read is turned away. At its end it tells its key's value, or that there is none, or it seeks a record of the device: it never ends
 /// as contended, as a shift, or because the index or the log is full.
-/// So each read that waits seeks a record of the device, but for the one that is polled just then. For none is told that its record is gone.
-/// No poll tries it again: it waits for the mailbox alone.
+/// While the log begins where it did at first, each read that waits seeks a record of the device, but for the one that is polled just then. For none is told that
+/// its record is gone. No poll tries it again: it waits for the mailbox alone.
 pub fn law_reads_met()
     ensures met { orders.MeetsReadsInLives }
     ensures seeking { orders.SeeksInLives }

@@ -4,7 +4,7 @@ use Rattle.law_log.specs.Enabled.{AreEnabled}
 use Rattle.law_commit.specs.Below.fkv_world.Runs.{run}
 use Rattle.law_commit.specs.Below.fkv_world.World.{Event}
 use Rattle.law_order.proofs.OfAsked.Life.{life_asks, life_looks}
-use Rattle.law_order.specs.Known.Begins.{BegunLife, begin_in, home_of_world}
+use Rattle.law_order.specs.Known.Begins.{BeginStays, BegunLife, begin_in, home_of_world}
 use Rattle.law_order.specs.Known.Floors.{AttemptsGoFrom}
 use Rattle.law_order.specs.Known.Knows.{AreKnown}
 use Rattle.law_order.specs.Known.Told.{LookTruly}
@@ -29,5 +29,5 @@ module _ (life : BegunLife) (before : List Event) (enabled : AreEnabled (home_of
   pub tells_upto : TellsUpto (begin_in (run life.opening before)) (run life.opening before).now
   tells_upto = none_above life before enabled known go served looks_for asks_for
 
-  pub takes_there : NoneGone (run life.opening before).now
+  pub takes_there : BeginStays life.opening before → NoneGone (run life.opening before).now
   takes_there = none_gone life before enabled known go served looks_for asks_for

@@ -10,7 +10,7 @@ use Rattle.law_order.specs.Rules.Ordered.{OfEachKept}
 use Rattle.law_commit.specs.Below.fkv_world.Runs.{World}
 use Rattle.law_commit.specs.Below.fkv_world.World.{Event, Now}
 use Rattle.law_log.specs.Ghosts.{Ghosts}
-use Rattle.law_order.specs.Known.Begins.{BeginsLife, BegunLife}
+use Rattle.law_order.specs.Known.Begins.{BeginStays, BeginsLife, BegunLife}
 use Rattle.law_order.specs.Known.Told.{TicketsAreApart}
 use Rattle.law_order.specs.Ordered.Keeps.{KeepsItsOrder, KeepsOrder}
 use Rattle.law_order.specs.Ordered.Laws.{PollsTryNoReadInLives, SeeksInLives}
@@ -72,7 +72,8 @@ keeps_its_order lives opens given fit keep = holds_in_each KeepsOrder lives open
 
 pub seeks_its_reads : LivesBegin → OpensSo → Given → OpeningsFit → SeeksInLives → PollsTryNoReadInLives → InEachLife SeeksItsReads
 seeks_its_reads lives opens given fit seeking untried =
-    holds_in_each (λ opening ghosts events. AllReadsSeek opening events × PollsTryNoRead opening events) lives opens given fit (λ life events given opens cells fits apart. (seeking life events given opens cells fits apart, untried life events given opens cells fits apart))
+    holds_in_each (λ opening ghosts events. BeginStays opening events → AllReadsSeek opening events × PollsTryNoRead opening events) lives opens given fit
+    (λ life events given opens cells fits apart stays. (seeking life events given opens cells fits apart stays, untried life events given opens cells fits apart stays))
 
 pub of_each_life : (P : Opened → Now → List ℕ → List Event → Type 0) → InEachLife KeepsItsOrder → OfEachKept P → InEachLife P
 of_each_life P keep kept = λ its is.

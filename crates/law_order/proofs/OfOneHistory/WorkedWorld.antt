@@ -7,6 +7,8 @@ use Rattle.fkv_base.specs.declared.numbers.Addr.{Addr}
 use Rattle.fkv_base.specs.declared.phases.Phase.TheVariants.{Rest}
 use Rattle.fkv_base.specs.declared.shapes.Shape.{Shape}
 use Rattle.fkv_marks.specs.Marks.{mark}
+use Rattle.fkv_plane.specs.declared.places.Places.{Places}
+use Rattle.fkv_sweep.specs.Sweeping.{Sweeper, sweep_begun}
 use Rattle.law_opening.specs.Below.fkv_core.OpeningWords.{AreWordsOfOpened, frames_of, laid_round, ring_words, warm_place, words_before_frames, words_of_sessions, words_once}
 use Rattle.law_opening.specs.Below.fkv_core.Openings.{IsOpeningSession, IsOpeningWorld, newest_commit}
 use Rattle.law_opening.specs.Below.fkv_creating.Created.{IsNewStore}
@@ -146,6 +148,34 @@ module _ (o : Opened) (new : IsNewStore shape o) where
   unfolding shape
   its_class = ap (λ (s : Shape). s.class) (sym new.its_shape)
 
+  -- its sweep is of its own shape and places
+  places_are : (p : Places) → ArePlacesOfStore o.shape p → p ≡ places
+  places_are p fit = λ i. record { sessions = sessions i; buckets = buckets i; overflow = overflow i; ring = ring i }
+    where
+      sessions : p.sessions ≡ places.sessions
+      sessions = fit.sessions ∙ (ap (λ (s : Shape). s.sessions) new.its_shape ∙ sym places_fit.sessions)
+
+      buckets : p.buckets ≡ places.buckets
+      buckets = fit.buckets ∙ (ap (λ (s : Shape). 2 ^ s.bucket_bits) new.its_shape ∙ sym places_fit.buckets)
+
+      overflow : p.overflow ≡ places.overflow
+      overflow = fit.overflow ∙ (ap (λ (s : Shape). s.overflow) new.its_shape ∙ sym places_fit.overflow)
+
+      ring : p.ring ≡ places.ring
+      ring = fit.ring ∙ (ap (λ (s : Shape). s.frames * s.page) new.its_shape ∙ sym places_fit.ring)
+
+  pub none_swept : (n : Now) (begin : Addr) → IsOpeningWorld o n → n.keeper.last.begin ≡ begin → sweep_begun n.keeper.sweep.shape n.keeper.sweep.places n.keeper.last.begin n.keeper.last.begin ≡ sweep_begun shape places begin begin
+  none_swept n begin its last = λ i. sweep_begun (its_shape i) (its_places i) (last i) (last i)
+    where
+      swept : n.keeper.sweep ≡ sweep_begun n.shape n.places (newest_commit o).begin (newest_commit o).begin
+      swept = its.its_keeper.none_swept
+
+      its_shape : n.keeper.sweep.shape ≡ shape
+      its_shape = ap (λ (w : Sweeper). w.shape) swept ∙ (its.its_shape ∙ new.its_shape)
+
+      its_places : n.keeper.sweep.places ≡ places
+      its_places = ap (λ (w : Sweeper). w.places) swept ∙ places_are n.places its.its_keeper.its_places
+
   keeper_opens : (n : Now) → IsOpeningWorld o n → IsNewKeeper o.shape (newest_commit o) o.lost.items (record { shape = shape; places = places; state = resting_keeper n.keeper })
   keeper_opens n its =
       let was = its.its_keeper in
@@ -171,6 +201,7 @@ module _ (o : Opened) (new : IsNewStore shape o) where
         granted = was.granted;
         none_rest = refl;
         none_flushed = refl;
+        none_swept = none_swept n (newest_commit o).begin its (ap (λ (last : Finality). last.begin) was.newest);
       }
 
   pub world_opens : (n : Now) (one other : SessionState) → one.floor ≡ o.begin → other.floor ≡ o.begin → IsOpeningWorld o n → IsOpeningWorld o (worked_now (resting_keeper n.keeper) one other)

@@ -2,7 +2,7 @@
 use Rattle.std.specs.Prelude.{List}
 use Rattle.law_log.specs.Enabled.{AreEnabled}
 use Rattle.law_commit.specs.Below.fkv_world.World.{Event}
-use Rattle.law_order.specs.Known.Begins.{BegunLife, home_of_world}
+use Rattle.law_order.specs.Known.Begins.{BeginStays, BegunLife, home_of_world}
 use Rattle.law_order.specs.Known.Told.{TicketsAreApart}
 use Rattle.law_commit.specs.Below.law_refine.Events.GhostEvents.{mapped}
 use Rattle.law_order.specs.Ordered.Keeps.{KeepsOrder}
@@ -36,14 +36,14 @@ MeetsReadsInLives =
     (life : BegunLife) (events : List Event) → Given → OpensApart life → CellsFit life.ghosts.log → CallsFit events → TicketsAreApart life.opening events
     → MeetsItsReads life.opening events
 
--- so each that waits seeks a record of the device
+-- so while the log begins where it did at first each that waits seeks a record of the device
 abbrev pub SeeksInLives : Type 0
 SeeksInLives =
-    (life : BegunLife) (events : List Event) → Given → OpensApart life → CellsFit life.ghosts.log → CallsFit events → TicketsAreApart life.opening events
+    (life : BegunLife) (events : List Event) → Given → OpensApart life → CellsFit life.ghosts.log → CallsFit events → TicketsAreApart life.opening events → BeginStays life.opening events
     → AllReadsSeek life.opening events
 
 -- and no poll tries one
 abbrev pub PollsTryNoReadInLives : Type 0
 PollsTryNoReadInLives =
-    (life : BegunLife) (events : List Event) → Given → OpensApart life → CellsFit life.ghosts.log → CallsFit events → TicketsAreApart life.opening events
+    (life : BegunLife) (events : List Event) → Given → OpensApart life → CellsFit life.ghosts.log → CallsFit events → TicketsAreApart life.opening events → BeginStays life.opening events
     → PollsTryNoRead life.opening events

@@ -15,6 +15,7 @@ use Rattle.law_commit.specs.Below.fkv_world.World.{Event, Now, seat_at}
 use Rattle.law_opening.specs.Below.fkv_core.Openings.{beginning}
 use Rattle.law_opening.specs.Below.fkv_opening.TheOpened.{Opened}
 use Rattle.law_commit.specs.Below.law_local.Sessions.Known.{is_attempting}
+use Rattle.law_order.specs.Known.Begins.{BeginStays}
 use Rattle.law_order.specs.Known.Told.{reply_in}
 
 -- It tells a value, or none, or it seeks a record of the device. It isn't turned away: it has met no contention, shifts nowhere, and needs no room.
@@ -45,6 +46,7 @@ abbrev pub PollsTryNoRead : World → List Event → Type 0
 PollsTryNoRead opening events =
     (session : ℕ) (s : SessionState) (index : ℕ) → slice_get (run opening events).now.sessions session ≡ Some s → s.step ≡ Polls index → s.attempt.step ≡ Tries → is_read s.attempt.pending.request.op ≡ false
 
--- so it is in a life of an opened store
+-- So it is in a life of an opened store, while its log begins where it did at first. From then on a read may be told that its record is gone, and finds its
+-- entry again.
 abbrev pub SeeksItsReads : Opened → Now → List ℕ → List Event → Type 0
-SeeksItsReads o n bytes events = AllReadsSeek (beginning n bytes) events × PollsTryNoRead (beginning n bytes) events
+SeeksItsReads o n bytes events = BeginStays (beginning n bytes) events → AllReadsSeek (beginning n bytes) events × PollsTryNoRead (beginning n bytes) events

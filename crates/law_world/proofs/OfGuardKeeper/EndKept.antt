@@ -25,7 +25,7 @@ use Rattle.fkv_commit.specs.Waiting.{WaitState, wait_ask, wait_next, waiting_ask
 use Rattle.fkv_index.proofs.Shown.{IsReading}
 use Rattle.fkv_sweep.specs.declared.sweeping.SweepAnswer.{SweepAnswer}
 use Rattle.fkv_sweep.specs.declared.sweeping.SweepAnswer.TheVariants as swept
-use Rattle.fkv_sweep.specs.Sweeping.{Sweeper, sweep_ask, sweep_begun, sweep_next, sweep_read}
+use Rattle.fkv_sweep.specs.Sweeping.{Sweeper, sweep_ask, sweep_next, sweep_read}
 use Rattle.fkv_sweep.specs.Swept.{IsLoadOrEnd}
 use Rattle.fkv_sweep.proofs.Shown.{sweep_begun_loading, sweep_loads, sweep_next_loading, sweep_read_loading}
 use Rattle.fkv_flush.specs.GuardSeen.{LastSeen}

@@ -52,7 +52,7 @@ use Rattle.fkv_keeper.specs.declared.answers.KeeperTold.TheVariants.{Device}
 use Rattle.fkv_keeper.specs.declared.keepers.Keeping.{Keeping}
 use Rattle.fkv_keeper.specs.declared.keepers.Keeping.TheVariants.{Ended, Starts, Maintains, LoadsPhase, Enters, Copies, Seeks, Waits, Writes, Finishes, Sweeps}
 use Rattle.fkv_keeper.specs.KeeperRun.{KeeperEvent, BeginsTurn, BeginsCommit, Replies, Gets, Calls, begins, is_in_hand, keeper_happens, keeper_run}
-use Rattle.fkv_keeper.specs.Keeping.{must_rest, parts_begun, KeeperState, commit_asked, copies, copies_next, copy_asked, copy_driven, copy_ledto, device_passed, enter_ledto, finish_ledto, finished, keeper_ask, keeper_next, keeping_ask, keeping_called, keeping_given, keeping_next, maintain_ledto, part_begun, phase_ledto, seek_ledto, start_ledto, sweep_called, sweep_ledto, sweep_passed, turn_asked, turn_over, turned, wait_ledto, write_asked, write_ledto, writes_begun, is_copy_resting, serves_alone}
+use Rattle.fkv_keeper.specs.Keeping.{must_rest, parts_begun, KeeperState, commit_asked, copies, copies_next, copy_asked, copy_driven, copy_ledto, device_passed, enter_ledto, finish_ledto, finished, keeper_ask, keeper_next, keeping_ask, keeping_called, keeping_given, keeping_next, maintain_ledto, part_begun, phase_ledto, seek_ledto, start_ledto, sweep_ledto, sweep_passed, turn_asked, turn_over, turned, wait_ledto, write_asked, write_ledto, writes_begun, is_copy_resting, serves_alone}
 use Rattle.fkv_world.specs.Actors.{slot_asked, slot_of_step}
 use Rattle.fkv_world.specs.Moves.{Near, keeper_asks, keeper_gets, keeper_replied, keeper_settled}
 use Rattle.law_world.proofs.OfRuns.NoSlots.{IsOffSlots, find_off, passed_off}
