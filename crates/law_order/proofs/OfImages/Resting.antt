@@ -1,6 +1,6 @@
 -- What is known of the commit in hand where a keeper has come to is kept by each event, whether or not its writes rest.
 use Rattle.std.proofs.Common.{◌≡◌, inl, inr, ◌∙◌, refl, sym, ap, subst, Bool, true, false, List, [], ◌∷◌}
-use Rattle.std.specs.Prelude.{◌×◌, if◌then◌else◌}
+use Rattle.std.specs.Prelude.{if◌then◌else◌}
 use Rattle.std.specs.Option.{is_some}
 use Rattle.fkv_base.specs.declared.shapes.Shape.{Shape}
 use Rattle.law_commit.specs.Below.fkv_keeper.TheKeeping.{Keeping}

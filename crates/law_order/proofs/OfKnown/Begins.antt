@@ -7,7 +7,7 @@ use Rattle.law_commit.specs.Below.law_refine.Events.GhostEvents.{life_ghosts, ma
 use Rattle.law_commit.proofs.Below.law_refine.OfMail.GoneTold.{begin_above}
 use Rattle.law_commit.proofs.Below.law_world.OfKeeper.OwnRun.{keeper_goes_on}
 use Rattle.law_log.specs.Begins.{IsAbove, Live}
-use Rattle.law_log.specs.Ghosts.{Log}
+use Rattle.law_log.specs.Ghosts.{Log, ghost_run}
 use Rattle.law_log.specs.Enabled.{AreEnabled}
 use Rattle.law_log.proofs.Shown.{above_live, run_held}
 use Rattle.law_opening.proofs.OfChanges.LifeEvents.{life_low}
@@ -42,7 +42,7 @@ begin_fixed life events =
 
 -- so at first the log does without what lies there
 pub first_live : (life : BegunLife) → Live (begin_in life.opening) (home_of_world life.opening) life.ghosts.log
-unfolding run AreEnabled mapped
+unfolding run AreEnabled mapped ghost_run
 first_live life =
     let home : ℕ → ℕ = home_of_world life.opening in
     let held = run_held home life.map life.number life.ghosts [] life.begins.log tt in

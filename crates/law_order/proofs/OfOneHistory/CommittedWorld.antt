@@ -21,7 +21,7 @@ use Rattle.fkv_record.specs.Points.{serial_numbers}
 use Rattle.law_commit.specs.Below.fkv_session.Sessions.{SessionState}
 use Rattle.law_commit.specs.Below.fkv_world.World.{Now}
 use Rattle.law_order.proofs.OfOneHistory.WorkedShape.{places, shape}
-use Rattle.law_order.proofs.OfOneHistory.WorkedWorld.{its_class, none_swept, world_opens, worked_now}
+use Rattle.law_order.proofs.OfOneHistory.WorkedWorld.{its_class, world_opens, worked_now}
 
 -- ---- its keeper
 abbrev pub new_checkpoint : Checkpoint
@@ -36,7 +36,7 @@ new_keeper k = record k {
   start = record k.start { asked = record k.start.asked { class = Specified } };
   copy = None;
   seek = record k.seek { sessions = 2 };
-  sweep = sweep_begun k.sweep.shape k.sweep.places new_finality.begin new_finality.begin;
+  sweep = sweep_begun shape places new_finality.begin new_finality.begin;
   finish = record k.finish { sessions = 2 };
   commit = None;
   has_entered = false;
@@ -101,12 +101,6 @@ module _ (o : Opened) (new : IsNewStore shape o) where
   unfolding shape
   two_sessions = ap (λ (s : Shape). s.sessions) (sym new.its_shape)
 
-  begun_swept : (n : Now) → IsOpeningWorld o n → sweep_begun n.keeper.sweep.shape n.keeper.sweep.places new_finality.begin new_finality.begin ≡ sweep_begun shape places (newest_commit o).begin (newest_commit o).begin
-  begun_swept n its =
-      let last : n.keeper.last.begin ≡ new_finality.begin = ap (λ (f : Finality). f.begin) (its.its_keeper.newest ∙ finality_is) in
-      subst (λ (begin : Addr). sweep_begun n.keeper.sweep.shape n.keeper.sweep.places begin begin ≡ sweep_begun shape places (newest_commit o).begin (newest_commit o).begin) last
-      (none_swept o new n (newest_commit o).begin its (ap (λ (f : Finality). f.begin) its.its_keeper.newest))
-
   keeper_opens : (n : Now) (one other : SessionState) → one.floor ≡ o.begin → other.floor ≡ o.begin → IsOpeningWorld o n → IsNewKeeper o.shape (newest_commit o) o.lost.items (record { shape = shape; places = places; state = new_keeper n.keeper })
   unfolding worked_now
   keeper_opens n one other floor second its =
@@ -134,7 +128,7 @@ module _ (o : Opened) (new : IsNewStore shape o) where
         granted = refl;
         none_rest = refl;
         none_flushed = refl;
-        none_swept = begun_swept n its;
+        none_swept = ap (λ (last : Finality). sweep_begun shape places last.begin last.begin) (sym finality_is);
       }
 
   pub committed_opens : (n : Now) (one other : SessionState) → one.floor ≡ o.begin → other.floor ≡ o.begin → IsOpeningWorld o n → IsOpeningWorld o (worked_now (new_keeper n.keeper) one other)

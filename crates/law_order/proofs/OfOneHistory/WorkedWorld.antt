@@ -29,6 +29,10 @@ use Rattle.law_commit.specs.WorkedRuns.{resting_keeper}
 use Rattle.law_commit.specs.Below.law_refine.Events.Worked.{first_session, first_words, first_world}
 use Rattle.law_order.proofs.OfOneHistory.WorkedShape.{places, shape}
 
+-- The keeper's sweep is of this store, and has nothing to go over.
+abbrev pub swept_keeper : KeeperState → KeeperState
+swept_keeper k = record k { sweep = sweep_begun shape places k.last.begin k.last.begin }
+
 places_fit : ArePlacesOfStore shape places
 unfolding shape places
 places_fit = record { sessions = refl; buckets = refl; overflow = refl; ring = refl }
@@ -148,35 +152,7 @@ module _ (o : Opened) (new : IsNewStore shape o) where
   unfolding shape
   its_class = ap (λ (s : Shape). s.class) (sym new.its_shape)
 
-  -- its sweep is of its own shape and places
-  places_are : (p : Places) → ArePlacesOfStore o.shape p → p ≡ places
-  places_are p fit = λ i. record { sessions = sessions i; buckets = buckets i; overflow = overflow i; ring = ring i }
-    where
-      sessions : p.sessions ≡ places.sessions
-      sessions = fit.sessions ∙ (ap (λ (s : Shape). s.sessions) new.its_shape ∙ sym places_fit.sessions)
-
-      buckets : p.buckets ≡ places.buckets
-      buckets = fit.buckets ∙ (ap (λ (s : Shape). 2 ^ s.bucket_bits) new.its_shape ∙ sym places_fit.buckets)
-
-      overflow : p.overflow ≡ places.overflow
-      overflow = fit.overflow ∙ (ap (λ (s : Shape). s.overflow) new.its_shape ∙ sym places_fit.overflow)
-
-      ring : p.ring ≡ places.ring
-      ring = fit.ring ∙ (ap (λ (s : Shape). s.frames * s.page) new.its_shape ∙ sym places_fit.ring)
-
-  pub none_swept : (n : Now) (begin : Addr) → IsOpeningWorld o n → n.keeper.last.begin ≡ begin → sweep_begun n.keeper.sweep.shape n.keeper.sweep.places n.keeper.last.begin n.keeper.last.begin ≡ sweep_begun shape places begin begin
-  none_swept n begin its last = λ i. sweep_begun (its_shape i) (its_places i) (last i) (last i)
-    where
-      swept : n.keeper.sweep ≡ sweep_begun n.shape n.places (newest_commit o).begin (newest_commit o).begin
-      swept = its.its_keeper.none_swept
-
-      its_shape : n.keeper.sweep.shape ≡ shape
-      its_shape = ap (λ (w : Sweeper). w.shape) swept ∙ (its.its_shape ∙ new.its_shape)
-
-      its_places : n.keeper.sweep.places ≡ places
-      its_places = ap (λ (w : Sweeper). w.places) swept ∙ places_are n.places its.its_keeper.its_places
-
-  keeper_opens : (n : Now) → IsOpeningWorld o n → IsNewKeeper o.shape (newest_commit o) o.lost.items (record { shape = shape; places = places; state = resting_keeper n.keeper })
+  keeper_opens : (n : Now) → IsOpeningWorld o n → IsNewKeeper o.shape (newest_commit o) o.lost.items (record { shape = shape; places = places; state = resting_keeper (swept_keeper n.keeper) })
   keeper_opens n its =
       let was = its.its_keeper in
       record {
@@ -201,10 +177,10 @@ module _ (o : Opened) (new : IsNewStore shape o) where
         granted = was.granted;
         none_rest = refl;
         none_flushed = refl;
-        none_swept = none_swept n (newest_commit o).begin its (ap (λ (last : Finality). last.begin) was.newest);
+        none_swept = ap (λ (last : Finality). sweep_begun shape places last.begin last.begin) was.newest;
       }
 
-  pub world_opens : (n : Now) (one other : SessionState) → one.floor ≡ o.begin → other.floor ≡ o.begin → IsOpeningWorld o n → IsOpeningWorld o (worked_now (resting_keeper n.keeper) one other)
+  pub world_opens : (n : Now) (one other : SessionState) → one.floor ≡ o.begin → other.floor ≡ o.begin → IsOpeningWorld o n → IsOpeningWorld o (worked_now (resting_keeper (swept_keeper n.keeper)) one other)
   unfolding worked_now shape
   world_opens n one other floor second its = record {
     its_shape = sym new.its_shape;

@@ -17,7 +17,7 @@ use Rattle.law_commit.proofs.Below.law_local.OfSessions.Known.{opened_known}
 use Rattle.law_commit.proofs.Below.law_refine.OfSeen.Floors.{floors_rise, floors_stay}
 use Rattle.law_log.specs.Begins.{Live, StaysFromThere}
 use Rattle.law_log.specs.Enabled.{AreEnabled}
-use Rattle.law_log.specs.Ghosts.{Log}
+use Rattle.law_log.specs.Ghosts.{Log, ghost_run}
 use Rattle.law_order.specs.Known.Begins.{BegunLife, begin_in, home_of_world}
 use Rattle.law_order.specs.Known.Floors.{DoesWithout, GoesByBegin}
 use Rattle.law_order.proofs.OfKnown.Begins.{begin_fixed, begin_rises, first_live}
@@ -40,7 +40,7 @@ no_commit : {X : Type 0} (c : Commit) → None ≡ Some c → X
 no_commit c e = cc
 
 pub begins_first : (life : BegunLife) → GoesByBegin life.opening life.ghosts []
-unfolding run mapped
+unfolding run mapped ghost_run
 begins_first life = record { fixed = begin_fixed life []; live = first_live life; floors = first_floors life; commit = λ c is. no_commit c (sym life.begins.world.keeper.no_commit ∙ is) }
 
 -- ---- by each event

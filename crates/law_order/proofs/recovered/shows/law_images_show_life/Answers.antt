@@ -1,5 +1,5 @@
 -- By what is flushed, by the commit's cut, and by what its slot loses.
-use Rattle.std.proofs.Common.{◌≡◌, ◌∙◌, inl, inr, ap, arith}
+use Rattle.std.proofs.Common.{◌≡◌, ◌≤◌, ◌∙◌, inl, inr, ap, arith}
 use Rattle.law_opening.specs.Below.fkv_core.Openings.{beginning}
 use Rattle.law_commit.specs.Below.fkv_keeper.LastCommits.{lost_written}
 use Rattle.fkv_record.specs.Manifest.{SlotSaid}
