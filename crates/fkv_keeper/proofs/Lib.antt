@@ -30,6 +30,7 @@ mod KeeperRuns
 mod KeeperSound
 mod KeeperTakes
 mod NewKeepers
+mod NoSweep
 mod PartMoves
 mod PointsFound
 mod PointsWritten

@@ -1,11 +1,11 @@
 //! The keeper: its turns and its commits.
-ghost use Rattle.std.specs.Prelude.{◌≡◌, ◌<◌, ◌≤◌, ◌↔◌, ℕ, Bool, List, [], is_ok, is_some, true, false, IfOk, OnErr, Err, None, Some};
+ghost use Rattle.std.specs.Prelude.{◌≡◌, ◌&&◌, ◌||◌, ◌<◌, ◌≤◌, ◌↔◌, ℕ, Bool, List, [], is_ok, is_some, true, false, IfOk, OnErr, Err, None, Some};
 ghost use Rattle.fkv_checkpoint.specs.Copying.{IsRoomFor};
 ghost use Rattle.fkv_disk.specs.Asks.{asked_call, count_by, first_asked, kinds_by};
 ghost use Rattle.fkv_manifest.specs.Committing.{commit_answer, commit_call};
 ghost use Rattle.fkv_manifest.specs.Devices.{calls_next};
 ghost use Rattle.fkv_manifest.specs.Made.{with_call};
-ghost use Rattle.fkv_maintain.specs.Maintaining.{maintain_asked, maintain_calls, maintain_made};
+ghost use Rattle.fkv_maintain.specs.Maintaining.{is_flush_resting, maintain_asked, maintain_calls, maintain_made};
 ghost use Rattle.fkv_sweep.specs.Sweeping.{is_sweeping, read_asked};
 ghost use Rattle.fkv_base.specs.declared.faults.Fault.TheVariants.{Memory, Device as Failed};
 ghost use Rattle.fkv_epoch.specs.Claiming.{takes_action};
@@ -205,16 +205,24 @@ impl Keeper {
 
     /// Goes on with the reply to its ask. At a call's end, and where it needs the device, it stays where it is. Memory for a copy that
     /// the step may begin is asked for first. What rests goes on, and no sweep does.
-    #[tactic(auto, using(crate::proofs::Granted::is_granted_so))]
+    #[tactic(auto, using(crate::proofs::Granted::is_granted_so, crate::proofs::NoSweep::none_let))]
     pub fn go_on(&mut self, reply: u64) -> Ask<KeeperTold>
         ensures next { self.new ≡ record self.old { state = keeper_next self.old.shape self.old.places self.old.state reply self.new.state.is_granted } }
+        ensures no_sweep { self.new.state.step ≡ Sweeps → self.old.state.step ≡ Sweeps }
         ensures ask { result ≡ keeper_ask self.old.shape self.old.places self.new.state }
         ensures left { IsBusyWhereLeft (keeper_asks_left self.old.shape self.old.places self.new.state) result }
         ensures fewer { is_done (keeper_ask self.old.shape self.old.places self.old.state) ≡ false → takes_action (keeper_ask self.old.shape self.old.places self.old.state) ≡ false → keeper_asks_left self.old.shape self.old.places self.new.state < keeper_asks_left self.old.shape self.old.places self.old.state }
     {
         let room = self.room();
-        let goes_on = self.is_resting();
+        let goes_on = self.rests_on();
         self.go_on_with(reply, room, goes_on)
+    }
+
+    /// Whether something rests that may go on: a flush, or the writes of the commit in hand.
+    fn rests_on(&self) -> bool
+        ensures { result ≡ (is_flush_resting self.now.state.maintain || (self.now.state.rests && is_some self.now.state.commit)) }
+    {
+        self.maintain.is_flush_resting() || (self.rests && self.commit.is_some())
     }
 
     /// Memory for the copy of the index that its next step may begin: where it loads the phase, wait-pending is deferred, the commit in
