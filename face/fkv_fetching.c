@@ -34,14 +34,16 @@ static void note_read(fkv_file *file, bool has_waited) {
  */
 static bool read_kept(fkv_file *file, uint64_t place, uint8_t into[FKV_READ_SIZE]) {
     struct iovec room = {into, FKV_READ_SIZE};
-    if (file->hides_waits) return false;
+    /* A place below 0 would be the file's own position. What reads otherwise says what is wrong with it. */
+    if (file->hides_waits || (off_t)place < 0) return false;
     ssize_t got = preadv2(file->fd, &room, 1, (off_t)place, RWF_NOWAIT);
     if (got == FKV_READ_SIZE) {
         note_read(file, false);
         return true;
     }
-    if (got < 0 && errno == EAGAIN) note_read(file, true);
-    else if (got < 0) file->hides_waits = errno == EOPNOTSUPP || errno == ENOSYS || errno == EINVAL;
+    /* It gives less than a record if that lies on two pages, and memory has the first one alone. */
+    if (got > 0 || (got < 0 && errno == EAGAIN)) note_read(file, true);
+    else if (got < 0) file->hides_waits = errno != EINTR && errno != EIO;
     return false;
 }
 

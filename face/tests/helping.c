@@ -38,7 +38,7 @@ ssize_t preadv2(int fd, const struct iovec *room, int rooms, off_t place, int fl
 ssize_t pread(int fd, void *into, size_t length, off_t place) {
     if (!atomic_load(&reads_fail)) return (ssize_t)syscall(SYS_pread64, fd, into, length, place);
     atomic_fetch_add(is_worker ? &failed_in_workers : &failed_elsewhere, 1);
-    errno = EIO;
+    errno = ENXIO;
     return -1;
 }
 
@@ -173,12 +173,12 @@ static void *read_on(void *its) {
         int why = errno;
         if (result == FKV_FOUND) continue;
         WANTS("a read that fails", result, -FKV_DEVICE);
-        WANTS("why", why, EIO);
+        WANTS("why", why, ENXIO);
         break;
     }
     errno = 0;
     WANTS("a tick", fkv_tick(file, session), -FKV_DEVICE);
-    WANTS("why", errno, EIO);
+    WANTS("why", errno, ENXIO);
     fkv_abandon(file, session);
     return NULL;
 }
@@ -186,7 +186,7 @@ static void *read_on(void *its) {
 static void note_stopped(void *its, int32_t fault) {
     atomic_int *told = its;
     WANTS("the fault that a hook is told", fault, -FKV_DEVICE);
-    WANTS("why", errno, EIO);
+    WANTS("why", errno, ENXIO);
     atomic_fetch_add(told, 1);
 }
 
@@ -201,7 +201,7 @@ static bool tell_a_failure(const char *path) {
     WANTS("how many reads failed", failed_in_workers + failed_elsewhere, 1);
     errno = 0;
     WANTS("the keeper's fault", fkv_keeper_fault(file), -FKV_DEVICE);
-    WANTS("why", errno, EIO);
+    WANTS("why", errno, ENXIO);
     for (int i = 0; i < 1000 && !told; i++) nanosleep(&(struct timespec){0, 10000000}, NULL);
     WANTS("how often the hook was called", told, 1);
     WANTS("dropping", fkv_drop_file(file), 0);

@@ -29,7 +29,7 @@ static atomic_int syncing, served, syncs_left = -1, failed, failed_reads;
 int fdatasync(int fd) {
     if (atomic_load(&syncs_left) == 0) {
         atomic_fetch_add(&failed, 1);
-        errno = EIO;
+        errno = ENXIO;
         return -1;
     }
     if (atomic_load(&syncs_left) > 0) atomic_fetch_sub(&syncs_left, 1);
@@ -53,7 +53,7 @@ ssize_t pread(int fd, void *into, size_t length, off_t place) {
     if (is_served) atomic_fetch_add(&served, 1);
     if (!is_served || !atomic_load(&reads_fail)) return (ssize_t)syscall(SYS_pread64, fd, into, length, place);
     atomic_fetch_add(&failed_reads, 1);
-    errno = EIO;
+    errno = ENXIO;
     return -1;
 }
 
@@ -165,7 +165,7 @@ static void *commit_on(void *none) {
     }
     int why = errno;
     WANTS("what who waits for the commit is told", result, -FKV_DEVICE);
-    WANTS("why", why, EIO);
+    WANTS("why", why, ENXIO);
     return none;
 }
 
@@ -179,7 +179,7 @@ static void read_on(fkv_session *session) {
         int why = errno;
         if (result != FKV_FOUND) {
             WANTS("the read that fails", result, -FKV_DEVICE);
-            WANTS("why", why, EIO);
+            WANTS("why", why, ENXIO);
             return;
         }
         WANTS("a tick", fkv_tick(file, session), 0);
@@ -201,10 +201,10 @@ static void tell_a_failed_read(const char *path) {
     WANTS("how many reads have failed", atomic_load(&failed_reads), 1);
     errno = 0;
     WANTS("a tick", fkv_tick(file, session), -FKV_DEVICE);
-    WANTS("why", errno, EIO);
+    WANTS("why", errno, ENXIO);
     errno = 0;
     WANTS("the keeper's fault", fkv_keeper_fault(file), -FKV_DEVICE);
-    WANTS("why", errno, EIO);
+    WANTS("why", errno, ENXIO);
     fkv_abandon(file, session);
     WANTS("dropping", fkv_drop_file(file), 0);
 }
@@ -221,7 +221,7 @@ static bool fails_at(const char *path, int sync) {
     int why = errno;
     bool has_failed = atomic_load(&failed) > 0;
     WANTS("what the commit is told", result, has_failed ? -FKV_DEVICE : 0);
-    if (has_failed) WANTS("why", why, EIO);
+    if (has_failed) WANTS("why", why, ENXIO);
     WANTS("how many syncs have failed", atomic_load(&failed), has_failed ? 1 : 0);
     atomic_store(&syncs_left, -1);
     if (has_failed) {
