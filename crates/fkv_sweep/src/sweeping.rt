@@ -4,7 +4,9 @@ ghost use Rattle.fkv_disk.specs.Asks.{asked_call, kinds_by, count_by};
 ghost use Rattle.fkv_disk.specs.Bytes.{bytes_at};
 ghost use Rattle.fkv_disk.specs.Device.{LeavesNoMore, Elapses, HasCause, MakesCalls};
 ghost use Rattle.fkv_sweep.specs.AsksLeft.{GoesOnWhereLeft, steps_asked, sweep_asks_left, most_sweep_asks};
-ghost use Rattle.fkv_sweep.specs.Sweeping.{IsUnderWay, sweep_begun, is_sweeping, turn_begun, coming, holds, next_met, gone_on, record_passed, key_wanted, reached, led_down, slot_found, find_ledto, key_met, chain_met, record_met, sweep_ask, sweep_next, sweep_read, sweep_failed, read_addr, read_asked, read_place, sweeping_read, piece_bytes};
+ghost use Rattle.fkv_sweep.specs.Sweeping.{IsUnderWay, sweep_begun, is_sweeping, turn_begun, coming, holds, next_met, gone_on, record_passed, key_wanted};
+ghost use Rattle.fkv_sweep.specs.Sweeping.{reached, led_down, slot_found, find_ledto, key_met, chain_met, record_met, sweep_ask, sweep_next, sweep_read};
+ghost use Rattle.fkv_sweep.specs.Sweeping.{sweep_failed, read_addr, read_asked, read_place, sweeping_read, piece_bytes};
 
 use crate::record_words::{PIECE_BYTES, Piece, RecordWords, is_counted, previous_in, words_at};
 use arrayvec::ArrayVec;
