@@ -77,10 +77,13 @@ struct trimmer {
     uint64_t begin;   /* where the newest finished commit's log begins, as far as the thread has seen */
     uint64_t punched; /* all below was given back */
     uint64_t swept;   /* records that sweeps have read */
+    uint64_t end;     /* where the last sweep that was asked for ends, about */
     size_t wanted;    /* so many keys wait to be kept */
     uint64_t keys[FKV_MOST_WANTED];
     bool is_on;       /* a commit was asked for behind which turns sweep, and none has moved the begin yet */
+    bool is_next;     /* the commit in hand is such a one */
     bool has_more;    /* the last turn that swept has read something */
+    bool is_done;     /* it has found nothing to read, and no key is wanted: the next commit moves the begin */
     bool cant_punch;  /* the file system gives nothing back */
 };
 
@@ -270,6 +273,12 @@ void fkv_begin_trimming(fkv_file *file);
 
 /* Whether the next commit should be one behind which turns sweep: the log is longer than it may be. */
 bool fkv_wants_trim(fkv_file *file);
+
+/* How long a commit waits for turns that sweep, behind the one before, in microseconds: longer if the log is half as long again as it may be. */
+uint64_t fkv_sweeps_us(fkv_file *file);
+
+/* A commit has begun, which is one of these or isn't. */
+void fkv_note_trim(fkv_file *file, bool trims);
 
 /* Whether turns may sweep now. The lock is held. */
 bool fkv_has_sweep(const fkv_file *file);

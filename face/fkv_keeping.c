@@ -19,8 +19,6 @@ enum {
      */
     HASTE_US = 500,
     HASTE_TURN_US = 20,
-    /* So long a commit waits for turns that sweep the log's front, behind the one before. */
-    SWEEPS_US = 10000,
     /* While no session is joined, which is told at once. */
     IDLE_TURN_US = 100000,
     /* While sessions are joined and nothing happens, rests grow after so many turns, up to so long. Who waits for a turn makes it. */
@@ -95,7 +93,7 @@ static bool begin_commit(struct run *run) {
         result = fkv_commit(&file->keeper, FKV_FULL, &number);
     }
     if (result == 0) {
-        file->trimmer.is_on |= trims;
+        fkv_note_trim(file, trims);
         run->log_left = is_log ? run->log_left - 1 : file->keeping.log_commits;
         run->is_full = !is_log;
         note_begun(run);
@@ -117,7 +115,7 @@ static void note_finished(struct run *run, const struct turn *turn) {
     if (run->is_full) file->entries = run->copied;
     memcpy(file->points, turn->points, sizeof file->points);
     file->stuck = 0;
-    run->sweeps = fkv_later(fkv_now(), SWEEPS_US);
+    run->sweeps = fkv_later(fkv_now(), fkv_sweeps_us(file));
     fkv_find_end(file);
     pthread_cond_broadcast(&file->news);
     if (file->number >= file->most_commits) fkv_note_fault(file, -FKV_VERSIONS_SPENT, 0);

@@ -93,6 +93,18 @@ static void play(void) {
     WANTS("closing", fkv_close_file(file), 0);
 }
 
+/* A renewed store's log begins anew, and so does what is told of it. */
+static void renew(void) {
+    WANTS("opening", fkv_open_file(path_of("store"), NULL, &file), 0);
+    WANTS("whether the begin is told before the keeper's thread runs", stats_now().begin > 1, true);
+    WANTS("renewing", fkv_renew_here(file, NULL, NULL), 0);
+    WANTS("the new begin", stats_now().begin, 1);
+    WANTS("starting the keeper", fkv_start(file, NULL), 0);
+    wants_all();
+    WANTS("closing", fkv_close_file(file), 0);
+    play();
+}
+
 /* A store of one session in its file, as of an older library, has none for the thread. */
 static void alone(void) {
     uint8_t image[FKV_IMAGE_SIZE];
@@ -117,6 +129,7 @@ int main(int count, char **words) {
     WANTS("making", fkv_make_file(path_of("store"), &SHAPE), 0);
     play();
     play();
+    renew();
     alone();
     return 0;
 }

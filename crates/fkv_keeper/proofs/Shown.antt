@@ -1,7 +1,6 @@
 -- What the crates above may cite of these proofs.
-pub use Rattle.fkv_maintain.proofs.Shown.{IsLoadOrCall}
 pub use Rattle.fkv_keeper.proofs.BeginMoves.{run_begins}
-pub use Rattle.fkv_keeper.proofs.GoesOn.{due_asks, kept_asks}
+pub use Rattle.fkv_keeper.proofs.GoesOn.{MovesNone, due_asks, kept_moves}
 pub use Rattle.fkv_keeper.proofs.HandBusy.{run_ended}
 pub use Rattle.fkv_keeper.proofs.KeeperBegun.{begin_bounded, turn_bounded}
 pub use Rattle.fkv_keeper.proofs.KeeperDevice.{keeper_asked_calls}

@@ -57,7 +57,7 @@ use Rattle.fkv_maintain.specs.declared.maintaining.MaintainAnswer.TheVariants as
 use Rattle.fkv_keeper.specs.LastCommits.{other_area, area_number, is_gate_open, gate_opened, slot_place, slot_written}
 use Rattle.fkv_sweep.specs.declared.sweeping.SweepAnswer.{SweepAnswer}
 use Rattle.fkv_sweep.specs.declared.sweeping.SweepAnswer.TheVariants as sweep
-use Rattle.fkv_sweep.specs.Sweeping.{Sweeper, is_sweeping, sweep_begun, sweep_ask, sweep_next, sweep_read, sweep_failed}
+use Rattle.fkv_sweep.specs.Sweeping.{Sweeper, is_sweeping, sweep_begun, sweep_ask, sweep_next, sweep_read, sweep_failed, sweep_word_due}
 use Rattle.fkv_sweep.specs.Sweeping as sweeping
 use Rattle.fkv_maintain.specs.Maintaining.{MaintainState, is_flush_resting, maintain_begun, maintain_from, maintain_serving, maintain_ask, maintain_next, maintain_given, maintain_called, maintain_word_due}
 
@@ -223,9 +223,10 @@ start_ledto s (Done (start.Refused why)) = ended s (CommitRefused why)
 start_ledto s (Done start.Idle) = ended s (CommitRefused fault.CommitRunning)
 start_ledto s ask = s
 
--- the place of the record's word that its flush loads, if it loads one
+-- the place of the word that its flush loads of a record, or that its sweep loads, if it loads one
 abbrev pub word_due_at : Places → KeeperState → Keeping → Option ℕ
 word_due_at p s Maintains = maintain_word_due p s.maintain
+word_due_at p s Sweeps = sweep_word_due s.sweep
 word_due_at p s step = None
 
 abbrev pub keeper_word_due : Places → KeeperState → Option ℕ

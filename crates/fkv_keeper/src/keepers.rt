@@ -368,25 +368,35 @@ impl Keeper {
         device_passed(ask, KeeperTold::Turned(false, self.is_drain_full))
     }
 
-    /// The place of the record's word that its flush loads, if it loads one.
+    /// The place of the word that its flush loads of a record, or that its sweep loads, if it loads one.
     #[inline(always)]
     pub fn word_due(&self) -> Option<usize>
         ensures { result ≡ keeper_word_due self.now.places self.now.state }
     {
         match self.step {
             Keeping::Maintains => self.maintain.word_due(),
+            Keeping::Sweeps => self.sweep.word_due(),
             _ => None,
         }
     }
 
-    /// Goes on with the record's word that its flush has loaded, as `go_on` does, and doesn't tell what it asks. A flush loads three words of each record.
+    /// Goes on with the word that was due, as `go_on` does, and doesn't tell what it asks. A flush loads three words of each record, and a sweep some more.
     #[inline(always)]
-    #[tactic(auto, using(crate::proofs::GoesOn::word_goes_on))]
+    #[tactic(auto, using(crate::proofs::GoesOn::word_goes_on, crate::proofs::GoesOn::led_through), unfolding(crate::specs::Keeping::keeping_next))]
     pub fn keep(&mut self, word: u64)
         requires due { (place : ℕ) × (keeper_word_due self.old.places self.old.state ≡ Some place) }
         ensures next { (granted : Bool) → self.new ≡ record self.old { state = keeper_next self.old.shape self.old.places self.old.state word granted } }
     {
-        self.maintain.keep(word);
+        match self.step {
+            Keeping::Maintains => self.maintain.keep(word),
+            Keeping::Sweeps => {
+                self.sweep.keep(word);
+                if self.sweep.is_through() {
+                    self.turns();
+                }
+            }
+            _ => {}
+        }
     }
 
     /// Gets the action of the slot that it claimed.

@@ -126,7 +126,7 @@ impl Keeper {
     }
 
     /// The turn is over.
-    fn turns(&mut self)
+    pub(crate) fn turns(&mut self)
         ensures { self.new ≡ record self.old { state = turned self.old.state } }
     {
         self.ends(KeeperTold::Turned(false, self.is_drain_full));

@@ -176,6 +176,14 @@ sweeping_ask s (Reads key addr) = Done answer.Device
 abbrev pub sweep_ask : Sweeper → Ask SweepAnswer
 sweep_ask s = sweeping_ask s s.step
 
+-- the place of the word that is loaded, if one is
+abbrev pub load_place : Ask SweepAnswer → Option ℕ
+load_place (Load place) = Some place
+load_place ask = None
+
+abbrev pub sweep_word_due : Sweeper → Option ℕ
+sweep_word_due s = load_place (sweep_ask s)
+
 -- the record that comes next has the words that the piece has of it
 abbrev pub next_met : Sweeper → Sweeper
 next_met s = record_met s (words_held s.piece s.next)
