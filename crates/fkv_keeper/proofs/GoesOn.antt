@@ -19,7 +19,6 @@ use Rattle.fkv_maintain.specs.declared.maintaining.MaintainAnswer.TheVariants.{D
 use Rattle.fkv_maintain.specs.Maintaining.{maintain_ask, maintain_next, maintain_word_due}
 use Rattle.fkv_maintain.proofs.Shown as parts
 use Rattle.fkv_keeper.specs.declared.answers.KeeperTold.{KeeperTold}
-use Rattle.fkv_keeper.specs.declared.answers.KeeperTold.TheVariants.{Device}
 use Rattle.fkv_keeper.specs.declared.keepers.Keeping.{Keeping}
 use Rattle.fkv_keeper.specs.declared.keepers.Keeping.TheVariants.{Ended, Starts, Maintains, LoadsPhase, Enters, Copies, Seeks, Waits, Writes, Finishes, Sweeps}
 use Rattle.fkv_keeper.specs.Keeping.{KeeperState, device_passed, keeper_ask, keeper_next, keeper_word_due, keeping_ask, keeping_next, maintain_ledto, sweep_ledto, sweep_passed, turn_over, turned, word_due_at}

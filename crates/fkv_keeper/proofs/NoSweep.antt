@@ -1,6 +1,6 @@
 -- A step that lets go on what rests, and nothing else, begins no sweep.
-use Rattle.std.proofs.Common.{◌≡◌, ◌⊎◌, ◌∙◌, ℕ, Bool, true, false, ap, sym, refl, inl, inr, subst}
-use Rattle.std.specs.Prelude.{Option, Some, None, not, ◌&&◌, ◌||◌, if◌then◌else◌}
+use Rattle.std.proofs.Common.{◌≡◌, ◌∙◌, ℕ, Bool, true, false, ap, sym, refl, inl, inr, subst}
+use Rattle.std.specs.Prelude.{Option, None, not, ◌&&◌, ◌||◌, if◌then◌else◌}
 use Rattle.std.specs.Option.{is_some}
 use Rattle.fkv_base.specs.declared.shapes.Shape.{Shape}
 use Rattle.fkv_words.specs.PhaseWords.{phase_said}
@@ -11,7 +11,7 @@ use Rattle.fkv_keeper.specs.declared.keepers.Keeping.{Keeping}
 use Rattle.fkv_keeper.specs.declared.keepers.Keeping.TheVariants.{LoadsPhase, Finishes, Sweeps}
 use Rattle.fkv_keeper.specs.CheckpointLaws.{MayStep}
 use Rattle.fkv_keeper.specs.Keeping.{KeeperState, granted_for, is_resting, keeper_next, keeping_next, phase_ledto, sweeps_next, turned, unless_flush_rests}
-use Rattle.fkv_keeper.specs.KeeperRun.{KeeperEvent, Replies, keeper_happens}
+use Rattle.fkv_keeper.specs.KeeperRun.{Replies, keeper_happens}
 use Rattle.fkv_keeper.specs.SweepLaws.{IsSweepAfter}
 use Rattle.fkv_keeper.proofs.CheckpointMoves.{each_move}
 use Rattle.fkv_keeper.proofs.SweepMoves.{sweep_moves}
