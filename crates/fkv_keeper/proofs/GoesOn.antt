@@ -127,6 +127,7 @@ ledto_moves shape p s ask at is = cases ask is
   where
     goes_on : MovesNone (keeper_ask shape p s)
     goes_on = subst (λ (step : Keeping). MovesNone (keeping_ask shape p s step)) (sym at) (swept_moves (turn_over s) (sweep_ask s.sweep) (sweep_puts_none s.sweep) (sweep_takes_none s.sweep))
+
     cases : (ask : Ask SweepAnswer) → sweep_ask s.sweep ≡ ask → MovesNone (keeper_ask shape p (sweep_ledto s ask))
     cases (Load place) is = goes_on
     cases (Store place new) is = goes_on

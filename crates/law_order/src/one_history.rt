@@ -8,8 +8,8 @@ use crate::rules::{law_life_begins, law_order_of_rules};
 use crate::versions::law_lives_bound_versions;
 use law_commit::{
     law_begun, law_commits_cut, law_commits_ended, law_floor_stands, law_latched_in_tries,
-    law_phases_are_seen, law_shares_not_missed, law_versions_bounded, law_versions_counted, law_versions_end,
-    law_views_see_tails,
+    law_phases_are_seen, law_shares_not_missed, law_versions_bounded, law_versions_counted,
+    law_versions_end, law_views_see_tails,
 };
 use law_log::law_live_stays;
 use law_opening::{law_latches_open, law_lives_are_above};

@@ -113,15 +113,18 @@ module _ (calls : CallsLaw) (words : WordsLaw) (given : Given) (life : BegunLife
       let published : AreChangesPublished life.opening life.ghosts (event ∷ before) = (changes_published life before event its.known, its.published) in
       let enabled : AreEnabled H life.ghosts (mapped life.opening (event ∷ before)) = event_enabled before event apart its truly published in
       let swept : SweepsSo life (event ∷ before) = sweeps_then life calls before event its.enabled its.published cells (cells_fit calls words life before cells fits.1) sweeps enabled in
-      let under : UptoSo life (event ∷ before) = upto_then life given.rest given.versions given.cells opens before event its.enabled sweeps its.begin.live upto enabled (begin_was life before event its.begin).fixed (sweeps_fixed life calls before event its.enabled its.published cells (cells_fit calls words life before cells fits.1) sweeps) in
-      (record {
-        enabled = enabled;
-        published = published;
-        known = known_on life.opening life.ghosts before event its.known (rows_go_on life before event given opens its.apart its.begin enabled its.known truly);
-        reads = reads_go_on life before event its.enabled its.known its.begin apart truly its.reads enabled;
-        apart = apart_goes_on given life opens before event enabled (λ session s found. known_now life.opening life.ghosts before its.known session s found) truly none its.apart its.begin;
-        begin = begins_then life before event given.stays enabled (told_upto before fits.1 its) its.begin swept under;
-      }, swept, under)
+      let under : UptoSo life (event ∷ before) = upto_then life given.rest given.versions given.cells opens before event its.enabled sweeps its.begin.live upto enabled (begin_was life before event its.begin).fixed (sweeps_fixed life calls before event its.enabled its.published cells (cells_fit calls words life before cells fits.1) sweeps) in (
+        record {
+          enabled = enabled;
+          published = published;
+          known = known_on life.opening life.ghosts before event its.known (rows_go_on life before event given opens its.apart its.begin enabled its.known truly);
+          reads = reads_go_on life before event its.enabled its.known its.begin apart truly its.reads enabled;
+          apart = apart_goes_on given life opens before event enabled (λ session s found. known_now life.opening life.ghosts before its.known session s found) truly none its.apart its.begin;
+          begin = begins_then life before event given.stays enabled (told_upto before fits.1 its) its.begin swept under;
+        },
+        swept,
+        under,
+      )
 
   goes_on : (before : List Event) (event : Event) → CallsFit (event ∷ before) → TicketsAreApart life.opening (event ∷ before) → Going before → Going (event ∷ before)
   goes_on before event fits apart its =

@@ -150,13 +150,13 @@ module _ (life : BegunLife) where
     one_step own has under =
         let came : CameUnderWay N.shape N.places first own = came_under_way N.shape N.places first own (keeper_begins life.opening before life.begins.world) has under in
         let stays = came.stays in
-        on_same first (keeper_happens N.shape N.places first own) stays.last stays.sweep (elim came.before [ | inl was ↦ its was | inr loads ↦ fresh loads.0 loads.1 ])
+        on_same first (keeper_happens N.shape N.places first own) stays.last stays.sweep (elim came.before [ inl was ↦ its was | inr loads ↦ fresh loads.0 loads.1 ])
 
     two_steps : (s : KeeperState) (own : KeeperEvent) → HasBegin s → HasBegin (keeper_happens N.shape N.places s own) → IsSlotAsk (keeper_ask N.shape N.places s) → There s → There (keeper_happens N.shape N.places s own)
     two_steps s own has had slot so under =
         let came : CameUnderWay N.shape N.places s own = came_under_way N.shape N.places s own has had under in
         let stays = came.stays in
-        on_same s (keeper_happens N.shape N.places s own) stays.last stays.sweep (elim came.before [ | inl was ↦ so was | inr loads ↦ loads_no_slot N.shape N.places s loads.0 loads.1 slot ])
+        on_same s (keeper_happens N.shape N.places s own) stays.last stays.sweep (elim came.before [ inl was ↦ so was | inr loads ↦ loads_no_slot N.shape N.places s loads.0 loads.1 slot ])
 
     behind_part : There (keeper_run N.shape N.places first (keeper_part_of (run life.opening before) event))
     unfolding keeper_run

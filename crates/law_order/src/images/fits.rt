@@ -3,7 +3,8 @@ ghost use Rattle.law_order.specs.Images.Laws.Fits as fits;
 
 use crate::in_turn::law_ends_open;
 use law_commit::{
-    law_begun, law_commits_cut, law_gates, law_of_kept_slots, law_world_is_guarded, law_world_one_commit_stands,
+    law_begun, law_commits_cut, law_gates, law_of_kept_slots, law_world_is_guarded,
+    law_world_one_commit_stands,
 };
 use law_opening::{law_guard_opens, law_long_opens, law_told_opens};
 
