@@ -151,7 +151,8 @@ struct fkv_file {
     bool runs;         /* the thread itself resets it as it ends */
     bool stops;        /* it is to end */
     bool has_told_unwarmed; /* the hook `unwarmed` was called */
-    bool has_told_untrimmed; /* and `untrimmed` */
+    bool has_told_untrimmed; /* and `untrimmed`, that nothing can be given back */
+    bool has_told_long;      /* and that the log grows faster than it is swept */
     bool nudged;       /* a turn is wanted at once */
     bool is_stirred;   /* something was asked or done since the keeper's last turn */
     bool rests;        /* the writes of the commit in hand rest before a sync, or a flush does */
@@ -276,6 +277,9 @@ bool fkv_wants_trim(fkv_file *file);
 
 /* How long a commit waits for turns that sweep, behind the one before, in microseconds: longer if the log is half as long again as it may be. */
 uint64_t fkv_sweeps_us(fkv_file *file);
+
+/* Whether the log is four times as long as it may be. */
+bool fkv_is_too_long(fkv_file *file);
 
 /* A commit has begun, which is one of these or isn't. */
 void fkv_note_trim(fkv_file *file, bool trims);

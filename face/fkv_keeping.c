@@ -245,11 +245,12 @@ static void keep_wanted(fkv_file *file) {
     pthread_mutex_lock(&file->lock);
 }
 
-/* Calls the hook `untrimmed`, once. The file's lock is held, but in the hook. */
+/* Calls the hook `untrimmed`, once for either cause. The file's lock is held, but in the hook. */
 static void tell_untrimmed(fkv_file *file, int why) {
     const fkv_keeping *keeping = &file->keeping;
-    if (!keeping->untrimmed || file->has_told_untrimmed) return;
-    file->has_told_untrimmed = true;
+    bool *has_told = why == EAGAIN ? &file->has_told_long : &file->has_told_untrimmed;
+    if (!keeping->untrimmed || *has_told) return;
+    *has_told = true;
     pthread_mutex_unlock(&file->lock);
     keeping->untrimmed(keeping->user, why);
     pthread_mutex_lock(&file->lock);
@@ -290,6 +291,7 @@ static void go_on(struct run *run) {
     fkv_end_turn(file, &turn, result);
     if (is_finished) finish_commit(run, &turn);
     if (why) tell_untrimmed(file, why);
+    if (is_finished && fkv_is_too_long(file)) tell_untrimmed(file, EAGAIN);
 }
 
 /* Linux ends a short sleep of a thread up to 50 microseconds late, unless the thread says otherwise. */

@@ -64,7 +64,10 @@ typedef void fkv_stopped_fn(void *user, int32_t fault);
 /* Nothing keeps this store's memory warm: see fkv_start. */
 typedef void fkv_unwarmed_fn(void *user);
 
-/* The log's front can't be given back: the store has no session for it (`why` is 0), or the file system can't (errno). */
+/*
+ * The log's front can't be given back: the store has no session for it (`why` is 0), or the file system can't (errno). Or it isn't as fast as the log
+ * grows (EAGAIN).
+ */
 typedef void fkv_untrimmed_fn(void *user, int why);
 
 /* ---- Sizes ---------------------------------------------------------------------------------------------------------------- */
@@ -328,7 +331,7 @@ typedef struct {
     fkv_stopped_fn *stopped;     /* called once, as commits end for good or the log is found full, or NULL. See fkv_tick */
     fkv_unwarmed_fn *unwarmed;   /* called once, as the thread begins, if memory can't be kept warm in this store, or NULL. See below */
     uint32_t no_warmer;          /* not 0: memory isn't kept warm, though it could be */
-    uint64_t log_bytes;          /* the log's front is given back if it is longer; 0: than four times the records of all keys. See below */
+    uint64_t log_bytes;          /* the log's front is given back if it is longer; 0: than twice the records of all keys. See below */
     fkv_untrimmed_fn *untrimmed; /* called once if the front can't be given back, or NULL. See below */
 } fkv_keeping;
 
@@ -353,11 +356,16 @@ typedef struct {
  *           works for it before each turn all the same, for 2 milliseconds at most. Updates by calls of this header then wait before they
  *           begin, for 0.2 seconds at most, and refresh their sessions meanwhile
  *
- * The log's front is given back if the log is longer than `log_bytes`, or where that is 0, than four times the records of all keys and a megabyte. Then the
+ * The log's front is given back if the log is longer than `log_bytes`, or where that is 0, than twice the records of all keys and a megabyte. Then the
  * next commit is a full one, behind which the thread's turns go over the records of the front. The library's session keeps the keys that have
  * none further on: that makes new records. The log of a later commit begins behind the front, and once that is finished these bytes become a hole
- * of the file, which gets no shorter. Between two commits so much of the thread's time is taken for it that the next one may come 10 milliseconds later.
- * FKV_LOG_KEEPS gives nothing back. `untrimmed` is called once if it can't be: the store has no session for it, or the file system makes no holes.
+ * of the file, which gets no shorter. With a longer log fewer keys are kept, and the thread works less.
+ *
+ * That work is done between two commits, so the next one may come 10 milliseconds later; by `commit_ms` if the log is half as long again as it
+ * may be, and by four of them, a second at most, if it is twice as long. A key takes one record between two commits. So where no new keys come,
+ * the log doesn't get much longer than that. If it can't be swept as fast as it grows, it goes on growing (fkv_stats), and loses nothing.
+ * FKV_LOG_KEEPS gives nothing back. `untrimmed` is called once if it can't be: the store has no session for it, or the file system makes no holes; and with
+ * EAGAIN once if the log is four times as long as it may be.
  *
  * If memory has no room for the newest records of all homes, more than three in four of those that leave it are such. Then pages are let go
  * as they are, until they are half at most. Of keys that share a home only the last updated is kept.

@@ -57,6 +57,12 @@ static uint64_t length_of(const fkv_file *file, const fkv_offsets *at) {
     return (at->tail - least(at->tail, file->trimmer.begin)) * RECORD_SIZE;
 }
 
+bool fkv_is_too_long(fkv_file *file) {
+    fkv_offsets at;
+    if (!fkv_can_trim(file) || limit_of(file) == FKV_LOG_KEEPS || fkv_hint_store(&file->store, &at) < 0) return false;
+    return length_of(file, &at) / 4 > limit_of(file);
+}
+
 uint64_t fkv_sweeps_us(fkv_file *file) {
     fkv_offsets at;
     if (!file->trimmer.is_on || fkv_hint_store(&file->store, &at) < 0) return SWEEPS_US;

@@ -6,6 +6,7 @@
 #include "fkv_posix.h"
 #include "tests.h"
 
+#include <errno.h>
 #include <pthread.h>
 #include <stdatomic.h>
 #include <stdbool.h>
@@ -122,6 +123,22 @@ static void alone(void) {
     WANTS("why", atomic_load(&why_untrimmed), 0);
 }
 
+/* A log that may have no record is too long at once. */
+static void too_long(void) {
+    fkv_session *session;
+    atomic_store(&untold, 0);
+    WANTS("opening", fkv_open_file(path_of("store"), NULL, &file), 0);
+    WANTS("starting the keeper", fkv_start(file, &(fkv_keeping){.log_bytes = 1, .untrimmed = note_untrimmed}), 0);
+    WANTS("joining", fkv_join(file, FKV_ANY_SESSION, &session), 0);
+    WANTS("a put", fkv_put(file, session, 1, 1, NULL), FKV_DONE);
+    WANTS("a commit", fkv_commit_and_wait(file, session), 0);
+    WANTS("another commit", fkv_commit_and_wait(file, session), 0);
+    WANTS("leaving", fkv_leave(file, session), 0);
+    WANTS("closing", fkv_close_file(file), 0);
+    WANTS("how often it was told", atomic_load(&untold), 1);
+    WANTS("why", atomic_load(&why_untrimmed), EAGAIN);
+}
+
 int main(int count, char **words) {
     if (count != 2) return 2;
     folder = words[1];
@@ -130,6 +147,7 @@ int main(int count, char **words) {
     play();
     play();
     renew();
+    too_long();
     alone();
     return 0;
 }

@@ -86,7 +86,7 @@ impl Keeping {
         self
     }
 
-    /// Gives the log's front back if the log is longer than so many bytes; by default, than four times the records of all keys. That takes commits, a part of
+    /// Gives the log's front back if the log is longer than so many bytes; by default, than twice the records of all keys. That takes commits, a part of
     /// the thread's time, and a record for each key that stands in the front alone (fkv_start of fkv_posix.h).
     pub fn log_bytes(mut self, bytes: u64) -> Keeping {
         self.log_bytes = bytes.max(1);
@@ -100,6 +100,7 @@ impl Keeping {
     }
 
     /// This is called once, in the keeper's thread, if the log's front can't be given back: with the system's error, or none where the store has no session for it.
+    /// And once with `WouldBlock` if the log is four times as long as it may be, since it grows faster than it is swept.
     pub fn untrimmed(mut self, tell: impl FnMut(Option<io::Error>) + Send + 'static) -> Keeping {
         self.hooks.untrimmed = Some(Box::new(tell));
         self
