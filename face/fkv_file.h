@@ -66,6 +66,9 @@ struct warmer {
     uint64_t next;           /* the record that it looks at next. It stays over a stop of the thread */
     uint64_t begun;          /* where the log ended as the thread began */
     uint64_t serial;         /* of the session's last update */
+    uint64_t first;          /* and of the last one before the opening */
+    uint64_t trimmed;        /* so many since then were of keys that a sweep wanted */
+    bool was_begun;          /* `first` is known */
     uint64_t since;          /* from that record on so many were looked at, and so many of these were the newest of their homes */
     uint64_t looked, newest;
     struct timespec waits;   /* since then nothing of its requests was finished */
@@ -76,15 +79,16 @@ struct warmer {
 struct trimmer {
     uint64_t begin;   /* where the newest finished commit's log begins, as far as the thread has seen */
     uint64_t punched; /* all below was given back */
-    uint64_t swept;   /* records that sweeps have read */
     uint64_t end;     /* where the last sweep that was asked for ends, about */
     size_t wanted;    /* so many keys wait to be kept */
     uint64_t keys[FKV_MOST_WANTED];
     bool is_on;       /* a commit was asked for behind which turns sweep, and none has moved the begin yet */
     bool is_next;     /* the commit in hand is such a one */
-    bool has_more;    /* the last turn that swept has read something */
-    bool is_done;     /* it has found nothing to read, and no key is wanted: the next commit moves the begin */
-    bool cant_punch;  /* the file system gives nothing back */
+    bool is_keeping;  /* keys were kept, and may wait still */
+    bool has_read;    /* the last turn that swept has read something */
+    bool has_more;    /* the next one has something to do */
+    bool is_done;     /* the last one has found nothing to do: the next commit moves the begin */
+    int why;          /* errno where the file system gives nothing back, or 0 */
 };
 
 struct fkv_file {
@@ -135,6 +139,8 @@ struct fkv_file {
     pthread_cond_t over;   /* who wants the turn and can't do without waits for it: a turn is over */
     pthread_cond_t served; /* sessions wait for it: a turn has called the file */
     pthread_cond_t news;   /* others wait for it: a commit has ended, or the thread */
+    uint64_t begin;        /* of the trimmer, and how many records sweeps have read, as fkv_stats tells them */
+    uint64_t swept;
     bool is_wanted;        /* somebody waits for the turn, so nobody else takes it before */
     uint32_t waiting;      /* how many sessions wait to be served */
     uint32_t joined;       /* a bit for each session that is joined */
@@ -261,6 +267,9 @@ bool fkv_awaits_warmer(fkv_file *file);
 /* A read of this session has found the key in the file alone. */
 void fkv_note_found(fkv_file *file, const fkv_session *session, uint64_t key);
 
+/* Whether the library's session may keep so many records more as it does at once: it hasn't had its share of the log. */
+bool fkv_has_share(const fkv_file *file);
+
 /* Keeps the records of these keys by the library's session, nothing of which is pending. Gives how many were taken. */
 size_t fkv_keep_own(fkv_file *file, const uint64_t *keys, size_t count);
 
@@ -278,6 +287,9 @@ bool fkv_wants_trim(fkv_file *file);
 /* How long a commit waits for turns that sweep, behind the one before, in microseconds: longer if the log is half as long again as it may be. */
 uint64_t fkv_sweeps_us(fkv_file *file);
 
+/* Whether the log's length has a limit. */
+bool fkv_limits_log(const fkv_file *file);
+
 /* Whether the log is four times as long as it may be. */
 bool fkv_is_too_long(fkv_file *file);
 
@@ -287,6 +299,9 @@ void fkv_note_trim(fkv_file *file, bool trims);
 /* Whether turns may sweep now. The lock is held. */
 bool fkv_has_sweep(const fkv_file *file);
 
+/* Whether a turn that sweeps would get on: no key that was wanted waits to be kept. The keeper's thread calls. */
+bool fkv_may_sweep(const fkv_file *file);
+
 /* Notes what a turn has found that swept. */
 void fkv_note_swept(fkv_file *file, const struct turn *turn);
 
@@ -295,6 +310,9 @@ void fkv_keep_wanted(fkv_file *file);
 
 /* A commit was finished: its log may begin further on. */
 void fkv_note_begin(fkv_file *file);
+
+/* A full commit was finished, which has counted the index's entries: the log may have more room than was known. */
+void fkv_note_entries(fkv_file *file);
 
 /* Gives a piece of the front back. 0, or errno the one time that the file system can't. */
 int fkv_give_back(fkv_file *file);

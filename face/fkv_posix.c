@@ -329,7 +329,7 @@ static int32_t take_handles(fkv_file *file) {
         /* One that sleeps already stays so. */
         if (result == 0) fkv_sleep(&file->sessions[i]);
     }
-    if (result == 0) file->trimmer.begin = fkv_begin(&file->keeper);
+    if (result == 0) file->begin = file->trimmer.begin = fkv_begin(&file->keeper);
     return result;
 }
 

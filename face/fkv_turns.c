@@ -219,6 +219,7 @@ void fkv_end_turn(fkv_file *file, const struct turn *turn, int32_t result) {
     file->turns += result == FKV_OVER;
     file->called += turn->has_called;
     file->cold_reads += turn->reads;
+    file->swept += turn->swept;
     file->rests = turn->rests;
     if (turn->end > file->log_end) file->log_end = turn->end;
     if (turn->has_called) file->is_stirred = true;

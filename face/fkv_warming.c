@@ -169,10 +169,12 @@ static size_t look(fkv_file *file, uint64_t to) {
     return count + KEEPS * newest;
 }
 
-/* Whether it may keep SLICE records more: nothing of its session waits, and it hasn't had its share of the log. */
+bool fkv_has_share(const fkv_file *file) { return file->warmer.serial + SLICE <= fkv_records_of(&file->shape) / SHARE; }
+
+/* Whether it may keep SLICE records more: nothing of its session waits, and it has its share of the log. */
 static bool may_keep(const fkv_file *file) {
     const struct warmer *its = &file->warmer;
-    return its->is_on && !its->is_awake && its->serial + SLICE <= fkv_records_of(&file->shape) / SHARE;
+    return its->is_on && !its->is_awake && fkv_has_share(file);
 }
 
 /* Goes over the records below this one, as far as that takes no more than so many looks. */
@@ -221,9 +223,10 @@ static bool take_found(fkv_file *file, uint64_t *key) {
     return false;
 }
 
-/* Reads alone shall not fill a file: no more than half of the log's records may be its own for them. */
+/* Reads alone shall not fill a file: since the opening no more than half of the log's records may be its own, but for those that a sweep wanted. */
 static bool has_found(fkv_file *file, const fkv_offsets *at) {
-    return file->warmer.serial < at->tail / 2 && atomic_load(&file->has_found);
+    const struct warmer *its = &file->warmer;
+    return its->serial - its->first - its->trimmed < at->tail / 2 && atomic_load(&file->has_found);
 }
 
 /* Keeps such keys, up to the first that waits for the file: turns read for a session one by one. */
@@ -240,6 +243,8 @@ void fkv_begin_warming(fkv_file *file) {
     struct warmer *its = &file->warmer;
     fkv_offsets at = {.tail = 0};
     bool has_serial = file->has_own && fkv_serial(own(file), &its->serial) == 0;
+    if (!its->was_begun) its->first = its->serial;
+    its->was_begun = true;
     its->is_on = !file->keeping.no_warmer && fkv_can_warm(file) && has_serial;
     its->has_more = false;
     if (its->is_on && fkv_hint_offsets(own(file), &at) < 0) its->is_on = false;
@@ -256,7 +261,7 @@ static bool may_go_on(fkv_file *file, fkv_offsets *at) {
     const struct warmer *its = &file->warmer;
     uint64_t records = fkv_records_of(&file->shape), left = most(records / LAST, LEAST_LEFT);
     if (!its->is_on || atomic_load(&file->ends) || fkv_hint_offsets(own(file), at) < 0) return false;
-    return its->serial + SLICE <= records / SHARE && at->tail < records - left;
+    return fkv_has_share(file) && at->tail < records - left;
 }
 
 /* The usual work, and as long a rest behind it. */

@@ -1,5 +1,5 @@
 -- What the keeper's exports tell.
-use Rattle.std.specs.Prelude.{◌≡◌, ◌||◌, ◌++◌, ℕ, nat_eq, ℤ, pos, if◌then◌else◌, min, Bool, true, false, List, length, map, take, drop, Option, Some, None, Result, Ok, Err}
+use Rattle.std.specs.Prelude.{◌≡◌, ◌++◌, ℕ, ◌==◌, ℤ, pos, if◌then◌else◌, min, Bool, true, false, List, length, map, take, drop, Option, Some, None, Result, Ok, Err}
 use Rattle.fkv_base.specs.declared.commits.CommitKind.{CommitKind}
 use Rattle.fkv_base.specs.declared.commits.CommitKind.TheVariants.{Full, Log}
 use Rattle.fkv_base.specs.declared.numbers.Addr.{Addr}
@@ -51,7 +51,7 @@ IsNext (Over (Err why)) due result t t' points points' = (result ≡ fault_told 
 
 -- a full commit, with a sweep of the log's front behind it (2) or without one (0), and else a log commit
 abbrev pub kind_of : ℕ → CommitKind
-kind_of number = if nat_eq number 0 || nat_eq number 2 then Full else Log
+kind_of number = if number == 0 then Full else (if number == 2 then Full else Log)
 
 -- as many keys as there is room for, and how many; behind them the room is as it was
 abbrev pub IsWanted : List Key → ℕ → List ℕ → List ℕ → Type 0

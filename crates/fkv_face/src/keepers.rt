@@ -168,15 +168,24 @@ pub extern "C" fn fkv_told(
 /// A full commit behind which the log's front is swept.
 const TRIM: u32 = 2;
 
+fn kind_of(kind: u32) -> CommitKind
+    ensures { result ≡ says.kind_of kind }
+{
+    match kind {
+        0 | TRIM => CommitKind::Full,
+        _ => CommitKind::Log,
+    }
+}
+
 /// Begins a commit of a kind: a full one (0), or behind which the log's front is swept (`TRIM`), or a log commit.
 fn ask(keeper: &mut HeldKeeper, kind: u32) -> Result<Version, Fault>
     ensures { says.IsAskedBy ⟦<Posted<'static> as Device>⟧ (says.kind_of kind) (says.watch_of keeper.old.value) result (says.watch_of keeper.new.value) }
 {
-    match kind {
-        0 => keeper.lent().ask_commit(CommitKind::Full),
-        TRIM => keeper.lent().ask_trim(),
-        _ => keeper.lent().ask_commit(CommitKind::Log),
+    if kind == TRIM {
+        return keeper.lent().ask_trim();
     }
+    let kind = kind_of(kind);
+    keeper.lent().ask_commit(kind)
 }
 
 /// Begins a commit, and tells its number: a full one where `kind` is 0, one behind which the log's front is swept where it is 2, and else a log commit. `Broken`,

@@ -47,6 +47,10 @@ class Commit:
     points: tuple[int, ...]
 
 
+# In place of `log_bytes` of Keeping: nothing of the log is given back.
+LOG_KEEPS = 2**64 - 1
+
+
 @dataclass(frozen=True)
 class Keeping:
     """How the keeper's thread goes. Its hooks are called in that thread, and make no call of the store: keep them short."""
@@ -59,7 +63,7 @@ class Keeping:
     stopped: Optional[Callable[[Error], None]] = None  # once, as commits end for good, or the log is full
     unwarmed: Optional[Callable[[], None]] = None  # once, if memory can't be kept warm in this store
     warms: bool = True  # memory is kept warm, if it can be
-    log_bytes: int = 0  # the log's front is given back if it is longer; 0: than twice the records of all keys; LOG_KEEPS: never
+    log_bytes: int = 0  # the log's front is given back if it is longer; 0: than twice the records of all keys, a megabyte at least; LOG_KEEPS: never
     untrimmed: Optional[Callable[[int], None]] = None  # once, if it can't be: by errno, or 0 where the store has no session for it; EAGAIN: if the log grows faster
 
 
