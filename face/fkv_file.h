@@ -75,7 +75,7 @@ struct warmer {
     struct timespec rests_until;
 };
 
-/* What is known of the log's front, which is to be given back. It is of who has the turn, but for the keys: these are the keeper's thread's. */
+/* What is known of the log's front, which is to be given back. It is the keeper's thread's. */
 struct trimmer {
     uint64_t begin;   /* where the newest finished commit's log begins, as far as the thread has seen */
     uint64_t punched; /* all below was given back */
@@ -88,7 +88,9 @@ struct trimmer {
     bool has_read;    /* the last turn that swept has read something */
     bool has_more;    /* the next one has something to do */
     bool is_done;     /* the last one has found nothing to do: the next commit moves the begin */
-    int why;          /* errno where the file system gives nothing back, or 0 */
+    bool is_spent;    /* what was wanted couldn't be kept: nothing is swept any more, until the thread begins anew */
+    bool waits;       /* the file system gives nothing back before the next commit is finished */
+    int why;          /* errno where it never does, or 0 */
 };
 
 struct fkv_file {
@@ -273,7 +275,7 @@ bool fkv_has_share(const fkv_file *file);
 /* Keeps the records of these keys by the library's session, nothing of which is pending. Gives how many were taken. */
 size_t fkv_keep_own(fkv_file *file, const uint64_t *keys, size_t count);
 
-/* ---- Of the log's front. Who calls has the turn, but where it is said otherwise. --------------------------------------------------------- */
+/* ---- Of the log's front. The keeper's thread calls, with the turn or the lock. ---------------------------------------------------------- */
 
 /* Whether it can be given back in this store. */
 bool fkv_can_trim(const fkv_file *file);
@@ -284,7 +286,7 @@ void fkv_begin_trimming(fkv_file *file);
 /* Whether the next commit should be one behind which turns sweep: the log is longer than it may be. */
 bool fkv_wants_trim(fkv_file *file);
 
-/* How long a commit waits for turns that sweep, behind the one before, in microseconds: longer if the log is half as long again as it may be. */
+/* How long a commit by the clock waits for turns that sweep, behind the one before, in microseconds: 0 unless the log is half as long again as it may be. */
 uint64_t fkv_sweeps_us(fkv_file *file);
 
 /* Whether the log's length has a limit. */
@@ -305,7 +307,10 @@ bool fkv_may_sweep(const fkv_file *file);
 /* Notes what a turn has found that swept. */
 void fkv_note_swept(fkv_file *file, const struct turn *turn);
 
-/* Has the library's session keep the keys that are wanted. The keeper's thread calls, without the turn. */
+/* Nothing of the library's session waits any more, or something still does. Without the turn. */
+void fkv_note_kept(fkv_file *file);
+
+/* Has the library's session keep the keys that are wanted. Without the turn. */
 void fkv_keep_wanted(fkv_file *file);
 
 /* A commit was finished: its log may begin further on. */
@@ -314,7 +319,10 @@ void fkv_note_begin(fkv_file *file);
 /* A full commit was finished, which has counted the index's entries: the log may have more room than was known. */
 void fkv_note_entries(fkv_file *file);
 
-/* Gives a piece of the front back. 0, or errno the one time that the file system can't. */
+/* Whether there is something of the front to give back, and the file system may take it. */
+bool fkv_gives_back(const fkv_file *file);
+
+/* Gives a piece of it back. 0, or errno the one time that the file system can't. */
 int fkv_give_back(fkv_file *file);
 
 /* ---- Of records that the file alone has. The lock isn't held. --------------------------------------------------------------- */

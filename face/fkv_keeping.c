@@ -225,10 +225,13 @@ static uint32_t rest_us(const struct run *run) {
 static void rest(const struct run *run) {
     fkv_file *file = run->file;
     const struct warmer *warmer = &file->warmer;
-    if (run->has_called || file->rests || file->nudged || file->stops) return;
-    struct timespec until = fkv_later(fkv_now(), rest_us(run));
+    if (run->has_called || file->rests || file->nudged || file->stops || (!run->is_put_off && is_due(run))) return;
+    struct timespec until = fkv_later(fkv_now(), rest_us(run)), due = run->next;
+    bool sweeps = fkv_has_sweep(file) && file->trimmer.has_more;
+    if (sweeps && fkv_is_before(due, run->longer)) due = run->longer;
     if (warmer->has_more && fkv_is_before(warmer->rests_until, until)) until = warmer->rests_until;
-    if (goes_by_clock(file) && !run->is_put_off && fkv_is_before(run->next, until)) until = run->next;
+    if (goes_by_clock(file) && !run->is_put_off && fkv_is_before(due, until)) until = due;
+    if (sweeps && file->asked > file->covers && fkv_is_before(run->sweeps, until)) until = run->sweeps;
     pthread_cond_timedwait(&file->work, &file->lock, &until);
 }
 
@@ -252,14 +255,6 @@ static void warm(const struct run *run) {
     pthread_mutex_lock(&file->lock);
 }
 
-/* The library's session keeps what a sweep wants. The lock is held, but meanwhile. */
-static void keep_wanted(fkv_file *file) {
-    if (file->trimmer.wanted == 0) return;
-    pthread_mutex_unlock(&file->lock);
-    fkv_keep_wanted(file);
-    pthread_mutex_lock(&file->lock);
-}
-
 /* Calls the hook `untrimmed`, once for either cause. The file's lock is held, but in the hook. */
 static void tell_untrimmed(fkv_file *file, int why) {
     const fkv_keeping *keeping = &file->keeping;
@@ -278,7 +273,6 @@ static void go_on(struct run *run) {
     fkv_sync_ahead(file);
     tend_abandoned(run);
     warm(run);
-    keep_wanted(file);
     fkv_take_turn(file);
     bool begins = begin_commit(run);
     bool commits = file->in_hand;
@@ -300,7 +294,7 @@ static void go_on(struct run *run) {
     run->written += turn.written;
     run->copied += turn.copied;
     /* What was let go on does so in the next turn. Who waits for a read makes its turns, and would only find this thread in the way. */
-    run->has_called = goes_on || (sweeps && result == FKV_OVER && file->trimmer.has_more) || (turn.has_called && (turn.written > 0 || commits || !is_helped));
+    run->has_called = goes_on || (sweeps && result == FKV_OVER && file->trimmer.has_more) || fkv_gives_back(file) || (turn.has_called && (turn.written > 0 || commits || !is_helped));
     pthread_mutex_lock(&file->lock);
     if (is_finished) file->in_hand = false;
     fkv_end_turn(file, &turn, result);

@@ -350,8 +350,8 @@ typedef struct {
  * Serials, points and values of users stay as they are. A store in which nothing is appended and found does none of it. What it may take:
  *
  *   log     Of all records that calls may append in the store's life an eighth at most are the library's, and for reads since the opening no
- *           more than half of those that are there. So -FKV_LOG_FULL comes by an eighth of the log earlier at most. Nothing is kept any more where a
- *           sixteenth of that room is left, or 65,536 records if that is more. A renewal begins anew
+ *           more than half of those that are there. So -FKV_LOG_FULL comes by an eighth of the log earlier at most. But for what a sweep wants nothing is kept
+ *           any more where a sixteenth of that room is left, or 65,536 records if that is more. A renewal begins anew
  *   time    Half of the thread's at most, and none while a commit waits for sessions. If it is behind with what is about to leave memory, it
  *           works for it before each turn all the same, for 2 milliseconds at most. Updates by calls of this header then wait before they
  *           begin, for 0.2 seconds at most, and refresh their sessions meanwhile
@@ -366,7 +366,7 @@ typedef struct {
  * the log doesn't get much longer than that. If it can't be swept as fast as it grows, it goes on growing (fkv_stats), and loses nothing.
  * FKV_LOG_KEEPS gives nothing back. `untrimmed` is called once if it can't be: the store has no session for it, or the file system makes no holes; and with
  * EAGAIN once if the log is four times as long as it may be, as a full commit finds. The keys that are kept count to the library's share of the log, and
- * once that is spent nothing more is given back.
+ * once that is spent no sweep goes on.
  *
  * If memory has no room for the newest records of all homes, more than three in four of those that leave it are such. Then pages are let go
  * as they are, until they are half at most. Of keys that share a home only the last updated is kept.

@@ -18,7 +18,7 @@ enum {
     PIECE = 1 << 26,
     /* So long a commit by the clock waits for turns that sweep, at most. */
     MOST_SWEEPS_US = 1000000,
-    /* File systems give back blocks of so many bytes at most. */
+    /* Most file systems give back blocks of so many bytes, or of fewer. */
     MOST_BLOCK = 65536,
     /* The log's first record. */
     FIRST = 1
@@ -32,8 +32,8 @@ bool fkv_can_trim(const fkv_file *file) { return file->has_own; }
 
 void fkv_begin_trimming(fkv_file *file) {
     struct trimmer *its = &file->trimmer;
-    its->begin = fkv_begin(&file->keeper);
-    its->is_on = its->is_next = its->is_done = its->has_more = its->is_keeping = false;
+    its->begin = file->begin;
+    its->is_on = its->is_next = its->is_done = its->has_more = its->is_keeping = its->is_spent = false;
     its->wanted = 0;
 }
 
@@ -68,7 +68,7 @@ uint64_t fkv_sweeps_us(fkv_file *file) {
 
 bool fkv_wants_trim(fkv_file *file) {
     struct trimmer *its = &file->trimmer;
-    if (!fkv_can_trim(file) || !fkv_limits_log(file) || !fkv_has_share(file) || (its->is_on && !its->is_done)) return false;
+    if (!fkv_can_trim(file) || !fkv_limits_log(file) || !fkv_has_share(file) || its->is_spent || (its->is_on && !its->is_done)) return false;
     /* A sweep that is done moves the begin by this commit. */
     return length_from(file, its->is_on ? its->end : its->begin) > limit_of(file);
 }
@@ -107,9 +107,16 @@ void fkv_keep_wanted(fkv_file *file) {
     uint64_t before = file->warmer.serial;
     if (fkv_has_share(file)) fkv_keep_own(file, its->keys, its->wanted);
     file->warmer.trimmed += file->warmer.serial - before;
-    file->warmer.has_more |= file->warmer.is_awake;
     its->wanted = 0;
     its->is_keeping = true;
+    if (file->warmer.serial > before) return;
+    /* The library has had its share, or the log is full: no sweep gets on any more. */
+    its->is_spent = true;
+    its->is_on = its->has_more = false;
+}
+
+void fkv_note_kept(fkv_file *file) {
+    if (!file->warmer.is_awake) file->trimmer.is_keeping = false;
 }
 
 void fkv_note_begin(fkv_file *file) {
@@ -118,7 +125,7 @@ void fkv_note_begin(fkv_file *file) {
     if (begin > its->begin) its->is_on = false;
     its->begin = begin;
     its->is_on |= its->is_next;
-    its->is_next = its->is_done = false;
+    its->is_next = its->is_done = its->waits = false;
     its->has_more = its->is_on;
 }
 
@@ -141,11 +148,20 @@ static int punch(const fkv_file *file, uint64_t from, uint64_t to) {
     return failed;
 }
 
+static bool is_for_good(int why) { return why == EOPNOTSUPP || why == ENOSYS || why == EPERM; }
+
+bool fkv_gives_back(const fkv_file *file) {
+    const struct trimmer *its = &file->trimmer;
+    return !its->why && !its->waits && most(its->punched, FIRST) < its->begin && fkv_limits_log(file);
+}
+
 int fkv_give_back(fkv_file *file) {
     struct trimmer *its = &file->trimmer;
     uint64_t from = most(its->punched, FIRST), to = least(its->begin, from + PIECE / RECORD_SIZE);
-    if (its->why || from >= to || !fkv_limits_log(file)) return 0;
-    its->why = punch(file, from, to) ? errno : 0;
-    its->punched = to;
-    return its->why;
+    if (!fkv_gives_back(file)) return 0;
+    if (punch(file, from, to) == 0) its->punched = to;
+    else if (is_for_good(errno)) return its->why = errno;
+    /* (a full disk, say: once more behind the next commit) */
+    else its->waits = true;
+    return 0;
 }

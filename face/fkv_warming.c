@@ -292,6 +292,9 @@ void fkv_warm(fkv_file *file, bool has_time) {
     fkv_offsets at;
     its->has_more = false;
     if (its->is_awake) fkv_rest_own(file);
+    /* What a sweep wants comes first, so that pages never keep it from getting on. */
+    fkv_note_kept(file);
+    fkv_keep_wanted(file);
     bool goes_on = may_go_on(file, &at);
     if (goes_on && !its->is_awake) step(file, &at, has_time);
     its->has_more |= its->is_awake;

@@ -222,7 +222,7 @@ static void too_long(void) {
     WANTS("another commit", fkv_commit_and_wait(file, session), 0);
     WANTS("leaving", fkv_leave(file, session), 0);
     WANTS("closing", fkv_close_file(file), 0);
-    WANTS("how often it was told", atomic_load(&untold), 1);
+    WANTS("whether it was told", atomic_load(&untold) > 0, true);
     WANTS("why", atomic_load(&why_untrimmed), EAGAIN);
 }
 
