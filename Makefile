@@ -20,6 +20,8 @@
 # make hammer  runs lives of stores that four threads share, each ended by a crash, for a minute or SECONDS
 # make endless  runs the library of `make face`, or with QUICK=1 that without proof, over one file with a commit each 5 milliseconds, and kills it now and
 #              then, for half an hour or SECONDS
+# make trimming  runs the library of `make face`, or with QUICK=1 that without proof, over files whose log is given back at its front, beside such that keep it,
+#              says how calls, file and rate fare, and kills it again and again, for eleven minutes or SECONDS and a tenth more
 # make stream  counts by key from partitions of a log, over Redis, with workers that are killed and partitions that move: docs/STREAM.md
 # make gate    runs the gate, and writes the processor time of each crate into docs/GATE.md
 # make audit   tries the wrong bodies that the gate leaves out, those of crates/*/audit, or of the crates in CRATES
@@ -49,7 +51,7 @@ CRATES ?=
 # The commit that `make impact` compares with.
 BASE ?=
 
-.PHONY: run test fkv face face-proved install fkv_renew fkv_look rows renewing memory large bench bench-peers hammer endless stream gate near impact warm audit docs toolchain
+.PHONY: run test fkv face face-proved install fkv_renew fkv_look rows renewing memory large bench bench-peers hammer endless trimming stream gate near impact warm audit docs toolchain
 
 run: toolchain
 	@tools/script/run "$(SCRIPT)" $(WORDS)
@@ -131,6 +133,10 @@ hammer: toolchain
 endless: SECONDS = 1800
 endless: face
 	tools/endless/run $(SECONDS) $(if $(QUICK),build/unproved,build)
+
+trimming: SECONDS = 600
+trimming: face
+	tools/trimming/run $(SECONDS) $(if $(QUICK),build/unproved,build)
 
 stream:
 	face/examples/stream/run

@@ -74,6 +74,9 @@ const char *fkv_formats(void);
 /* Bytes of a read that a turn posts. */
 #define FKV_READ_SIZE 24
 
+/* The most that a read of the file has: that of a sweep. */
+#define FKV_MOST_READ 768
+
 /* Commits that a specified store takes in all its life, and a living one. */
 #define FKV_MOST_COMMITS 8190
 #define FKV_MOST_LIVING_COMMITS UINT64_C(35184372088830)
@@ -431,17 +434,36 @@ static inline void fkv_free_session(fkv_session session) { free(session.at); }
 
 /* ---- The keeper ----------------------------------------------------------------------------------------------------------- */
 
+/* The kinds of a commit. */
+enum { FKV_FULL = 0, FKV_LOG = 1, FKV_TRIM = 2 };
+
 /*
- * Begins a commit, and writes its number; later turns carry it on, and one of them reports that it is finished. A log commit
- * (`log_only` not 0) writes the log alone, and leaves the index to the last full one: it is shorter, and the next opening longer.
+ * Begins a commit of a kind, and writes its number; later turns carry it on, and one of them reports that it is finished. A log commit
+ * (FKV_LOG) writes the log alone, and leaves the index to the last full one: it is shorter, and the next opening longer. FKV_TRIM is a full one, behind which
+ * turns by fkv_turn and fkv_sweep go over the log's front (living stores alone): up to the commit's first record, 256 records at most in a turn, and only with no
+ * commit in hand. Once all of them are passed, the log of the next commit that begins begins there (fkv_begin). See fkv_wanted.
  * 0; -FKV_BROKEN, -FKV_COMMIT_RUNNING, -FKV_VERSIONS_SPENT, -FKV_LOST_FULL, -FKV_EPOCHS_SPENT, -FKV_DRAIN_FULL.
  */
-int32_t fkv_commit(fkv_keeper *keeper, uint32_t log_only, uint64_t *number);
+int32_t fkv_commit(fkv_keeper *keeper, uint32_t kind, uint64_t *number);
+
+/*
+ * Which keys keep the log's front from being given up: writes them as the store has them, as many as fit, and tells how many. The last turn that has swept has
+ * found that the front has their newest records. Each is kept by fkv_merge with FKV_KEEP, by any session, and of FKV_SPREAD by the key fkv_spread_back of the word.
+ * Nobody is trusted for it: the next such turn looks again. There are FKV_MOST_WANTED at most. `keys` isn't NULL, though `room` may be 0.
+ */
+size_t fkv_wanted(fkv_keeper *keeper, uint64_t *keys, size_t room);
+enum { FKV_MOST_WANTED = 16 };
+
+/*
+ * The address at which the log of the newest finished commit begins. No record below it is read any more, nor counts after a crash: these bytes of the file may be
+ * given back. 0 after fkv_end_keeper.
+ */
+uint64_t fkv_begin(fkv_keeper *keeper);
 
 /*
  * Begins a turn, or asks again what the turn in hand has posted. The answer says what the caller does next:
  *
- *   FKV_READ    reads `length` bytes (24) of the file at `place`, with zeros past its end, and gives them to fkv_io_done
+ *   FKV_READ    reads `length` bytes (24, in a sweep 768) of the file at `place`, with zeros past its end, and gives them to fkv_io_done
  *   FKV_WRITE   writes the `length` bytes at `bytes` to `place`, all of them. It may lie past the end of the file, which then grows
  *   FKV_SYNC    syncs the file (fdatasync)
  *   FKV_OVER    the turn is over. If it has finished a commit, `finished` is 1, `number` is its number, and `points` has each
@@ -469,6 +491,9 @@ int32_t fkv_turn(fkv_keeper *keeper, fkv_turned *turned, uint64_t *points, size_
  * few turns more for a commit.
  */
 int32_t fkv_serve(fkv_keeper *keeper, fkv_turned *turned, uint64_t *points, size_t room);
+
+/* As fkv_serve, but that a sweep of the log's front goes on, as in fkv_turn. */
+int32_t fkv_sweep(fkv_keeper *keeper, fkv_turned *turned, uint64_t *points, size_t room);
 
 /* 1 where writes of a commit or a flush rest behind the last turn, and weren't let go on: then fkv_serve only serves. Else 0. */
 int32_t fkv_rests(fkv_keeper *keeper);

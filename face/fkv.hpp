@@ -103,6 +103,8 @@ struct Keeping {
     std::function<void(std::int32_t fault)> stopped{}; /* once, as commits end for good, or the log is full: FKV_LOG_FULL */
     std::function<void()> unwarmed{};                  /* once, if memory can't be kept warm in this store */
     bool warms = true;                                 /* memory is kept warm, if it can be */
+    std::uint64_t log_bytes = 0;                       /* the log's front is given back if it is longer; 0: than twice the records of all keys */
+    std::function<void(int why)> untrimmed{};          /* once, if it can't be: errno, or 0 where the store has no session for it; EAGAIN: if the log grows faster */
 };
 
 /* What an update has done. */
@@ -289,6 +291,7 @@ public:
         how.log_commits = keeping.log_commits;
         how.turn_us = static_cast<std::uint32_t>(keeping.turn_each.count());
         how.no_warmer = !keeping.warms;
+        how.log_bytes = keeping.log_bytes;
         how.user = const_cast<Keeping *>(kept.get());
         if (keeping.committed)
             how.committed = [](void *user, std::uint64_t number, const std::uint64_t *points, std::size_t sessions) {
@@ -298,6 +301,7 @@ public:
             how.progress = [](void *user, const fkv_progress *its) { static_cast<const Keeping *>(user)->progress(*its); };
         if (keeping.stopped)
             how.stopped = [](void *user, std::int32_t result) { static_cast<const Keeping *>(user)->stopped(-result); };
+        if (keeping.untrimmed) how.untrimmed = [](void *user, int why) { static_cast<const Keeping *>(user)->untrimmed(why); };
         if (keeping.unwarmed) how.unwarmed = [](void *user) { static_cast<const Keeping *>(user)->unwarmed(); };
         check(fkv_start(get(), &how));
         file_->keeping = std::move(kept);

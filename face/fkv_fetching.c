@@ -47,7 +47,7 @@ static bool read_kept(fkv_file *file, uint64_t place, uint8_t into[FKV_READ_SIZE
     return false;
 }
 
-int fkv_read_record(fkv_file *file, const fkv_turned *turned, uint8_t into[FKV_READ_SIZE]) {
+int fkv_read_record(fkv_file *file, const fkv_turned *turned, uint8_t into[FKV_MOST_READ]) {
     if (!file->is_mapped && read_kept(file, turned->place, into)) return 0;
     if (!file->is_mapped && !file->hides_waits) return fkv_call_file(file->fd, FKV_READ, turned, into);
     struct timespec begun = fkv_now();

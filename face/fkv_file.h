@@ -33,6 +33,7 @@ struct turn {
     uint64_t written; /* bytes */
     uint64_t end;     /* the furthest place that was written */
     uint64_t reads;   /* records that were read back */
+    uint64_t swept;   /* records that a sweep has read */
     uint64_t copied;  /* entries of the index that were written, as a full commit writes all */
     int why;          /* errno of the call of the file that has failed */
     bool has_called;  /* it has called the file, so the next turn may have something to do */
@@ -65,10 +66,31 @@ struct warmer {
     uint64_t next;           /* the record that it looks at next. It stays over a stop of the thread */
     uint64_t begun;          /* where the log ended as the thread began */
     uint64_t serial;         /* of the session's last update */
+    uint64_t first;          /* and of the last one before the opening */
+    uint64_t trimmed;        /* so many since then were of keys that a sweep wanted */
+    bool was_begun;          /* `first` is known */
     uint64_t since;          /* from that record on so many were looked at, and so many of these were the newest of their homes */
     uint64_t looked, newest;
     struct timespec waits;   /* since then nothing of its requests was finished */
     struct timespec rests_until;
+};
+
+/* What is known of the log's front, which is to be given back. It is the keeper's thread's. */
+struct trimmer {
+    uint64_t begin;   /* where the newest finished commit's log begins, as far as the thread has seen */
+    uint64_t punched; /* all below was given back */
+    uint64_t end;     /* where the last sweep that was asked for ends, about */
+    size_t wanted;    /* so many keys wait to be kept */
+    uint64_t keys[FKV_MOST_WANTED];
+    bool is_on;       /* a commit was asked for behind which turns sweep, and none has moved the begin yet */
+    bool is_next;     /* the commit in hand is such a one */
+    bool is_keeping;  /* keys were kept, and may wait still */
+    bool has_read;    /* the last turn that swept has read something */
+    bool has_more;    /* the next one has something to do */
+    bool is_done;     /* the last one has found nothing to do: the next commit moves the begin */
+    bool is_spent;    /* what was wanted couldn't be kept: nothing is swept any more, until the thread begins anew */
+    bool waits;       /* the file system gives nothing back before the next commit is finished */
+    int why;          /* errno where it never does, or 0 */
 };
 
 struct fkv_file {
@@ -76,6 +98,7 @@ struct fkv_file {
     char *path; /* without links; NULL where the system didn't say */
     uint32_t keys; /* how they are placed: see fkv_open */
     uint64_t warm; /* how many records an opening gives memory: see fkv_open */
+    uint64_t log_bytes; /* that were wished for the log, or 0 */
     fkv_shape shape; /* with the sessions of users alone, and all overflow buckets */
     bool is_living;  /* its calls leave room to its polls, so that none of these ever finds it full */
     bool has_own;    /* the session behind those of users is the library's */
@@ -110,6 +133,7 @@ struct fkv_file {
     atomic_bool has_found;   /* some session has found keys in the file alone */
     atomic_ullong kept;      /* updates that the library's session has made */
     struct warmer warmer;
+    struct trimmer trimmer;
     struct found found[FKV_MOST_SESSIONS];
 
     pthread_mutex_t lock;  /* of all that follows */
@@ -117,6 +141,8 @@ struct fkv_file {
     pthread_cond_t over;   /* who wants the turn and can't do without waits for it: a turn is over */
     pthread_cond_t served; /* sessions wait for it: a turn has called the file */
     pthread_cond_t news;   /* others wait for it: a commit has ended, or the thread */
+    uint64_t begin;        /* of the trimmer, and how many records sweeps have read, as fkv_stats tells them */
+    uint64_t swept;
     bool is_wanted;        /* somebody waits for the turn, so nobody else takes it before */
     uint32_t waiting;      /* how many sessions wait to be served */
     uint32_t joined;       /* a bit for each session that is joined */
@@ -133,6 +159,8 @@ struct fkv_file {
     bool runs;         /* the thread itself resets it as it ends */
     bool stops;        /* it is to end */
     bool has_told_unwarmed; /* the hook `unwarmed` was called */
+    bool has_told_untrimmed; /* and `untrimmed`, that nothing can be given back */
+    bool has_told_long;      /* and that the log grows faster than it is swept */
     bool nudged;       /* a turn is wanted at once */
     bool is_stirred;   /* something was asked or done since the keeper's last turn */
     bool rests;        /* the writes of the commit in hand rest before a sync, or a flush does */
@@ -241,6 +269,62 @@ bool fkv_awaits_warmer(fkv_file *file);
 /* A read of this session has found the key in the file alone. */
 void fkv_note_found(fkv_file *file, const fkv_session *session, uint64_t key);
 
+/* Whether the library's session may keep so many records more as it does at once: it hasn't had its share of the log. */
+bool fkv_has_share(const fkv_file *file);
+
+/* Keeps the records of these keys by the library's session, nothing of which is pending. Gives how many were taken. */
+size_t fkv_keep_own(fkv_file *file, const uint64_t *keys, size_t count);
+
+/* ---- Of the log's front. The keeper's thread calls, with the turn or the lock. ---------------------------------------------------------- */
+
+/* Whether it can be given back in this store. */
+bool fkv_can_trim(const fkv_file *file);
+
+/* A run of the keeper's thread begins. */
+void fkv_begin_trimming(fkv_file *file);
+
+/* Whether the next commit should be one behind which turns sweep: the log is longer than it may be. */
+bool fkv_wants_trim(fkv_file *file);
+
+/* How long a commit by the clock waits for turns that sweep, behind the one before, in microseconds: 0 unless the log is half as long again as it may be. */
+uint64_t fkv_sweeps_us(fkv_file *file);
+
+/* Whether the log's length has a limit. */
+bool fkv_limits_log(const fkv_file *file);
+
+/* Whether the log is four times as long as it may be. */
+bool fkv_is_too_long(fkv_file *file);
+
+/* A commit has begun, which is one of these or isn't. */
+void fkv_note_trim(fkv_file *file, bool trims);
+
+/* Whether turns may sweep now. The lock is held. */
+bool fkv_has_sweep(const fkv_file *file);
+
+/* Whether a turn that sweeps would get on: no key that was wanted waits to be kept. The keeper's thread calls. */
+bool fkv_may_sweep(const fkv_file *file);
+
+/* Notes what a turn has found that swept. */
+void fkv_note_swept(fkv_file *file, const struct turn *turn);
+
+/* Nothing of the library's session waits any more, or something still does. Without the turn. */
+void fkv_note_kept(fkv_file *file);
+
+/* Has the library's session keep the keys that are wanted. Without the turn. */
+void fkv_keep_wanted(fkv_file *file);
+
+/* A commit was finished: its log may begin further on. */
+void fkv_note_begin(fkv_file *file);
+
+/* A full commit was finished, which has counted the index's entries: the log may have more room than was known. */
+void fkv_note_entries(fkv_file *file);
+
+/* Whether there is something of the front to give back, and the file system may take it. */
+bool fkv_gives_back(const fkv_file *file);
+
+/* Gives a piece of it back. 0, or errno the one time that the file system can't. */
+int fkv_give_back(fkv_file *file);
+
 /* ---- Of records that the file alone has. The lock isn't held. --------------------------------------------------------------- */
 
 /* Reads a record by a mapping of the file. False where it can't, and then it is to be read otherwise. The caller has the turn. */
@@ -250,7 +334,7 @@ bool fkv_read_mapped(fkv_file *file, uint64_t place, uint8_t into[FKV_READ_SIZE]
 void fkv_drop_map(fkv_file *file);
 
 /* Reads a record that a turn has asked for, and notes whether a disk was waited for. 0, or -1 with errno. The caller has the turn. */
-int fkv_read_record(fkv_file *file, const fkv_turned *turned, uint8_t into[FKV_READ_SIZE]);
+int fkv_read_record(fkv_file *file, const fkv_turned *turned, uint8_t into[FKV_MOST_READ]);
 
 /*
  * Asks the system for the records of keys that will be read next, if its last reads had to wait for a disk. Of `count` keys those from `at` on
@@ -273,6 +357,9 @@ int32_t fkv_make_turn(fkv_file *file, struct turn *turn, tell_turn_fn *tell, voi
 
 /* The same of a turn that goes on with nothing that rests: it only serves then. */
 int32_t fkv_serve_turn(fkv_file *file, struct turn *turn, tell_turn_fn *tell, void *user);
+
+/* The same, but that a sweep of the log's front goes on. */
+int32_t fkv_sweep_turn(fkv_file *file, struct turn *turn, tell_turn_fn *tell, void *user);
 
 /*
  * Makes the sync before which the writes of a commit or a flush rest, without the turn. Who waits meanwhile serves by himself. The lock is held, but

@@ -19,6 +19,8 @@ enum {
      */
     HASTE_US = 500,
     HASTE_TURN_US = 20,
+    /* So long a commit waits for turns that sweep the log's front, behind the one before. */
+    SWEEPS_US = 10000,
     /* While no session is joined, which is told at once. */
     IDLE_TURN_US = 100000,
     /* While sessions are joined and nothing happens, rests grow after so many turns, up to so long. Who waits for a turn makes it. */
@@ -39,6 +41,8 @@ struct run {
     fkv_file *file;
     struct timespec next;  /* when the next commit by the clock is due */
     struct timespec haste; /* up to then the commit in hand makes haste */
+    struct timespec sweeps; /* up to then the next commit waits for turns that sweep */
+    struct timespec longer; /* and up to then, if it is one by the clock */
     struct patience tends; /* with what was abandoned */
     uint32_t log_left;     /* so many log commits before the next full one */
     uint64_t written;      /* bytes, since the commit in hand began */
@@ -49,6 +53,7 @@ struct run {
     uint64_t helped;       /* turns that sessions' threads had made by the last turn */
     bool is_put_off;       /* a commit was due, and has to wait for more turns */
     bool has_told;         /* the hook `stopped` was called */
+    bool was_long;         /* the log was too long as the last commit began */
 };
 
 /* ---- Commits. The file's lock is held, and begin_commit's caller has the turn. -------------------------------------------------- */
@@ -61,7 +66,11 @@ static bool goes_by_clock(const fkv_file *file) {
 static bool is_due(const struct run *run) {
     const fkv_file *file = run->file;
     if (file->in_hand || file->fault) return false;
-    return file->asked > file->covers || (goes_by_clock(file) && !fkv_is_before(fkv_now(), run->next));
+    /* Turns sweep with no commit in hand alone. If commits follow one another, they leave them some time. */
+    struct timespec now = fkv_now();
+    bool sweeps = fkv_has_sweep(file) && file->trimmer.has_more;
+    if (file->asked > file->covers) return !sweeps || !fkv_is_before(now, run->sweeps);
+    return goes_by_clock(file) && !fkv_is_before(now, run->next) && (!sweeps || !fkv_is_before(now, run->longer));
 }
 
 /* The commits that were asked for until now are served by the one that has begun. */
@@ -83,13 +92,18 @@ static bool begin_commit(struct run *run) {
     uint64_t number;
     run->is_put_off = false;
     if (!is_due(run)) return false;
-    bool is_log = run->log_left > 0;
-    int32_t result = fkv_commit(&file->keeper, is_log, &number);
+    bool trims = fkv_wants_trim(file), is_long = fkv_is_too_long(file);
+    /* How long it may be goes by the entries that a full commit counts. */
+    if (is_long && !run->was_long) run->log_left = 0;
+    run->was_long = is_long;
+    bool is_log = !trims && run->log_left > 0;
+    int32_t result = fkv_commit(&file->keeper, trims ? FKV_TRIM : is_log ? FKV_LOG : FKV_FULL, &number);
     if (result == -FKV_LOST_FULL) {
         is_log = false;
-        result = fkv_commit(&file->keeper, 0, &number);
+        result = fkv_commit(&file->keeper, FKV_FULL, &number);
     }
     if (result == 0) {
+        fkv_note_trim(file, trims);
         run->log_left = is_log ? run->log_left - 1 : file->keeping.log_commits;
         run->is_full = !is_log;
         note_begun(run);
@@ -102,15 +116,21 @@ static bool begin_commit(struct run *run) {
 }
 
 /* A store that has taken its last commit says so at once. */
-static void note_finished(const struct run *run, const struct turn *turn) {
+static void note_finished(struct run *run, const struct turn *turn) {
     fkv_file *file = run->file;
     file->finished = file->covers;
     file->number = turn->turned.number;
     file->commit_us = fkv_since(file->commit_begun);
     file->commit_bytes = run->written;
-    if (run->is_full) file->entries = run->copied;
+    file->begin = file->trimmer.begin;
+    if (run->is_full) {
+        file->entries = run->copied;
+        fkv_note_entries(file);
+    }
     memcpy(file->points, turn->points, sizeof file->points);
     file->stuck = 0;
+    run->sweeps = fkv_later(fkv_now(), SWEEPS_US);
+    run->longer = fkv_later(fkv_now(), fkv_sweeps_us(file));
     fkv_find_end(file);
     pthread_cond_broadcast(&file->news);
     if (file->number >= file->most_commits) fkv_note_fault(file, -FKV_VERSIONS_SPENT, 0);
@@ -205,15 +225,18 @@ static uint32_t rest_us(const struct run *run) {
 static void rest(const struct run *run) {
     fkv_file *file = run->file;
     const struct warmer *warmer = &file->warmer;
-    if (run->has_called || file->rests || file->nudged || file->stops) return;
-    struct timespec until = fkv_later(fkv_now(), rest_us(run));
+    if (run->has_called || file->rests || file->nudged || file->stops || (!run->is_put_off && is_due(run))) return;
+    struct timespec until = fkv_later(fkv_now(), rest_us(run)), due = run->next;
+    bool sweeps = fkv_has_sweep(file) && file->trimmer.has_more;
+    if (sweeps && fkv_is_before(due, run->longer)) due = run->longer;
     if (warmer->has_more && fkv_is_before(warmer->rests_until, until)) until = warmer->rests_until;
-    if (goes_by_clock(file) && !run->is_put_off && fkv_is_before(run->next, until)) until = run->next;
+    if (goes_by_clock(file) && !run->is_put_off && fkv_is_before(due, until)) until = due;
+    if (sweeps && file->asked > file->covers && fkv_is_before(run->sweeps, until)) until = run->sweeps;
     pthread_cond_timedwait(&file->work, &file->lock, &until);
 }
 
 /* Calls the hook of a finished commit, and then wakes who waits for it. The file's lock is held, but in the hook. */
-static void finish_commit(const struct run *run, const struct turn *turn) {
+static void finish_commit(struct run *run, const struct turn *turn) {
     fkv_file *file = run->file;
     const fkv_keeping *keeping = &file->keeping;
     pthread_mutex_unlock(&file->lock);
@@ -232,6 +255,17 @@ static void warm(const struct run *run) {
     pthread_mutex_lock(&file->lock);
 }
 
+/* Calls the hook `untrimmed`, once for either cause. The file's lock is held, but in the hook. */
+static void tell_untrimmed(fkv_file *file, int why) {
+    const fkv_keeping *keeping = &file->keeping;
+    bool *has_told = why == EAGAIN ? &file->has_told_long : &file->has_told_untrimmed;
+    if (!keeping->untrimmed || *has_told) return;
+    *has_told = true;
+    pthread_mutex_unlock(&file->lock);
+    keeping->untrimmed(keeping->user, why);
+    pthread_mutex_lock(&file->lock);
+}
+
 /* A turn, and what it has come to. The file's lock is held, but while the turn goes on. */
 static void go_on(struct run *run) {
     fkv_file *file = run->file;
@@ -243,7 +277,7 @@ static void go_on(struct run *run) {
     bool begins = begin_commit(run);
     bool commits = file->in_hand;
     /* What rests goes on once it was synced ahead. What comes to rest in this turn wasn't yet. */
-    bool goes_on = file->rests && (file->sync_why || file->synced == file->writes);
+    bool goes_on = file->rests && (file->sync_why || file->synced == file->writes), sweeps = fkv_has_sweep(file) && fkv_may_sweep(file);
     bool is_stirred = file->nudged || file->is_stirred || commits || file->abandoned;
     bool is_helped = file->helped != run->helped;
     run->helped = file->helped;
@@ -252,16 +286,21 @@ static void go_on(struct run *run) {
     pthread_mutex_unlock(&file->lock);
     if (begins) tell_progress(run, &turn);
     tell_turn_fn *tell = commits ? tell_progress : NULL;
-    int32_t result = goes_on ? fkv_make_turn(file, &turn, tell, run) : fkv_serve_turn(file, &turn, tell, run);
+    int32_t result = goes_on ? fkv_make_turn(file, &turn, tell, run) : sweeps ? fkv_sweep_turn(file, &turn, tell, run) : fkv_serve_turn(file, &turn, tell, run);
+    if (sweeps && result == FKV_OVER) fkv_note_swept(file, &turn);
+    bool is_finished = result == FKV_OVER && turn.turned.finished;
+    if (is_finished) fkv_note_begin(file);
+    int why = fkv_give_back(file);
     run->written += turn.written;
     run->copied += turn.copied;
     /* What was let go on does so in the next turn. Who waits for a read makes its turns, and would only find this thread in the way. */
-    run->has_called = goes_on || (turn.has_called && (turn.written > 0 || commits || !is_helped));
+    run->has_called = goes_on || (sweeps && result == FKV_OVER && file->trimmer.has_more) || fkv_gives_back(file) || (turn.has_called && (turn.written > 0 || commits || !is_helped));
     pthread_mutex_lock(&file->lock);
-    bool is_finished = result == FKV_OVER && turn.turned.finished;
     if (is_finished) file->in_hand = false;
     fkv_end_turn(file, &turn, result);
     if (is_finished) finish_commit(run, &turn);
+    if (why) tell_untrimmed(file, why);
+    if (is_finished && run->is_full && fkv_is_too_long(file)) tell_untrimmed(file, EAGAIN);
 }
 
 /* Linux ends a short sleep of a thread up to 50 microseconds late, unless the thread says otherwise. */
@@ -297,6 +336,8 @@ static void *keep(void *its_file) {
     wake_in_time();
     pthread_mutex_lock(&file->lock);
     tell_unwarmed(file);
+    if (fkv_limits_log(file) && !fkv_can_trim(file)) tell_untrimmed(file, 0);
+    if (fkv_limits_log(file) && file->trimmer.why) tell_untrimmed(file, file->trimmer.why);
     run.next = fkv_later(fkv_now(), (uint64_t)file->keeping.commit_ms * 1000);
     while (!file->stops) {
         if (fkv_has_turns(file)) go_on(&run);
@@ -330,6 +371,7 @@ int fkv_begin_run(fkv_file *file, const fkv_keeping *keeping) {
     if (file->keeping.commit_ms > MOST_MS) file->keeping.commit_ms = MOST_MS;
     file->stops = false;
     fkv_begin_warming(file);
+    fkv_begin_trimming(file);
     int failed = start_thread(file);
     file->runs = !failed;
     file->run += !failed;

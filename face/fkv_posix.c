@@ -63,25 +63,25 @@ static int write_at(int fd, uint64_t place, const uint8_t *bytes, size_t length)
     return 0;
 }
 
-int fkv_call_file(int fd, int32_t call, const fkv_turned *turned, uint8_t into[FKV_READ_SIZE]) {
+int fkv_call_file(int fd, int32_t call, const fkv_turned *turned, uint8_t into[FKV_MOST_READ]) {
     if (call == FKV_SYNC) return fdatasync(fd);
     if (!fits_file(turned->place, turned->length)) {
         errno = EFBIG;
         return -1;
     }
     if (call == FKV_WRITE) return write_at(fd, turned->place, turned->bytes, (size_t)turned->length);
-    if (call == FKV_READ && turned->length == FKV_READ_SIZE) return read_at(fd, turned->place, into, FKV_READ_SIZE);
+    if (call == FKV_READ && turned->length <= FKV_MOST_READ) return read_at(fd, turned->place, into, (size_t)turned->length);
     errno = EINVAL;
     return -1;
 }
 
 int32_t fkv_turn_file(int fd, fkv_keeper *keeper, fkv_turned *turned, uint64_t *points, size_t room, uint64_t *written) {
-    uint8_t into[FKV_READ_SIZE] = {0};
+    uint8_t into[FKV_MOST_READ] = {0};
     int32_t call = fkv_turn(keeper, turned, points, room);
     while (call > FKV_OVER) {
         int failed = fkv_call_file(fd, call, turned, into);
         if (!failed && call == FKV_WRITE && written) *written += turned->length;
-        call = fkv_io_done(keeper, failed != 0, into, call == FKV_READ ? FKV_READ_SIZE : 0, turned, points, room);
+        call = fkv_io_done(keeper, failed != 0, into, call == FKV_READ ? (size_t)turned->length : 0, turned, points, room);
     }
     return call;
 }
@@ -329,6 +329,7 @@ static int32_t take_handles(fkv_file *file) {
         /* One that sleeps already stays so. */
         if (result == 0) fkv_sleep(&file->sessions[i]);
     }
+    if (result == 0) file->begin = file->trimmer.begin = fkv_begin(&file->keeper);
     return result;
 }
 

@@ -64,6 +64,12 @@ typedef void fkv_stopped_fn(void *user, int32_t fault);
 /* Nothing keeps this store's memory warm: see fkv_start. */
 typedef void fkv_unwarmed_fn(void *user);
 
+/*
+ * The log's front can't be given back: the store has no session for it (`why` is 0), or the file system can't (errno). Or it isn't as fast as the log
+ * grows (EAGAIN).
+ */
+typedef void fkv_untrimmed_fn(void *user, int why);
+
 /* ---- Sizes ---------------------------------------------------------------------------------------------------------------- */
 
 /*
@@ -81,7 +87,7 @@ typedef struct {
     uint64_t sessions;               /* threads that use it at once, at most 31; 8. A turn takes 0.1 microseconds for each */
     uint64_t memory_bytes;           /* memory that it may take once it is open, at most; as its keys want: some 250 bytes for each */
     uint64_t updates_between_commits; /* keys that are updated between two commits; all of them. The page and the log go by it */
-    uint64_t log_bytes;              /* not used yet: kept for how long the log may grow */
+    uint64_t log_bytes;              /* as in fkv_keeping, which goes before it; of fkv_open_or_make */
 } fkv_wish;
 
 /* What a store of a shape takes, and holds. */
@@ -325,7 +331,12 @@ typedef struct {
     fkv_stopped_fn *stopped;     /* called once, as commits end for good or the log is found full, or NULL. See fkv_tick */
     fkv_unwarmed_fn *unwarmed;   /* called once, as the thread begins, if memory can't be kept warm in this store, or NULL. See below */
     uint32_t no_warmer;          /* not 0: memory isn't kept warm, though it could be */
+    uint64_t log_bytes;          /* the log's front is given back if it is longer; 0: than twice the records of all keys, a megabyte at least. See below */
+    fkv_untrimmed_fn *untrimmed; /* called once if the front can't be given back, or NULL. See below */
 } fkv_keeping;
+
+/* In place of fkv_keeping's log_bytes: nothing is given back. */
+#define FKV_LOG_KEEPS UINT64_MAX
 
 /*
  * Starts the keeper's thread. `turn_us` is how long it rests while a session is joined and no commit is in hand. Where it is 0, and nothing
@@ -338,12 +349,24 @@ typedef struct {
  * (FKV_MOST_JOINED): fkv_keep makes a new record of it. It keeps each key too that fkv_read or fkv_read_many has found in the file alone.
  * Serials, points and values of users stay as they are. A store in which nothing is appended and found does none of it. What it may take:
  *
- *   log     Of all records that calls may append in the store's life an eighth at most are the library's, and for reads no more than half
- *           of those that are there. So -FKV_LOG_FULL comes by an eighth of the log earlier at most. Nothing is kept any more where a
- *           sixteenth of that room is left, or 65,536 records if that is more. A renewal begins anew
+ *   log     Of all records that calls may append in the store's life an eighth at most are the library's, and for reads since the opening no
+ *           more than half of those that are there. So -FKV_LOG_FULL comes by an eighth of the log earlier at most. But for what a sweep wants nothing is kept
+ *           any more where a sixteenth of that room is left, or 65,536 records if that is more. A renewal begins anew
  *   time    Half of the thread's at most, and none while a commit waits for sessions. If it is behind with what is about to leave memory, it
  *           works for it before each turn all the same, for 2 milliseconds at most. Updates by calls of this header then wait before they
  *           begin, for 0.2 seconds at most, and refresh their sessions meanwhile
+ *
+ * The log's front is given back if the log is longer than `log_bytes`, or where that is 0, than twice the records of all keys, or a megabyte if that is more. Then the
+ * next commit is a full one, behind which the thread's turns go over the records of the front. The library's session keeps the keys that have
+ * none further on: that makes new records. The log of a later commit begins behind the front, and once that is finished these bytes become a hole
+ * of the file, which gets no shorter. With a longer log fewer keys are kept, and the thread works less.
+ *
+ * That work is done between two commits, so one that is asked for may come 10 milliseconds later. One by the clock may come by `commit_ms` later if
+ * the log is half as long again as it may be, and by four of them, a second at most, if it is twice as long. A key takes one record between two commits. So where no new keys come,
+ * the log doesn't get much longer than that. If it can't be swept as fast as it grows, it goes on growing (fkv_stats), and loses nothing.
+ * FKV_LOG_KEEPS gives nothing back. `untrimmed` is called once if it can't be: the store has no session for it, or the file system makes no holes; and with
+ * EAGAIN once if the log is four times as long as it may be, as a full commit finds. The keys that are kept count to the library's share of the log, and
+ * once that is spent no sweep goes on.
  *
  * If memory has no room for the newest records of all homes, more than three in four of those that leave it are such. Then pages are let go
  * as they are, until they are half at most. Of keys that share a home only the last updated is kept.
@@ -430,7 +453,9 @@ typedef struct {
     uint64_t fetched;       /* records that the system was asked for ahead of their reads, by fkv_read_many and fkv_read */
     uint64_t kept;          /* records that the library has kept in memory, each by an update of its own session */
     uint64_t file_bytes;    /* bytes of the file */
-    uint64_t begin;         /* where the log begins: the address of its first record, which is 1. The next four are of fkv_offsets */
+    uint64_t disk_bytes;    /* bytes that it takes on the disk: what was given back of the log's front takes next to none */
+    uint64_t swept;         /* records that sweeps of the log's front have read */
+    uint64_t begin;         /* where the log begins: no record below counts any more. The next four are of fkv_offsets */
     uint64_t head;          /* records below it are read from the file */
     uint64_t flushed;       /* records below it are in the file, and synced */
     uint64_t read_only;     /* records below it aren't updated in place */
@@ -461,7 +486,7 @@ int32_t fkv_stats_of(fkv_file *file, fkv_stats *stats);
  * Makes the call that a turn has posted, over a descriptor: `call` is what fkv_turn or fkv_io_done has answered. A read goes into `into`.
  * 0, or -1 where it has failed, with errno.
  */
-int fkv_call_file(int fd, int32_t call, const fkv_turned *turned, uint8_t into[FKV_READ_SIZE]);
+int fkv_call_file(int fd, int32_t call, const fkv_turned *turned, uint8_t into[FKV_MOST_READ]);
 
 /*
  * A whole turn over a descriptor: FKV_OVER or a refusal, as fkv_turn. `*written`, if it isn't NULL, grows by the bytes that were

@@ -46,6 +46,9 @@ static void swap(fkv_file *file, fkv_file *fresh) {
     memcpy(file->points, fresh->points, sizeof file->points);
     file->most_commits = fresh->most_commits, file->number = fresh->number, file->log_end = fresh->log_end;
     file->entries = fresh->entries;
+    /* What was given back was the old file's. */
+    file->trimmer = fresh->trimmer;
+    file->begin = fresh->begin;
     file->fault = file->full = file->stuck = 0;
     file->index_full = file->in_hand = false;
     file->commit_us = file->commit_bytes = 0;

@@ -167,13 +167,19 @@ int32_t fkv_size_of(const fkv_shape *shape, fkv_size *size) {
 
 /* ---- Opening -------------------------------------------------------------------------------------------------------------------- */
 
+static int32_t open_as_wished(const char *path, const fkv_wish *wish, fkv_file **out) {
+    int32_t result = fkv_open_file(path, NULL, out);
+    if (result == 0 && wish) (*out)->log_bytes = wish->log_bytes;
+    return result;
+}
+
 int32_t fkv_open_or_make(const char *path, const fkv_wish *wish, fkv_file **out) {
     fkv_shape shape;
-    int32_t result = fkv_open_file(path, NULL, out);
+    int32_t result = open_as_wished(path, wish, out);
     if (result != -FKV_DEVICE || errno != ENOENT) return result;
     result = fkv_shape_for(wish, &shape);
     if (result == 0) result = fkv_make_file(path, &shape);
     /* Another process may have made it meanwhile. */
     if (result < 0 && !(result == -FKV_DEVICE && errno == EEXIST)) return result;
-    return fkv_open_file(path, NULL, out);
+    return open_as_wished(path, wish, out);
 }

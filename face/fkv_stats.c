@@ -5,9 +5,6 @@
 #include <errno.h>
 #include <sys/stat.h>
 
-/* The log begins at its first record: nothing of it is ever cut off. */
-enum { FIRST_ADDRESS = 1 };
-
 /* The joined sessions that haven't been refreshed since the commit in hand began, as far as this library has done so. */
 static uint64_t late_sessions(const fkv_file *file) {
     uint64_t late = 0;
@@ -56,7 +53,9 @@ int32_t fkv_stats_of(fkv_file *file, fkv_stats *stats) {
         .fetched = atomic_load_explicit(&file->fetched, memory_order_relaxed),
         .kept = atomic_load_explicit(&file->kept, memory_order_relaxed),
         .file_bytes = is_known ? (uint64_t)known.st_size : 0,
-        .begin = FIRST_ADDRESS,
+        .begin = file->begin,
+        .disk_bytes = is_known ? (uint64_t)known.st_blocks * 512 : 0,
+        .swept = file->swept,
         .head = offsets.head,
         .flushed = offsets.flushed,
         .read_only = offsets.read_only,

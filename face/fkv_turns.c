@@ -102,7 +102,8 @@ int32_t fkv_with_errno(const fkv_file *file, int32_t result) {
 
 static void note_call(const fkv_file *file, struct turn *turn, int32_t call) {
     uint64_t place = turn->turned.place, end = place + turn->turned.length;
-    if (call == FKV_READ) turn->reads++;
+    if (call == FKV_READ && turn->turned.length == FKV_READ_SIZE) turn->reads++;
+    else if (call == FKV_READ) turn->swept += turn->turned.length / FKV_READ_SIZE;
     if (call != FKV_WRITE) return;
     turn->written += turn->turned.length;
     if (place >= FKV_IMAGE_SIZE && place < fkv_log_place(&file->shape)) turn->copied += turn->turned.length / TRIPLE_SIZE;
@@ -134,17 +135,18 @@ static int check_header(const uint8_t record[FKV_READ_SIZE]) {
 }
 
 /* Makes a call that a turn has posted. 0, or -1 where it has failed, with errno. */
-static int make_call(fkv_file *file, int32_t call, const fkv_turned *turned, uint8_t into[FKV_READ_SIZE]) {
+static int make_call(fkv_file *file, int32_t call, const fkv_turned *turned, uint8_t into[FKV_MOST_READ]) {
     if (call == FKV_SYNC) return make_sync(file);
     if (call == FKV_WRITE) file->writes++;
-    if (call != FKV_READ) return fkv_call_file(file->fd, call, turned, into);
+    /* A sweep reads many records in a row. */
+    if (call != FKV_READ || turned->length > FKV_READ_SIZE) return fkv_call_file(file->fd, call, turned, into);
     int failed = fkv_read_record(file, turned, into);
     return failed ? failed : check_header(into);
 }
 
 /* Makes the calls of a turn that has begun, up to its end. `call` is what it has posted. */
 static int32_t end_calls(fkv_file *file, struct turn *turn, int32_t call, tell_turn_fn *tell, void *user) {
-    uint8_t into[FKV_READ_SIZE] = {0};
+    uint8_t into[FKV_MOST_READ] = {0};
     bool has_called = call > FKV_OVER;
     while (call > FKV_OVER) {
         /* (that may take long) */
@@ -153,7 +155,7 @@ static int32_t end_calls(fkv_file *file, struct turn *turn, int32_t call, tell_t
         if (failed) turn->why = errno;
         else note_call(file, turn, call);
         if (tell) tell(user, turn);
-        size_t size = call == FKV_READ ? FKV_READ_SIZE : 0;
+        size_t size = call == FKV_READ ? (size_t)turn->turned.length : 0;
         call = fkv_io_done(&file->keeper, failed != 0, into, size, &turn->turned, turn->points, FKV_MOST_SESSIONS);
     }
     /* Where memory was refused, the next turn would at once be refused it again. */
@@ -170,6 +172,11 @@ int32_t fkv_make_turn(fkv_file *file, struct turn *turn, tell_turn_fn *tell, voi
 
 int32_t fkv_serve_turn(fkv_file *file, struct turn *turn, tell_turn_fn *tell, void *user) {
     int32_t call = fkv_serve(&file->keeper, &turn->turned, turn->points, FKV_MOST_SESSIONS);
+    return end_calls(file, turn, call, tell, user);
+}
+
+int32_t fkv_sweep_turn(fkv_file *file, struct turn *turn, tell_turn_fn *tell, void *user) {
+    int32_t call = fkv_sweep(&file->keeper, &turn->turned, turn->points, FKV_MOST_SESSIONS);
     return end_calls(file, turn, call, tell, user);
 }
 
@@ -212,6 +219,7 @@ void fkv_end_turn(fkv_file *file, const struct turn *turn, int32_t result) {
     file->turns += result == FKV_OVER;
     file->called += turn->has_called;
     file->cold_reads += turn->reads;
+    file->swept += turn->swept;
     file->rests = turn->rests;
     if (turn->end > file->log_end) file->log_end = turn->end;
     if (turn->has_called) file->is_stirred = true;
@@ -240,7 +248,7 @@ int32_t fkv_help(fkv_file *file) {
     }
     pthread_mutex_unlock(&file->lock);
     if (!is_own) return fkv_with_errno(file, why);
-    turn.written = turn.end = turn.reads = turn.copied = 0;
+    turn.written = turn.end = turn.reads = turn.swept = turn.copied = 0;
     turn.why = 0;
     /* What comes to rest in it is left to the keeper's thread. */
     int32_t result = fkv_serve_turn(file, &turn, NULL, NULL);

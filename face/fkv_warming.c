@@ -116,7 +116,7 @@ static bool keep_some(fkv_file *file, const uint64_t *keys, size_t count) {
  * Keeps the records of these keys, SLICE of them at most, up to those that wait. Gives how many were taken. Nothing of the session is pending.
  * If the page of the log's end is full, the next one may not be open yet. So one key goes first: 64 that wait would take long.
  */
-static size_t keep(fkv_file *file, const uint64_t *keys, size_t count) {
+size_t fkv_keep_own(fkv_file *file, const uint64_t *keys, size_t count) {
     const uint64_t page = file->shape.page;
     size_t taken = 0;
     bool are_done = true;
@@ -163,16 +163,18 @@ static size_t look(fkv_file *file, uint64_t to) {
     if (count == 0) its->next = to;
     /* If memory is crowded, some of each page are enough to find out when it is no more. */
     else its->next = its->is_crowded ? least(to, (from / page + 1) * page) : from + count;
-    size_t kept = its->is_crowded || newest == 0 ? newest : keep(file, keys, newest);
+    size_t kept = its->is_crowded || newest == 0 ? newest : fkv_keep_own(file, keys, newest);
     if (kept < newest) its->next = addresses[kept];
     note_looked(its, &file->shape, kept < newest ? (size_t)(its->next - from) : count, kept);
     return count + KEEPS * newest;
 }
 
-/* Whether it may keep SLICE records more: nothing of its session waits, and it hasn't had its share of the log. */
+bool fkv_has_share(const fkv_file *file) { return file->warmer.serial + SLICE <= fkv_records_of(&file->shape) / SHARE; }
+
+/* Whether it may keep SLICE records more: nothing of its session waits, and it has its share of the log. */
 static bool may_keep(const fkv_file *file) {
     const struct warmer *its = &file->warmer;
-    return its->is_on && !its->is_awake && its->serial + SLICE <= fkv_records_of(&file->shape) / SHARE;
+    return its->is_on && !its->is_awake && fkv_has_share(file);
 }
 
 /* Goes over the records below this one, as far as that takes no more than so many looks. */
@@ -221,16 +223,17 @@ static bool take_found(fkv_file *file, uint64_t *key) {
     return false;
 }
 
-/* Reads alone shall not fill a file: no more than half of the log's records may be its own for them. */
+/* Reads alone shall not fill a file: since the opening no more than half of the log's records may be its own, but for those that a sweep wanted. */
 static bool has_found(fkv_file *file, const fkv_offsets *at) {
-    return file->warmer.serial < at->tail / 2 && atomic_load(&file->has_found);
+    const struct warmer *its = &file->warmer;
+    return its->serial - its->first - its->trimmed < at->tail / 2 && atomic_load(&file->has_found);
 }
 
 /* Keeps such keys, up to the first that waits for the file: turns read for a session one by one. */
 static void keep_found(fkv_file *file, const fkv_offsets *at) {
     uint64_t key;
     for (int i = 0; i < SLICE && may_keep(file) && has_found(file, at); i++) {
-        if (take_found(file, &key) && fkv_hint_where(own(file), key) > 0) keep(file, &key, 1);
+        if (take_found(file, &key) && fkv_hint_where(own(file), key) > 0) fkv_keep_own(file, &key, 1);
     }
 }
 
@@ -239,7 +242,10 @@ static void keep_found(fkv_file *file, const fkv_offsets *at) {
 void fkv_begin_warming(fkv_file *file) {
     struct warmer *its = &file->warmer;
     fkv_offsets at = {.tail = 0};
-    its->is_on = !file->keeping.no_warmer && fkv_can_warm(file) && fkv_serial(own(file), &its->serial) == 0;
+    bool has_serial = file->has_own && fkv_serial(own(file), &its->serial) == 0;
+    if (!its->was_begun) its->first = its->serial;
+    its->was_begun = true;
+    its->is_on = !file->keeping.no_warmer && fkv_can_warm(file) && has_serial;
     its->has_more = false;
     if (its->is_on && fkv_hint_offsets(own(file), &at) < 0) its->is_on = false;
     its->begun = at.tail;
@@ -255,7 +261,7 @@ static bool may_go_on(fkv_file *file, fkv_offsets *at) {
     const struct warmer *its = &file->warmer;
     uint64_t records = fkv_records_of(&file->shape), left = most(records / LAST, LEAST_LEFT);
     if (!its->is_on || atomic_load(&file->ends) || fkv_hint_offsets(own(file), at) < 0) return false;
-    return its->serial + SLICE <= records / SHARE && at->tail < records - left;
+    return fkv_has_share(file) && at->tail < records - left;
 }
 
 /* The usual work, and as long a rest behind it. */
@@ -286,6 +292,9 @@ void fkv_warm(fkv_file *file, bool has_time) {
     fkv_offsets at;
     its->has_more = false;
     if (its->is_awake) fkv_rest_own(file);
+    /* What a sweep wants comes first, so that pages never keep it from getting on. */
+    fkv_note_kept(file);
+    fkv_keep_wanted(file);
     bool goes_on = may_go_on(file, &at);
     if (goes_on && !its->is_awake) step(file, &at, has_time);
     its->has_more |= its->is_awake;

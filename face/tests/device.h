@@ -38,8 +38,8 @@ static inline bool call_device(struct device *device, int32_t call, const fkv_tu
     size_t end = (size_t)(turned->place + turned->length);
     WANTS("whether a call fits the device", end <= DEVICE_SIZE, true);
     if (call == FKV_READ) {
-        WANTS("the length of a read", turned->length, FKV_READ_SIZE);
-        memcpy(into, device->now + turned->place, FKV_READ_SIZE);
+        WANTS("whether a read is of a record, or of a sweep's", turned->length == FKV_READ_SIZE || turned->length == FKV_MOST_READ, true);
+        memcpy(into, device->now + turned->place, (size_t)turned->length);
         return false;
     }
     memcpy(device->now + turned->place, turned->bytes, (size_t)turned->length);
@@ -49,10 +49,10 @@ static inline bool call_device(struct device *device, int32_t call, const fkv_tu
 
 /* Makes the calls of a turn that has posted this one, up to its end. */
 static inline int32_t end_turn(struct device *device, fkv_keeper *keeper, int32_t call, fkv_turned *turned, uint64_t *points, size_t room) {
-    uint8_t into[FKV_READ_SIZE] = {0};
+    uint8_t into[FKV_MOST_READ] = {0};
     while (call > FKV_OVER) {
         bool failed = call_device(device, call, turned, into);
-        call = fkv_told(keeper, failed, into, call == FKV_READ ? FKV_READ_SIZE : 0, turned, points, room);
+        call = fkv_told(keeper, failed, into, call == FKV_READ ? (size_t)turned->length : 0, turned, points, room);
     }
     return call;
 }

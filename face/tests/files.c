@@ -364,7 +364,7 @@ static void own_turns(void) {
 
 /* A call that the system refuses: as the read of a descriptor that is closed. */
 static void refused_call(void) {
-    uint8_t into[FKV_READ_SIZE];
+    uint8_t into[FKV_MOST_READ];
     fkv_turned turned = {.place = 0, .length = FKV_READ_SIZE};
     int fd = open(path_of("own_turns"), O_RDONLY);
     WANTS("a read", fkv_call_file(fd, FKV_READ, &turned, into), 0);

@@ -373,6 +373,23 @@ How long a get takes right after that, one after another. fkv's memory has the n
 """
 
 
+def trims(figures):
+    """What adds take where the log's front is given back, beside a log that is kept."""
+    if not figures.told.get("trims"):
+        return ""
+    rows = [
+        [name, told(it["rate"] / 1e6), told(it["commits"]), told(it["processors"]), bytes_told(it["disk"]), f"{100 * it['long']:.4f} %"]
+        for name, it in zip(("is given back", "is kept"), figures.told["trims"])
+    ]
+    given, kept_whole = figures.told["trims"]
+    return f"""### The log's front, given back
+
+Four threads add to 65,536 keys, uniform, with a log commit each 50 ms and what the sweeps want of full ones (`tools/trimming`). The store is one of `fkv_shape_for`, and its log has as much room as it has unless a program says more. The keys' records are {bytes_told(65536 * 24)} together. **It keeps {100 * given["rate"] / kept_whole["rate"]:.0f} % of the rate.**
+
+{table(["the log's front", "million adds a second", "commits a second", "processors of the keeper", "the file, at most", "calls of 5 ms or more"], rows)}
+"""
+
+
 def section(figures, pictures):
     """The text. `pictures` is the folder of the pictures, as the page names it."""
     threads = threads_told(figures.threads)
@@ -383,8 +400,9 @@ def section(figures, pictures):
         committed(figures, pictures),
         delayed(figures, pictures, n),
         stored(figures, pictures, n),
+        trims(figures),
     ]
-    return "\n".join(parts)
+    return "\n".join(it for it in parts if it)
 
 
 def write_page(told_run, path, pictures):

@@ -17,7 +17,8 @@ use Rattle.fkv_plane.specs.Passing.{is_done}
 use Rattle.fkv_plane.specs.Plane.{Plane}
 use Rattle.fkv_world.specs.Moves.{Near, keeper_asks, keeper_moved}
 use Rattle.fkv_world.specs.Past.{calls_after}
-use Rattle.fkv_core.specs.Worlds.{beside, kinds_asked, IsKeeperMove, MakesItsCalls, UsesDevice}
+use Rattle.fkv_core.specs.Worlds.{beside, kinds_asked, BeginsNoSweep, IsKeeperMove, MakesItsCalls, UsesDevice}
+use Rattle.fkv_core.proofs.NoSweep.{called_none}
 
 -- a word's ask makes no call of the device
 no_calls : (ask : Ask KeeperTold) (made : List Call) → is_done ask ≡ false → calls_after ask made [] ≡ []
@@ -38,13 +39,14 @@ tells_none (Done told) due done says word = cc
 tells_none ask due done says word = refl
 
 pub word_move : (plane plane' : Plane) (k k' : KeeperModel) (failed : ℕ) (refuses : ℕ → Bool) (expects : List Kind → Foretold) (honest : Type 0) (seen : List ℕ) (may_leave : List ℕ → Type 0) → is_done (keeper_ask k.shape k.places k.state) ≡ false
-    → k' ≡ record k { state = k'.state } → (granted : Bool) × ((done : Bool) (read : List ℕ) → beside plane' k'.state ≡ keeper_moved k.shape k.places granted done read (beside plane k.state))
+    → k' ≡ record k { state = k'.state } → BeginsNoSweep k.state k'.state → (granted : Bool) × ((done : Bool) (read : List ℕ) → beside plane' k'.state ≡ keeper_moved k.shape k.places granted done read (beside plane k.state))
     → IsKeeperMove plane k plane' k' failed failed refuses refuses expects expects honest seen seen may_leave may_leave
-word_move plane plane' k k' failed refuses expects honest seen may_leave word store moved = record {
+word_move plane plane' k k' failed refuses expects honest seen may_leave word store no_sweep moved = record {
   granted = moved.0;
   done = true;
   read = [];
   store = store;
+  no_sweep = no_sweep;
   uses = spares_device (keeper_ask k.shape k.places k.state) (keeper_made k.places k.state) true failed refuses word;
   kinds = tells_none (keeper_ask k.shape k.places k.state) (keeper_due k) true expects word;
   moved = moved.1 true [];
@@ -104,6 +106,7 @@ device_move plane k k' honest failed failed' refuses refuses' expects expects' s
       uses = uses_device (keeper_ask k.shape k.places k.state) (keeper_made k.places k.state) (is_ok step.called) failed failed' refuses refuses' asks (used_so (keeper_made k.places k.state) step.called failed failed' refuses refuses' step.cause step.counted);
       kinds = tells_due (keeper_ask k.shape k.places k.state) (keeper_due k) (is_ok step.called) expects expects' asks step.kind;
       store = step.went_on ∙ ap (λ (it : KeeperModel). record k { state = it.state }) (sym step.went_on);
+      no_sweep = subst (λ (it : KeeperModel). BeginsNoSweep k.state it.state) (sym step.went_on) (called_none k.shape k.places k.state (is_ok step.called) step.bytes);
       moved = ap (λ (it : KeeperModel). beside plane it.state) step.went_on ∙ called_moved k n (is_ok step.called) step.bytes true asks;
       as_read = λ claim. ap (λ (it : KeeperModel). beside plane it.state) (step.read claim) ∙ called_moved k n (is_ok step.called) (keeper_read k seen) true asks;
       wrote = λ claim. subst (λ (its : List Call). Adds its seen seen' may_leave may_leave') (sym (calls_device (keeper_ask k.shape k.places k.state) made asks)) (step.wrote claim);

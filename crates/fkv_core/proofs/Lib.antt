@@ -6,6 +6,7 @@ mod Granted
 mod Keepers
 mod Lengths
 mod Named
+mod NoSweep
 mod OpeningPlaces
 mod Round
 mod SamePlaces
@@ -13,6 +14,7 @@ mod Seated
 pub mod Shown
 mod Sitters
 mod Steps
+mod Unswept
 mod Written
 mod Lives
 mod Begun

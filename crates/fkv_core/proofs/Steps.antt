@@ -16,10 +16,11 @@ use Rattle.fkv_core.specs.declared.events.Event as event
 use Rattle.fkv_core.specs.declared.events.Event.TheVariants as events
 use Rattle.fkv_core.specs.declared.events.Told.{Told}
 use Rattle.fkv_core.specs.Told.{IsAnswerBehind, IsTold, ends_here}
-use Rattle.fkv_core.specs.Worlds.{AreSeated, AreSessionCalls, AreSessionMoves, EventUses, IsKeeperMove, IsStep, LiveEventUses, beside, kinds_behind, live_kinds, states_of, took_place, device_gives, event_calls, calls_made}
+use Rattle.fkv_core.specs.Worlds.{AreSeated, BeginsNoSweep, AreSessionCalls, AreSessionMoves, EventUses, IsKeeperMove, IsStep, LiveEventUses, beside, kinds_behind, live_kinds, states_of, took_place, device_gives, event_calls, calls_made}
 use Rattle.fkv_core.specs.Lives.{LeadsAnyOn}
 use Rattle.fkv_core.proofs.Answered.{lived, told_so}
 use Rattle.fkv_core.proofs.Lives.{leads_any_on, leads_on}
+use Rattle.fkv_core.proofs.NoSweep.{commit_none, turn_none}
 use Rattle.fkv_core.proofs.Seated.{with_plane, session_called_so, session_moved_so}
 
 alive : {A : Type 0} (crashed : Bool) (was after : A) → crashed ≡ false → (if crashed then was else after) ≡ after
@@ -27,13 +28,14 @@ alive true was after e = cc
 alive false was after e = refl
 
 with_life : (its : event.Event) (n after : Now) (told : Option Told) (failed failed' : ℕ) (refuses refuses' : ℕ → Bool) (expects expects' : List Kind → Foretold) (honest : Type 0) (seen seen' : List ℕ) (may_leave may_leave' : List ℕ → Type 0) (granted done : Bool) (read : List ℕ)
-    → after ≡ happens_now n read (took_place its granted done) → IsTold n.crashed n after (took_place its granted done) told → EventUses n.crashed n its done failed failed' refuses refuses' → expects' ≡ kinds_behind n.crashed n its done expects → (honest → after ≡ happens_now n (device_gives n seen) (took_place its granted done))
+    → after ≡ happens_now n read (took_place its granted done) → BeginsNoSweep n.keeper after.keeper → IsTold n.crashed n after (took_place its granted done) told → EventUses n.crashed n its done failed failed' refuses refuses' → expects' ≡ kinds_behind n.crashed n its done expects → (honest → after ≡ happens_now n (device_gives n seen) (took_place its granted done))
     → (honest → Adds (calls_made n (took_place its granted done)) seen seen' may_leave may_leave') → IsStep its n after told failed failed' refuses refuses' expects expects' honest seen seen' may_leave may_leave'
-with_life its n after told failed failed' refuses refuses' expects expects' honest seen seen' may_leave may_leave' granted done read now tells uses kinds as_read wrote = record {
+with_life its n after told failed failed' refuses refuses' expects expects' honest seen seen' may_leave may_leave' granted done read now no_sweep tells uses kinds as_read wrote = record {
   granted = granted;
   done = done;
   read = read;
   now = now;
+  no_sweep = no_sweep;
   tells = tells;
   uses = uses;
   kinds = kinds;
@@ -53,19 +55,19 @@ with_life its n after told failed failed' refuses refuses' expects expects' hone
 pub no_step : (its : event.Event) (n : Now) (failed : ℕ) (refuses : ℕ → Bool) (expects : List Kind → Foretold) (honest : Type 0) (seen : List ℕ) (may_leave : List ℕ → Type 0) → n.crashed ≡ true → (told : Option Told) → told ≡ None → IsStep its n n told failed failed refuses refuses expects expects honest seen seen may_leave may_leave
 no_step its n failed refuses expects honest seen may_leave over told none =
     let still : (event : Event) (read : List ℕ) → n ≡ happens_now n read event = λ event read. sym (ap (λ (crashed : Bool). if crashed then n else life_goes n read event) over) in
-    with_life its n n told failed failed refuses refuses expects expects honest seen seen may_leave may_leave true true [] (still (took_place its true true) []) (subst (λ (crashed : Bool). IsTold crashed n n (took_place its true true) told) (sym over) none) (rw over (refl, refl)) (rw over refl)
+    with_life its n n told failed failed refuses refuses expects expects honest seen seen may_leave may_leave true true [] (still (took_place its true true) []) (λ sweeps. sweeps) (subst (λ (crashed : Bool). IsTold crashed n n (took_place its true true) told) (sym over) none) (rw over (refl, refl)) (rw over refl)
     (λ claim. still (took_place its true true) (device_gives n seen))
     (λ claim. subst (λ (made : List DeviceCall). Adds made seen seen may_leave may_leave) (sym (ap (λ (crashed : Bool). if crashed then [] else event_calls n (took_place its true true)) over)) (λ opening calls was. was))
 
 -- an event that makes no call of the device
 quiet_step : (its : event.Event) (n after : Now) (told : Option Told) (failed : ℕ) (refuses : ℕ → Bool) (expects : List Kind → Foretold) (honest : Type 0) (seen : List ℕ) (may_leave : List ℕ → Type 0) → n.crashed ≡ false
-    → ((read : List ℕ) → after ≡ life_goes n read (took_place its true true)) → IsTold n.crashed n after (took_place its true true) told → LiveEventUses n its true failed failed refuses refuses → expects ≡ live_kinds n its true expects → event_calls n (took_place its true true) ≡ []
+    → ((read : List ℕ) → after ≡ life_goes n read (took_place its true true)) → BeginsNoSweep n.keeper after.keeper → IsTold n.crashed n after (took_place its true true) told → LiveEventUses n its true failed failed refuses refuses → expects ≡ live_kinds n its true expects → event_calls n (took_place its true true) ≡ []
     → IsStep its n after told failed failed refuses refuses expects expects honest seen seen may_leave may_leave
-quiet_step its n after told failed refuses expects honest seen may_leave lives goes tells uses kinds quiet =
+quiet_step its n after told failed refuses expects honest seen may_leave lives goes no_sweep tells uses kinds quiet =
     let took : Event = took_place its true true in
     with_life its n after told failed failed refuses refuses expects expects honest seen seen may_leave may_leave true true []
     (goes [] ∙ sym (alive n.crashed n (life_goes n [] took) lives))
-    tells (rw lives uses) (rw lives kinds)
+    no_sweep tells (rw lives uses) (rw lives kinds)
     (λ claim. goes (device_gives n seen) ∙ sym (alive n.crashed n (life_goes n (device_gives n seen) took) lives))
     (λ claim. subst (λ (made : List DeviceCall). Adds made seen seen may_leave may_leave) (sym (alive n.crashed [] (event_calls n took) lives ∙ quiet)) (λ opening calls was. was))
 
@@ -79,7 +81,7 @@ call_step n number call sitters sitters' ended told failed refuses expects hones
     let after : Now = record n { sessions = states_of sitters' } in
     let so = session_called_so n number call sitters sitters' ended seated its in
     let over = lived n.crashed (ends_here (events.Call number call) before after) ended lives so.over in
-    quiet_step (events.Call number call) (record n { sessions = states_of sitters }) (record n { sessions = states_of sitters' }) told failed refuses expects honest seen may_leave lives (λ read. so.is) (told_so (events.Call number call) before after true true ended told over tells) (refl, refl) refl refl
+    quiet_step (events.Call number call) (record n { sessions = states_of sitters }) (record n { sessions = states_of sitters' }) told failed refuses expects honest seen may_leave lives (λ read. so.is) (λ sweeps. sweeps) (told_so (events.Call number call) before after true true ended told over tells) (refl, refl) refl refl
 
 pub move_step : (n : Now) (number : ℕ) (plane plane' : Plane) (sitters sitters' : List Sitter) (ended : Bool) (told : Option Told) (failed : ℕ) (refuses : ℕ → Bool) (expects : List Kind → Foretold) (honest : Type 0) (seen : List ℕ) (may_leave : List ℕ → Type 0) → n.crashed ≡ false
     → AreSeated n.shape n.places sitters → AreSessionMoves number plane plane' sitters sitters' ended
@@ -91,7 +93,7 @@ move_step n number plane plane' sitters sitters' ended told failed refuses expec
     let after : Now = with_plane n plane' sitters' in
     let so = session_moved_so n number plane plane' sitters sitters' ended seated its in
     let over = lived n.crashed (ends_here (events.Move number) before after) ended lives so.over in
-    quiet_step (events.Move number) (with_plane n plane sitters) (with_plane n plane' sitters') told failed refuses expects honest seen may_leave lives (λ read. so.is) (told_so (events.Move number) before after true true ended told over tells) (refl, refl) refl refl
+    quiet_step (events.Move number) (with_plane n plane sitters) (with_plane n plane' sitters') told failed refuses expects honest seen may_leave lives (λ read. so.is) (λ sweeps. sweeps) (told_so (events.Move number) before after true true ended told over tells) (refl, refl) refl refl
 
 -- the world with another keeper of its store
 abbrev pub kept : Now → KeeperModel → Now
@@ -103,13 +105,16 @@ keeper_of n = record { shape = n.shape; places = n.places; state = n.keeper }
 asked_so : (n : Now) (k : KeeperModel) (begun : KeeperState) → k ≡ record { shape = n.shape; places = n.places; state = keeper_asked n.keeper begun } → kept n k ≡ with_keeper n (near n (keeper_asked n.keeper begun))
 asked_so n k begun e = ap (λ (it : KeeperModel). kept n it) e
 
+asked_none : (n : Now) (k : KeeperModel) (begun : KeeperState) → k ≡ record { shape = n.shape; places = n.places; state = keeper_asked n.keeper begun } → BeginsNoSweep n.keeper (keeper_asked n.keeper begun) → BeginsNoSweep n.keeper k.state
+asked_none n k begun e none = subst (λ (it : KeeperModel). BeginsNoSweep n.keeper it.state) (sym e) none
+
 pub commit_step : (n : Now) (kind : CommitKind) (k : KeeperModel) (ended : Bool) (told : Option Told) (failed : ℕ) (refuses : ℕ → Bool) (expects : List Kind → Foretold) (honest : Type 0) (seen : List ℕ) (may_leave : List ℕ → Type 0) → n.crashed ≡ false
     → k ≡ record { shape = n.shape; places = n.places; state = keeper_asked n.keeper (commit_asked n.keeper kind) } → ended ≡ (not (is_in_hand n.keeper.step) && not (is_in_hand k.state.step)) → IsAnswerBehind ended (events.Commit kind) (kept n k) told
     → IsStep (events.Commit kind) n (kept n k) told failed failed refuses refuses expects expects honest seen seen may_leave may_leave
 unfolding life_goes
 commit_step n kind k ended told failed refuses expects honest seen may_leave lives e ends tells =
     let over = lived n.crashed (ends_here (events.Commit kind) n (kept n k)) ended lives ends in
-    quiet_step (events.Commit kind) n (kept n k) told failed refuses expects honest seen may_leave lives (λ read. asked_so n k (commit_asked n.keeper kind) e) (told_so (events.Commit kind) n (kept n k) true true ended told over tells) (refl, refl) refl refl
+    quiet_step (events.Commit kind) n (kept n k) told failed refuses expects honest seen may_leave lives (λ read. asked_so n k (commit_asked n.keeper kind) e) (asked_none n k (commit_asked n.keeper kind) e (commit_none n.keeper kind)) (told_so (events.Commit kind) n (kept n k) true true ended told over tells) (refl, refl) refl refl
 
 pub turn_step : (n : Now) (k : KeeperModel) (ended : Bool) (told : Option Told) (failed : ℕ) (refuses : ℕ → Bool) (expects : List Kind → Foretold) (honest : Type 0) (seen : List ℕ) (may_leave : List ℕ → Type 0) → n.crashed ≡ false
     → k ≡ record { shape = n.shape; places = n.places; state = keeper_asked n.keeper (turn_asked n.keeper) } → ended ≡ (not (is_in_hand n.keeper.step) && not (is_in_hand k.state.step)) → IsAnswerBehind ended events.Turn (kept n k) told
@@ -117,13 +122,13 @@ pub turn_step : (n : Now) (k : KeeperModel) (ended : Bool) (told : Option Told) 
 unfolding life_goes
 turn_step n k ended told failed refuses expects honest seen may_leave lives e ends tells =
     let over = lived n.crashed (ends_here events.Turn n (kept n k)) ended lives ends in
-    quiet_step events.Turn n (kept n k) told failed refuses expects honest seen may_leave lives (λ read. asked_so n k (turn_asked n.keeper) e) (told_so events.Turn n (kept n k) true true ended told over tells) (refl, refl) refl refl
+    quiet_step events.Turn n (kept n k) told failed refuses expects honest seen may_leave lives (λ read. asked_so n k (turn_asked n.keeper) e) (asked_none n k (turn_asked n.keeper) e (turn_none n.keeper)) (told_so events.Turn n (kept n k) true true ended told over tells) (refl, refl) refl refl
 
 pub crash_step : (n : Now) (told : Option Told) (failed : ℕ) (refuses : ℕ → Bool) (expects : List Kind → Foretold) (honest : Type 0) (seen : List ℕ) (may_leave : List ℕ → Type 0) → n.crashed ≡ false → told ≡ None → IsStep events.Crash n (record n { crashed = true }) told failed failed refuses refuses expects expects honest seen seen may_leave may_leave
 unfolding life_goes
 crash_step n told failed refuses expects honest seen may_leave lives none =
     let over = lived n.crashed (ends_here events.Crash n (record n { crashed = true })) false lives refl in
-    quiet_step events.Crash n (record n { crashed = true }) told failed refuses expects honest seen may_leave lives (λ read. refl) (told_so events.Crash n (record n { crashed = true }) true true false told over none) (refl, refl) refl refl
+    quiet_step events.Crash n (record n { crashed = true }) told failed refuses expects honest seen may_leave lives (λ read. refl) (λ sweeps. sweeps) (told_so events.Crash n (record n { crashed = true }) true true false told over none) (refl, refl) refl refl
 
 -- the world with other words and actions, and another keeper of its store
 abbrev pub kept_beside : Now → Plane → KeeperModel → Now
@@ -142,6 +147,7 @@ keeper_step n plane' k' ended told failed failed' refuses refuses' expects expec
     let goes : (read : List ℕ) → Near KeeperState = λ read. keeper_moved n.shape n.places its.granted its.done read (near n n.keeper) in
     with_life events.KeeperMove n (kept_beside n plane' k') told failed failed' refuses refuses' expects expects' honest seen seen' may_leave may_leave' its.granted its.done its.read
     (put_back n plane' k' (goes its.read) its.store its.moved ∙ sym (alive n.crashed n (life_goes n its.read took) lives))
+    its.no_sweep
     (told_so events.KeeperMove n (kept_beside n plane' k') its.granted its.done ended told over tells) (rw lives its.uses) (rw lives its.kinds)
     (λ claim. put_back n plane' k' (goes (device_gives n seen)) its.store (its.as_read claim) ∙ sym (alive n.crashed n (life_goes n (device_gives n seen) took) lives))
     (λ claim. subst (λ (made : List DeviceCall). Adds made seen seen' may_leave may_leave') (sym (alive n.crashed [] (event_calls n took) lives)) (its.wrote claim))

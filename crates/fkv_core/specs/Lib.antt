@@ -5,4 +5,5 @@ pub mod OpeningWords
 pub mod Openings
 pub mod Showing
 pub mod Told
+pub mod Unswept
 pub mod Worlds

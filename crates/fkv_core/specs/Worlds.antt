@@ -2,19 +2,18 @@
 use Rattle.std.specs.Prelude.{◌≡◌, ◌<◌, ◌≤◌, ℕ, Bool, true, false, not, ◌&&◌, if◌then◌else◌, List, [], map, Option, None, Some, slice_get, slice_set}
 use Rattle.fkv_base.specs.declared.shapes.Shape.{Shape}
 use Rattle.fkv_disk.specs.Asks.{AskedCall, kinds_by}
-use Rattle.fkv_disk.specs.Bytes.{bytes_at}
 use Rattle.fkv_disk.specs.Calls.{Call as DeviceCall}
 use Rattle.fkv_disk.specs.Device.{Rose}
 use Rattle.fkv_disk.specs.Device as device
 use Rattle.fkv_disk.specs.Kinds.{Kind, Foretold}
-use Rattle.fkv_flush.specs.Serving.{mail_place}
 use Rattle.fkv_flush.specs.Devices.{Adds}
 use Rattle.fkv_keeper.specs.declared.answers.KeeperTold.{KeeperTold}
 use Rattle.fkv_keeper.specs.declared.answers.KeeperTold.TheVariants.{Device}
+use Rattle.fkv_keeper.specs.declared.keepers.Keeping.TheVariants.{Sweeps}
 use Rattle.fkv_plane.specs.declared.asks.Ask.{Ask}
 use Rattle.fkv_plane.specs.declared.asks.Ask.TheVariants.{Done}
 use Rattle.fkv_keeper.specs.KeeperAsks.{keeper_calls, keeper_due, keeper_made, keeper_read}
-use Rattle.fkv_keeper.specs.Keeping.{KeeperModel, keeper_ask}
+use Rattle.fkv_keeper.specs.Keeping.{KeeperModel, KeeperState, keeper_ask}
 use Rattle.fkv_map.specs.declared.operations.Call.{Call}
 use Rattle.fkv_plane.specs.declared.places.Places.{Places}
 use Rattle.fkv_plane.specs.Plane.{Plane}
@@ -70,8 +69,12 @@ abbrev pub kinds_behind : Bool → Now → event.Event → Bool → (List Kind �
 kinds_behind true n its done says = says
 kinds_behind false n its done says = live_kinds n its done says
 
--- The keeper's step beside the words and a device: whether memory was granted, whether the call of the device succeeded, and what it read. An honest device
--- took what the keeper writes, and gave what it reads as.
+-- where the keeper doesn't sweep the log's front, it doesn't behind a step either
+abbrev pub BeginsNoSweep : KeeperState → KeeperState → Type 0
+BeginsNoSweep s after = after.step ≡ Sweeps → s.step ≡ Sweeps
+
+-- The keeper's step beside the words and a device: whether memory was granted, whether the call of the device succeeded, and what it read. It begins no sweep. An
+-- honest device took what the keeper writes, and gave what it reads as.
 pub record IsKeeperMove (plane : Plane) (k : KeeperModel) (plane' : Plane) (k' : KeeperModel) (failed failed' : ℕ) (refuses refuses' : ℕ → Bool) (expects expects' : List Kind → Foretold) (honest : Type 0) (seen seen' : List ℕ) (may_leave may_leave' : List ℕ → Type 0) : Type 0 where
   pub granted : Bool
   pub done : Bool
@@ -80,6 +83,7 @@ pub record IsKeeperMove (plane : Plane) (k : KeeperModel) (plane' : Plane) (k' :
   pub uses : UsesDevice (keeper_ask k.shape k.places k.state) (keeper_made k.places k.state) done failed failed' refuses refuses'
   pub kinds : expects' ≡ kinds_asked (keeper_ask k.shape k.places k.state) (keeper_due k) done expects
   pub moved : beside plane' k'.state ≡ keeper_moved k.shape k.places granted done read (beside plane k.state)
+  pub no_sweep : BeginsNoSweep k.state k'.state
   pub as_read : honest → beside plane' k'.state ≡ keeper_moved k.shape k.places granted done (keeper_read k seen) (beside plane k.state)
   pub wrote : honest → Adds (calls_after (keeper_ask k.shape k.places k.state) (keeper_calls k.shape k.state done) []) seen seen' may_leave may_leave'
 
@@ -141,7 +145,7 @@ took_place events.Crash granted done = Crashes
 
 -- what an honest device gives the keeper
 abbrev pub device_gives : Now → List ℕ → List ℕ
-device_gives n seen = bytes_at seen (mail_place n.shape n.keeper.maintain.serving) 24
+device_gives n seen = keeper_read (record { shape = n.shape; places = n.places; state = n.keeper }) seen
 
 -- the write or sync of an event
 abbrev pub event_calls : Now → Event → List DeviceCall
@@ -151,13 +155,14 @@ event_calls n event = []
 abbrev pub calls_made : Now → Event → List DeviceCall
 calls_made n event = if n.crashed then [] else event_calls n event
 
--- One step of the world, and what it told: with the event that took place it leaves what the rules of the world give, whatever the device read.
+-- One step of the world, and what it told: with the event that took place it leaves what the rules of the world give, whatever the device read. No sweep begins.
 -- Over an honest device, which took what the event writes and gave what it reads as, it goes on with each life of an opened store that shows this world.
 pub record IsStep (its : event.Event) (n after : Now) (told : Option Told) (failed failed' : ℕ) (refuses refuses' : ℕ → Bool) (expects expects' : List Kind → Foretold) (honest : Type 0) (seen seen' : List ℕ) (may_leave may_leave' : List ℕ → Type 0) : Type 0 where
   pub granted : Bool
   pub done : Bool
   pub read : List ℕ
   pub now : after ≡ happens_now n read (took_place its granted done)
+  pub no_sweep : BeginsNoSweep n.keeper after.keeper
   pub tells : IsTold n.crashed n after (took_place its granted done) told
   pub uses : EventUses n.crashed n its done failed failed' refuses refuses'
   pub kinds : expects' ≡ kinds_behind n.crashed n its done expects

@@ -7,7 +7,7 @@ ghost use Rattle.fkv_plane.specs.Passing.{is_done};
 ghost use Rattle.fkv_world.specs.Moves.{keeper_moved, keeper_settled};
 ghost use Rattle.fkv_world.specs.World.{keeper_asked};
 ghost use Rattle.fkv_core.specs.Told.{IsKeeperEndTold};
-ghost use Rattle.fkv_core.specs.Worlds.{beside, IsKeeperMove};
+ghost use Rattle.fkv_core.specs.Worlds.{beside, BeginsNoSweep, IsKeeperMove};
 
 use crate::events::Told;
 use fkv_base::CommitKind;
@@ -74,11 +74,12 @@ fn has_ended(keeper: &Keeper, was_busy: bool) -> bool
 }
 
 /// Makes an ask of a word, or what goes with one.
-#[tactic(auto, unfolding(fkv_plane::specs::Passing::passed, fkv_world::specs::Moves::keeper_asks, fkv_world::specs::Moves::keeper_settled))]
+#[tactic(auto, unfolding(fkv_plane::specs::Passing::passed, fkv_world::specs::Moves::keeper_asks, fkv_world::specs::Moves::keeper_settled), using(crate::proofs::NoSweep::given_none))]
 fn word_asked(words: &mut PlainWords, keeper: &mut Keeper, ask: Ask<KeeperTold>)
     requires asked { ask ≡ keeper_ask keeper.old.shape keeper.old.places keeper.old.state }
     requires word { is_done ask ≡ false }
     ensures store { (keeper.new.shape ≡ keeper.old.shape) × (keeper.new.places ≡ keeper.old.places) }
+    ensures no_sweep { BeginsNoSweep keeper.old.state keeper.new.state }
     ensures moved { (granted : Bool) × ((done : Bool) (read : List ℕ) → beside words.new keeper.new.state ≡ keeper_moved keeper.old.shape keeper.old.places granted done read (beside words.old keeper.old.state)) }
 {
     match ask {
@@ -100,10 +101,11 @@ fn word_asked(words: &mut PlainWords, keeper: &mut Keeper, ask: Ask<KeeperTold>)
 }
 
 /// Moves the action that goes with the ask before.
-#[tactic(auto, unfolding(fkv_world::specs::Moves::keeper_settled), using(crate::proofs::Granted::put_is_granted))]
+#[tactic(auto, unfolding(fkv_world::specs::Moves::keeper_settled), using(crate::proofs::Granted::put_is_granted, crate::proofs::NoSweep::given_none))]
 fn settle(words: &mut PlainWords, keeper: &mut Keeper, next: Ask<KeeperTold>)
     requires { next ≡ keeper_ask keeper.old.shape keeper.old.places keeper.old.state }
     ensures store { (keeper.new.shape ≡ keeper.old.shape) × (keeper.new.places ≡ keeper.old.places) }
+    ensures no_sweep { BeginsNoSweep keeper.old.state keeper.new.state }
     ensures next { (granted : Bool) → beside words.new keeper.new.state ≡ keeper_settled keeper.old.shape keeper.old.places granted (beside words.old keeper.old.state) (keeper_ask keeper.old.shape keeper.old.places keeper.old.state) }
 {
     match next {

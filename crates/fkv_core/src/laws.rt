@@ -3,6 +3,7 @@ ghost use Rattle.std.specs.Prelude.{◌≡◌, ℕ, Bool, List, true};
 ghost use Rattle.fkv_core.specs.declared.events.Event.TheVariants.{Crash};
 ghost use Rattle.fkv_core.specs.OpeningPlaces.{HaveSeen, StandAsTold};
 ghost use Rattle.fkv_core.specs.Openings.{IsOpeningWorld};
+ghost use Rattle.fkv_core.specs.Unswept.{UnsweptLivesKeepBegin};
 ghost use Rattle.fkv_core.specs.Worlds.{took_place};
 ghost use Rattle.fkv_opening.specs.declared.opened_store.Opened.{Opened};
 ghost use Rattle.fkv_world.specs.World.{Now, happens_now};
@@ -18,4 +19,10 @@ pub fn law_words_open()
 /// Behind the event of a crash the store has crashed.
 pub fn law_crash_has_crashed()
     ensures crashed { (n : Now) (read : List ℕ) (granted done : Bool) → (happens_now n read (took_place Crash granted done)).crashed ≡ true }
+{}
+
+/// Where the keeper sweeps nothing in a life, its log begins where it did as the store was opened. So it is of each life that the steps of a world lead on, for
+/// they begin no sweep.
+pub fn law_unswept()
+    ensures { UnsweptLivesKeepBegin }
 {}

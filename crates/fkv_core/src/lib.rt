@@ -12,5 +12,5 @@ mod showing;
 mod worlds;
 
 pub use events::{Actor, Event, Told};
-pub use laws::{law_crash_has_crashed, law_words_open};
+pub use laws::{law_crash_has_crashed, law_unswept, law_words_open};
 pub use worlds::World;

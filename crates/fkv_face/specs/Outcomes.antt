@@ -1,16 +1,20 @@
 -- What came of a call of the device, as C tells it.
-use Rattle.std.specs.Prelude.{◌-◌, ◌++◌, ℕ, zero, suc, List, length, take, replicate, Option, Some, None}
+use Rattle.std.specs.Prelude.{◌-◌, ◌++◌, ℕ, zero, suc, nat_eq, if◌then◌else◌, List, length, take, replicate, Option, Some, None}
 use Rattle.fkv_disk.specs.Asks.{AskedCall, Reads, Writes, Syncs}
 use Rattle.fkv_posted.specs.declared.outcomes.Told.{Told}
-use Rattle.fkv_posted.specs.declared.outcomes.Told.TheVariants.{Failed, Read, Synced, Written}
+use Rattle.fkv_posted.specs.declared.outcomes.Told.TheVariants.{Failed, Piece, Read, Synced, Written}
 pub use Rattle.fkv_disk.specs.Asks.{asked_call}
 
--- the first 24, and zeros where there are fewer
-abbrev pub first_bytes : List ℕ → List ℕ
-first_bytes bytes = take 24 bytes ++ replicate (24 - length bytes) 0
+-- the first so many, and zeros where there are fewer
+abbrev pub first_bytes : ℕ → List ℕ → List ℕ
+first_bytes n bytes = take n bytes ++ replicate (n - length bytes) 0
+
+-- a read gave these bytes: of records in a row, or of one
+abbrev pub read_told : ℕ → ℕ → List ℕ → Told
+read_told at count bytes = if nat_eq count 768 then Piece at (first_bytes 768 bytes) else Read at (first_bytes 24 bytes)
 
 abbrev pub done_of : Option AskedCall → List ℕ → Told
-done_of (Some (Reads at count)) bytes = Read at (first_bytes bytes)
+done_of (Some (Reads at count)) bytes = read_told at count bytes
 done_of (Some (Writes at written)) bytes = Written
 done_of (Some Syncs) bytes = Synced
 done_of None bytes = Failed

@@ -1,7 +1,9 @@
 -- What the keeper's exports tell.
-use Rattle.std.specs.Prelude.{◌≡◌, ℕ, zero, suc, ℤ, pos, Bool, true, false, List, length, Option, Some, None, Result, Ok, Err}
+use Rattle.std.specs.Prelude.{◌≡◌, ◌++◌, ℕ, ◌==◌, ℤ, pos, if◌then◌else◌, min, Bool, true, false, List, length, map, take, drop, Option, Some, None, Result, Ok, Err}
 use Rattle.fkv_base.specs.declared.commits.CommitKind.{CommitKind}
 use Rattle.fkv_base.specs.declared.commits.CommitKind.TheVariants.{Full, Log}
+use Rattle.fkv_base.specs.declared.numbers.Addr.{Addr}
+use Rattle.fkv_base.specs.declared.numbers.Key.{Key}
 use Rattle.fkv_base.specs.declared.numbers.Version.{Version}
 use Rattle.fkv_base.specs.declared.faults.Fault.{Fault}
 use Rattle.fkv_disk.specs.declared.devices.Device.{Ghosts}
@@ -12,13 +14,14 @@ use Rattle.fkv_posted.specs.declared.posted.Posted.{Posted}
 use Rattle.fkv_handles.specs.Below.fkv_table.TurnAsk.{TurnAsk}
 use Rattle.fkv_handles.specs.Below.fkv_table.TurnAsk.TheVariants.{Device, Over}
 use Rattle.fkv_handles.specs.declared.keepers.Keeper.{Keeper}
-use Rattle.fkv_handles.specs.Kept.{IsAskedBy, IsToldBy, IsTurnedBy}
+use Rattle.fkv_handles.specs.Kept.{IsToldBy, IsTurnedBy}
 use Rattle.fkv_face.specs.declared.keepers.Turned.{Turned}
 use Rattle.fkv_face.specs.Numbers.{fault_told}
 use Rattle.fkv_face.specs.Points.{ArePoints}
 pub use Rattle.std.specs.Prelude.{None}
 pub use Rattle.fkv_disk.specs.Asks.{asked_call}
-pub use Rattle.fkv_handles.specs.Handles.{IsToldHonestly, due_of, watch_of}
+pub use Rattle.fkv_handles.specs.Handles.{IsToldHonestly, begin_of, due_of, wanted_of, watch_of}
+pub use Rattle.fkv_handles.specs.Kept.{IsAskedBy}
 pub use Rattle.fkv_face.specs.Outcomes.{outcome_of}
 
 -- Where the call lies that is posted. A write's bytes lie where the pointer says.
@@ -46,9 +49,18 @@ IsNext Device due result t t' points points' = IsPosted due result t t' × (poin
 IsNext (Over (Ok turn)) due result t t' points points' = IsOver turn result t t' points points'
 IsNext (Over (Err why)) due result t t' points points' = (result ≡ fault_told why) × (t' ≡ t) × (points' ≡ points)
 
+-- a full commit, with a sweep of the log's front behind it (2) or without one (0), and else a log commit
 abbrev pub kind_of : ℕ → CommitKind
-kind_of zero = Full
-kind_of (suc n) = Log
+kind_of number = if number == 0 then Full else (if number == 2 then Full else Log)
+
+-- as many keys as there is room for, and how many; behind them the room is as it was
+abbrev pub IsWanted : List Key → ℕ → List ℕ → List ℕ → Type 0
+IsWanted wanted count keys keys' = let n = min (length wanted) (length keys) in (count ≡ n) × (keys' ≡ map (λ k. k.0) (take n wanted) ++ drop n keys)
+
+-- the address at which a log begins, and 0 where none is told
+abbrev pub begin_told : Option Addr → ℕ
+begin_told (Some begin) = begin.0
+begin_told None = 0
 
 abbrev pub IsBegun : Result Version Fault → ℤ → ℕ → ℕ → Type 0
 IsBegun (Ok version) result number number' = (result ≡ pos 0) × (number' ≡ version.0)
@@ -72,7 +84,7 @@ module _ (device : Ghosts Posted) where
     pub told : IsNext next (due_of (watch_of after)) code t t' points points'
 
   -- A commit was asked for.
-  pub record HasAsked (log_only : ℕ) (before : Keeper) (result : ℤ) (number number' : ℕ) (after : Keeper) : Type 0 where
+  pub record HasAsked (kind : ℕ) (before : Keeper) (result : ℤ) (number number' : ℕ) (after : Keeper) : Type 0 where
     pub begun : Result Version Fault
-    pub asked : IsAskedBy device (kind_of log_only) (watch_of before) begun (watch_of after)
+    pub asked : IsAskedBy device (kind_of kind) (watch_of before) begun (watch_of after)
     pub told : IsBegun begun result number number'

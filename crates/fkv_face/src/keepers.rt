@@ -6,9 +6,9 @@ use crate::answers::refused;
 use crate::held_keeper::HeldKeeper;
 use crate::outcomes::outcome_of;
 use crate::points::tell_points;
-use fkv_base::CommitKind;
+use fkv_base::{CommitKind, Fault, Key, Version};
 use fkv_disk::{Device, DeviceAsk};
-use fkv_handles::TurnAsk;
+use fkv_handles::{Leave, TurnAsk};
 use fkv_keeper::Turn;
 use fkv_posted::Posted;
 use std::ptr::from_ref;
@@ -108,7 +108,10 @@ fn next(keeper: &mut HeldKeeper, ask: TurnAsk, turned: &mut Turned, points: &mut
 pub extern "C" fn fkv_turn(keeper: &mut HeldKeeper, turned: &mut Turned, points: &mut [u64]) -> i32
     ensures { says.IsTurned ⟦<Posted<'static> as Device>⟧ keeper.old.value result turned.old turned.new points.old points.new keeper.new.value }
 {
-    let ask = keeper.lent().turn(true);
+    let ask = keeper.lent().turn(Leave {
+        rests: true,
+        sweep: true,
+    });
     next(keeper, ask, turned, points).number
 }
 
@@ -117,7 +120,22 @@ pub extern "C" fn fkv_turn(keeper: &mut HeldKeeper, turned: &mut Turned, points:
 pub extern "C" fn fkv_serve(keeper: &mut HeldKeeper, turned: &mut Turned, points: &mut [u64]) -> i32
     ensures { says.IsTurned ⟦<Posted<'static> as Device>⟧ keeper.old.value result turned.old turned.new points.old points.new keeper.new.value }
 {
-    let ask = keeper.lent().turn(false);
+    let ask = keeper.lent().turn(Leave {
+        rests: false,
+        sweep: false,
+    });
+    next(keeper, ask, turned, points).number
+}
+
+/// As `fkv_serve`, but that a sweep of the log's front goes on, behind a commit of the kind `TRIM`.
+#[unsafe(no_mangle)]
+pub extern "C" fn fkv_sweep(keeper: &mut HeldKeeper, turned: &mut Turned, points: &mut [u64]) -> i32
+    ensures { says.IsTurned ⟦<Posted<'static> as Device>⟧ keeper.old.value result turned.old turned.new points.old points.new keeper.new.value }
+{
+    let ask = keeper.lent().turn(Leave {
+        rests: false,
+        sweep: true,
+    });
     next(keeper, ask, turned, points).number
 }
 
@@ -147,24 +165,36 @@ pub extern "C" fn fkv_told(
     next(keeper, ask, turned, points).number
 }
 
-fn kind_of(log_only: u32) -> CommitKind
-    ensures { result ≡ says.kind_of log_only }
+/// A full commit behind which the log's front is swept.
+const TRIM: u32 = 2;
+
+fn kind_of(kind: u32) -> CommitKind
+    ensures { result ≡ says.kind_of kind }
 {
-    if log_only == 0 {
-        CommitKind::Full
-    } else {
-        CommitKind::Log
+    match kind {
+        0 | TRIM => CommitKind::Full,
+        _ => CommitKind::Log,
     }
 }
 
-/// Begins a commit, a log commit where `log_only` isn't 0, and tells its number. `Broken`, `CommitRunning`, also in the middle of a turn,
-/// `VersionsSpent`, `LostFull`, `EpochsSpent`, `DrainFull`.
-#[unsafe(no_mangle)]
-pub extern "C" fn fkv_commit(keeper: &mut HeldKeeper, log_only: u32, number: &mut u64) -> i32
-    ensures { says.HasAsked ⟦<Posted<'static> as Device>⟧ log_only keeper.old.value result number.old number.new keeper.new.value }
+/// Begins a commit of a kind: a full one (0), or behind which the log's front is swept (`TRIM`), or a log commit.
+fn ask(keeper: &mut HeldKeeper, kind: u32) -> Result<Version, Fault>
+    ensures { says.IsAskedBy ⟦<Posted<'static> as Device>⟧ (says.kind_of kind) (says.watch_of keeper.old.value) result (says.watch_of keeper.new.value) }
 {
-    let kind = kind_of(log_only);
-    match keeper.lent().ask_commit(kind) {
+    if kind == TRIM {
+        return keeper.lent().ask_trim();
+    }
+    let kind = kind_of(kind);
+    keeper.lent().ask_commit(kind)
+}
+
+/// Begins a commit, and tells its number: a full one where `kind` is 0, one behind which the log's front is swept where it is 2, and else a log commit. `Broken`,
+/// `CommitRunning`, also in the middle of a turn, `VersionsSpent`, `LostFull`, `EpochsSpent`, `DrainFull`.
+#[unsafe(no_mangle)]
+pub extern "C" fn fkv_commit(keeper: &mut HeldKeeper, kind: u32, number: &mut u64) -> i32
+    ensures { says.HasAsked ⟦<Posted<'static> as Device>⟧ kind keeper.old.value result number.old number.new keeper.new.value }
+{
+    match ask(keeper, kind) {
         Ok(version) => {
             *number = version.0;
             0
@@ -179,4 +209,36 @@ pub extern "C" fn fkv_end_keeper(keeper: &mut HeldKeeper)
     ensures { says.watch_of keeper.new.value ≡ says.None }
 {
     keeper.lent().end();
+}
+
+/// Tells the keys, as many as there is room for, and how many those are.
+fn tell_keys(wanted: &[Key], keys: &mut [u64]) -> usize
+    ensures { says.IsWanted wanted.now result keys.old keys.new }
+{
+    let count = wanted.len().min(keys.len());
+    for i in 0..count {
+        keys[i] = wanted[i].0;
+    }
+    count
+}
+
+/// Writes the keys that the sweep's last turn has found wanted, as the store has them, as far as there is room, and tells how many those are.
+#[unsafe(no_mangle)]
+pub extern "C" fn fkv_wanted(keeper: &mut HeldKeeper, keys: &mut [u64]) -> usize
+    ensures told { says.IsWanted (says.wanted_of (says.watch_of keeper.old.value)) result keys.old keys.new }
+    ensures same { keeper.new.value ≡ keeper.old.value }
+{
+    tell_keys(keeper.lent().wanted(), keys)
+}
+
+/// Where the log of the newest finished commit begins: no record below that is read any more, nor counts behind a crash. 0 once the handle is ended.
+#[unsafe(no_mangle)]
+pub extern "C" fn fkv_begin(keeper: &mut HeldKeeper) -> u64
+    ensures told { result ≡ says.begin_told (says.begin_of (says.watch_of keeper.old.value)) }
+    ensures same { keeper.new.value ≡ keeper.old.value }
+{
+    match keeper.lent().begin() {
+        Some(begin) => begin.0,
+        None => 0,
+    }
 }

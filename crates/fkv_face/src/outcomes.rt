@@ -3,14 +3,14 @@ ghost use Rattle.std.specs.Prelude.{◌≡◌};
 ghost use Rattle.fkv_face.specs.Outcomes as says;
 
 use fkv_disk::DeviceAsk;
-use fkv_posted::{READ_BYTES, Told};
+use fkv_posted::{PIECE_BYTES, READ_BYTES, Told};
 
-/// The first 24 of the bytes, and zeros where there are fewer.
-fn first_bytes(bytes: &[u8]) -> [u8; READ_BYTES]
-    ensures { result ≡ says.first_bytes bytes.now }
+/// The first of the bytes, as many as there is room, and zeros where there are fewer.
+fn first_bytes<const N: usize>(bytes: &[u8]) -> [u8; N]
+    ensures { result ≡ says.first_bytes N bytes.now }
 {
-    let mut read = [0; READ_BYTES];
-    let count = bytes.len().min(READ_BYTES);
+    let mut read = [0; N];
+    let count = bytes.len().min(N);
     let (front, _) = read.split_at_mut(count);
     front.copy_from_slice(&bytes[..count]);
     read
@@ -24,7 +24,8 @@ pub(crate) fn outcome_of(ask: Option<DeviceAsk<'_>>, failed: u32, bytes: &[u8]) 
         return Told::Failed;
     }
     match ask {
-        Some(DeviceAsk::Read(place, _)) => Told::Read(place, first_bytes(bytes)),
+        Some(DeviceAsk::Read(place, PIECE_BYTES)) => Told::Piece(place, first_bytes(bytes)),
+        Some(DeviceAsk::Read(place, _)) => Told::Read(place, first_bytes::<READ_BYTES>(bytes)),
         Some(DeviceAsk::Write(_, _)) => Told::Written,
         Some(DeviceAsk::Sync) => Told::Synced,
         None => Told::Failed,

@@ -1,6 +1,8 @@
 -- What handles hold, and what a store gives.
-use Rattle.std.specs.Prelude.{◌≡◌, ℕ, Bool, List, Option, None, Some, Result, Ok, Err, is_some, slice_get, slice_set}
+use Rattle.std.specs.Prelude.{◌≡◌, ℕ, Bool, List, [], Option, None, Some, Result, Ok, Err, is_some, slice_get, slice_set}
 use Rattle.fkv_base.specs.declared.faults.Fault.TheVariants.{NoSession}
+use Rattle.fkv_base.specs.declared.numbers.Addr.{Addr}
+use Rattle.fkv_base.specs.declared.numbers.Key.{Key}
 use Rattle.fkv_disk.specs.Asks.{AskedCall}
 use Rattle.fkv_posted.specs.declared.outcomes.Told.{Told}
 use Rattle.fkv_posted.specs.declared.posted.Posted.{Posted}
@@ -56,6 +58,16 @@ store_is_open s = is_some s.table
 abbrev pub due_of : Option Watch → Option AskedCall
 due_of (Some w) = keeper_due w.machine
 due_of None = None
+
+-- the keys that the sweep's last turn has found wanted, as the store has them
+abbrev pub wanted_of : Option Watch → List Key
+wanted_of (Some w) = w.machine.state.sweep.wanted
+wanted_of None = []
+
+-- where the log of the newest finished commit begins
+abbrev pub begin_of : Option Watch → Option Addr
+begin_of (Some w) = Some w.machine.state.last.begin
+begin_of None = None
 
 -- what is told of a read that is posted is what was last written there
 abbrev pub IsToldHonestly : Told → Option Watch → Type 0

@@ -2,10 +2,10 @@
 ghost use Rattle.std.specs.Prelude.{◌≡◌, None};
 ghost use Rattle.fkv_handles.specs.Said as said;
 
-use fkv_base::{CommitKind, Fault, Version};
+use fkv_base::{Addr, CommitKind, Fault, Key, Version};
 use fkv_disk::{Device, DeviceAsk};
 use fkv_posted::{Posted, Told};
-use fkv_threads::{KeeperSeat, TurnAsk};
+use fkv_threads::{KeeperSeat, Leave, TurnAsk};
 
 /// The keeper's handle, until it is ended. It may go into any thread.
 #[derive(Drop)]
@@ -15,13 +15,13 @@ pub struct Keeper {
 
 impl Keeper {
     /// Begins a turn, and carries it on up to its next call of the device or to its end. Where a call is posted that wasn't told yet nothing
-    /// changes, and `Device` is answered again. It ends early as `KeeperSeat::turn` does; `Broken` once the handle is ended. Writes of a commit that rest go on
-    /// if the caller says so, and a flush that rests does in the next turn.
-    pub fn turn(&mut self, goes_on: bool) -> TurnAsk
+    /// changes, and `Device` is answered again. It ends early as `KeeperSeat::turn` does; `Broken` once the handle is ended. What rests and a sweep go on
+    /// as the caller lets them.
+    pub fn turn(&mut self, leave: Leave) -> TurnAsk
         ensures turned { said.IsTurnedBy ⟦<Posted<'static> as Device>⟧ (said.watch_of self.old) result (said.watch_of self.new) }
     {
         match &mut self.seat {
-            Some(seat) => seat.drive(goes_on),
+            Some(seat) => seat.drive(leave),
             None => TurnAsk::Over(Err(Fault::Broken)),
         }
     }
@@ -65,6 +65,33 @@ impl Keeper {
             Some(seat) => seat.ask_commit(kind),
             None => Err(Fault::Broken),
         }
+    }
+
+    /// Begins a full commit behind which the log's front is swept, as `KeeperSeat::ask_trim` does. `Broken` once the handle is ended.
+    pub fn ask_trim(&mut self) -> Result<Version, Fault>
+        ensures begun { said.IsAskedBy ⟦<Posted<'static> as Device>⟧ said.Full (said.watch_of self.old) result (said.watch_of self.new) }
+    {
+        match &mut self.seat {
+            Some(seat) => seat.ask_trim(),
+            None => Err(Fault::Broken),
+        }
+    }
+
+    /// The keys that the sweep's last turn has found wanted, 16 at most, as the store has them. None once the handle is ended.
+    pub fn wanted(&self) -> &[Key]
+        ensures { result.now ≡ said.wanted_of (said.watch_of self.now) }
+    {
+        match &self.seat {
+            Some(seat) => seat.wanted(),
+            None => &[],
+        }
+    }
+
+    /// Where the log of the newest finished commit begins, if the handle isn't ended.
+    pub fn begin(&self) -> Option<Addr>
+        ensures { result ≡ said.begin_of (said.watch_of self.now) }
+    {
+        self.seat.as_ref().map(|seat| seat.begin())
     }
 
     /// Ends the handle, and gives its share of the table up.

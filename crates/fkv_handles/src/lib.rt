@@ -15,4 +15,4 @@ pub use sessions::Session;
 pub use stores::{Recovered, Store};
 
 // What crates above name of the table.
-pub use fkv_threads::{Offsets, TurnAsk};
+pub use fkv_threads::{Leave, Offsets, TurnAsk};

@@ -1,6 +1,6 @@
 -- What one event leaves of the commit in hand, of the lists, and which step follows.
 use Rattle.std.proofs.Common.{◌≡◌, ℕ, ◌∙◌, ◌⊎◌, inl, inr, List, refl, ap, sym, subst, Bool, true, false}
-use Rattle.std.specs.Prelude.{not, ◌||◌, Option, Some, None, if◌then◌else◌}
+use Rattle.std.specs.Prelude.{◌&&◌, not, ◌||◌, Option, Some, None, if◌then◌else◌}
 use Rattle.fkv_base.specs.declared.faults.Fault.TheVariants as fault
 use Rattle.fkv_base.specs.declared.numbers.Addr.{Addr}
 use Rattle.fkv_base.specs.declared.phases.Phase.TheVariants as phase
@@ -38,12 +38,15 @@ use Rattle.fkv_maintain.specs.Maintaining.{is_flush_resting, maintain_ask, maint
 use Rattle.fkv_keeper.specs.declared.answers.KeeperTold.{KeeperTold}
 use Rattle.fkv_keeper.specs.declared.answers.KeeperTold.TheVariants.{TurnRefused}
 use Rattle.fkv_keeper.specs.declared.keepers.Keeping.{Keeping}
-use Rattle.fkv_keeper.specs.declared.keepers.Keeping.TheVariants.{Ended, Starts, Maintains, LoadsPhase, Enters, Copies, Seeks, Waits, Writes, Finishes}
-use Rattle.fkv_keeper.specs.Keeping.{KeeperState, is_copy_resting, copy_driven, copy_told, copied, points_known, ended, turned, turn_asked, commit_asked, start_ledto, maintain_ledto, copies, part_begun, must_rest, writes_taken_up, phase_ledto, enter_ledto, copy_ledto, seek_ledto, writes_begun, wait_ledto, finished, finish_ledto, keeping_next, keeping_given, write_ledto, writes_called, keeping_called, unless_flush_rests}
+use Rattle.fkv_keeper.specs.declared.keepers.Keeping.TheVariants.{Ended, Starts, Maintains, LoadsPhase, Enters, Copies, Seeks, Waits, Writes, Finishes, Sweeps}
+use Rattle.fkv_keeper.specs.Keeping.{KeeperState, is_copy_resting, copy_driven, copy_told, copied, points_known, ended, turned, turn_asked, commit_asked, start_ledto, maintain_ledto, copies, part_begun, must_rest, writes_taken_up, phase_ledto, enter_ledto, copy_ledto, seek_ledto, writes_begun, wait_ledto, finished, finish_ledto, keeping_next, keeping_given, write_ledto, writes_called, keeping_called, unless_flush_rests, sweeps_next, sweep_ledto, sweep_called}
 use Rattle.fkv_keeper.specs.KeeperRun.{KeeperEvent, BeginsTurn, BeginsCommit, Replies, Gets, Calls, begins, keeper_happens}
 use Rattle.fkv_keeper.specs.CheckpointLaws.{IsCopyPhase, IsCopyTakenUp, IsCopyBegun, IsBegun, IsFinished, IsCommitAfter, CopiesOnce, KeepsLists, MayFollow, MayStep, IsPhaseLoaded, DoesOneThing}
 use Rattle.fkv_keeper.proofs.Happens.{happens_at, happens_so}
 use Rattle.fkv_keeper.proofs.Rests.{come_follows, each_rests, may_step}
+use Rattle.fkv_sweep.specs.Sweeping.{is_sweeping, sweep_ask, sweep_next, sweep_read, sweep_failed}
+use Rattle.fkv_sweep.specs.declared.sweeping.SweepAnswer.{SweepAnswer}
+use Rattle.fkv_sweep.specs.declared.sweeping.SweepAnswer.TheVariants as sweep
 
 -- the step of one event
 record IsStepped (s : KeeperState) (event : KeeperEvent) (a : KeeperState) : Type 0 where
@@ -97,6 +100,7 @@ follows_itself Seeks = tt
 follows_itself Waits = tt
 follows_itself Writes = tt
 follows_itself Finishes = tt
+follows_itself Sweeps = tt
 
 remains : (p : Places) (s : KeeperState) (step : Keeping) (event : KeeperEvent) (t : KeeperState) → s.step ≡ step → t.step ≡ step → IsQuiet step s t → (IsPhaseLoaded step event → ⊥) → IsMoved p s event t
 remains p s step event t e still its once =
@@ -203,9 +207,15 @@ lets_move : (p : Places) (s : KeeperState) (reply : ℕ) (granted : Bool) (its :
 lets_move p s reply granted its e moved = either_move (is_flush_resting s.maintain) p s (Replies reply granted) _ _
     (ends p s LoadsPhase (Replies reply granted) (record s { is_granted = granted }) _ e (record { commit = refl; copy = refl; last = refl; lost = refl; used = refl; points = λ other. refl })) moved
 
+-- a sweep goes on, or the turn is over
+sweeps_move : (p : Places) (s : KeeperState) (reply : ℕ) (granted : Bool) → s.step ≡ LoadsPhase → IsMoved p s (Replies reply granted) (sweeps_next s granted)
+sweeps_move p s reply granted e = either_move (granted && is_sweeping s.sweep) p s (Replies reply granted) _ _
+    (goes_to p s reply granted _ e (record { commit = refl; copy = refl; last = refl; lost = refl; used = refl; points = λ other. refl }) tt (λ copies. cc) (λ loads. cc))
+    (ends p s LoadsPhase (Replies reply granted) (record s { is_granted = granted }) _ e (record { commit = refl; copy = refl; last = refl; lost = refl; used = refl; points = λ other. refl }))
+
 phase_move : (p : Places) (s : KeeperState) (found : Option Commit) (reply : ℕ) (granted : Bool) → s.step ≡ LoadsPhase → s.commit ≡ found → IsMoved p s (Replies reply granted) (phase_ledto p s found (phase_said reply) granted)
 unfolding phase_ledto
-phase_move p s None reply granted e in_hand = lets_move p s reply granted _ e (over p s reply granted e)
+phase_move p s None reply granted e in_hand = lets_move p s reply granted _ e (sweeps_move p s reply granted e)
 phase_move p s (Some c) reply granted e in_hand = by s.rests refl granted
   where
     by : (rests : Bool) → s.rests ≡ rests → (granted : Bool) → IsMoved p s (Replies reply granted) (if rests then writes_taken_up s granted else unless_flush_rests s granted (part_begun p s c (phase_said reply) granted))
@@ -317,6 +327,16 @@ finish_move p s reply granted (Done its) e = finished_move p s reply granted s.c
 finish_move p s reply granted ask e =
     remains p s Finishes (Replies reply granted) (record s { finish = finish_next s.finish reply }) e e (record { commit = refl; copy = refl; last = refl; lost = refl; used = refl; points = λ other. refl }) (λ loads. loads)
 
+-- the sweep's turn goes on, or is through
+sweep_move : (p : Places) (s : KeeperState) (event : KeeperEvent) (t : KeeperState) (ask : Ask SweepAnswer) → s.step ≡ Sweeps → t.step ≡ Sweeps → IsQuiet Sweeps s t → IsMoved p s event (sweep_ledto t ask)
+unfolding sweep_ledto
+sweep_move p s event t (Done sweep.Through) e still its = ends p s Sweeps event t _ e its
+sweep_move p s event t ask e still its = remains p s Sweeps event t e still its (λ loads. loads)
+
+read_move : (p : Places) (s : KeeperState) (done : Bool) (bytes : List ℕ) → s.step ≡ Sweeps → IsMoved p s (Calls done bytes) (sweep_called s done bytes)
+read_move p s true bytes e = sweep_move p s (Calls true bytes) (record s { sweep = sweep_read s.sweep bytes }) (sweep_ask (sweep_read s.sweep bytes)) e e (record { commit = refl; copy = refl; last = refl; lost = refl; used = refl; points = λ other. refl })
+read_move p s false bytes e = ends p s Sweeps (Calls false bytes) (record s { sweep = sweep_failed s.sweep; is_broken = true; rests = false }) _ e (record { commit = refl; copy = refl; last = refl; lost = refl; used = refl; points = λ other. refl })
+
 -- where nothing happens
 still_move : (p : Places) (s : KeeperState) (event : KeeperEvent) → (IsPhaseLoaded s.step event → ⊥) → IsMoved p s event s
 still_move p s event once = remains p s s.step event s refl refl (nothing s.step s) once
@@ -334,6 +354,7 @@ reply_move shape p s Seeks reply granted e = seek_move p s reply granted _ (seek
 reply_move shape p s Waits reply granted e = wait_move shape p s reply granted _ (wait_ask (wait_next s.wait reply)) e e (record { commit = refl; copy = refl; last = refl; lost = refl; used = refl; points = λ other. refl })
 reply_move shape p s Writes reply granted e = remains p s Writes (Replies reply granted) s e e (nothing Writes s) (λ loads. loads)
 reply_move shape p s Finishes reply granted e = finish_move p s reply granted (finish_ask s.seek.points (finish_next s.finish reply)) e
+reply_move shape p s Sweeps reply granted e = sweep_move p s (Replies reply granted) _ (sweep_ask (sweep_next s.sweep reply)) e e (record { commit = refl; copy = refl; last = refl; lost = refl; used = refl; points = λ other. refl })
 
 no_reply : (step : Keeping) (action : Action) → IsPhaseLoaded step (Gets action) → ⊥
 no_reply LoadsPhase action loads = loads
@@ -352,6 +373,7 @@ called_move : (p : Places) (shape : Shape) (s : KeeperState) (step : Keeping) (d
 unfolding keeping_called
 called_move p shape s Maintains done bytes e = maintain_move p s (Calls done bytes) _ (maintain_ask shape p (maintain_called shape p s.maintain done bytes)) e e (record { commit = refl; copy = refl; last = refl; lost = refl; used = refl; points = λ other. refl })
 called_move p shape s Writes done bytes e = call_move p s done bytes e
+called_move p shape s Sweeps done bytes e = read_move p s done bytes e
 called_move p shape s step done bytes e = still_move p s (Calls done bytes) (no_call s.step done bytes)
 
 -- where a turn or a commit is begun

@@ -1,6 +1,6 @@
 -- The copy in hand is the one that the replies told, and a commit's writes begin from it.
 use Rattle.std.proofs.Common.{◌≡◌, ℕ, ◌∙◌, List, [], ◌∷◌, refl, ap, sym, subst, Bool, true, false}
-use Rattle.std.specs.Prelude.{not, ◌||◌, Option, Some, None, if◌then◌else◌, ⊤}
+use Rattle.std.specs.Prelude.{◌&&◌, not, ◌||◌, Option, Some, None, if◌then◌else◌, ⊤}
 use Rattle.fkv_base.specs.declared.faults.Fault.TheVariants as fault
 use Rattle.fkv_base.specs.declared.numbers.Addr.{Addr}
 use Rattle.fkv_base.specs.declared.phases.Phase.TheVariants as phase
@@ -43,11 +43,14 @@ use Rattle.fkv_maintain.specs.Maintaining.{is_flush_resting, maintain_ask, maint
 use Rattle.fkv_keeper.specs.declared.answers.KeeperTold.{KeeperTold}
 use Rattle.fkv_keeper.specs.declared.answers.KeeperTold.TheVariants.{TurnRefused, CommitRefused}
 use Rattle.fkv_keeper.specs.declared.keepers.Keeping.{Keeping}
-use Rattle.fkv_keeper.specs.declared.keepers.Keeping.TheVariants.{Ended, Starts, Maintains, LoadsPhase, Enters, Copies, Seeks, Waits, Writes, Finishes}
-use Rattle.fkv_keeper.specs.Keeping.{asked_for, KeeperState, is_copy_resting, copy_asked, copy_told, copy_driven, copied, points_known, ended, turned, turn_asked, commit_asked, start_ledto, maintain_ledto, copies, part_begun, parts_begun, must_rest, writes_taken_up, phase_ledto, enter_ledto, copy_ledto, seek_ledto, writes_begun, wait_ledto, finished, finish_ledto, keeping_next, keeping_given, write_ledto, writes_called, keeping_called, unless_flush_rests, serves_alone}
+use Rattle.fkv_keeper.specs.declared.keepers.Keeping.TheVariants.{Ended, Starts, Maintains, LoadsPhase, Enters, Copies, Seeks, Waits, Writes, Finishes, Sweeps}
+use Rattle.fkv_keeper.specs.Keeping.{asked_for, KeeperState, is_copy_resting, copy_asked, copy_told, copy_driven, copied, points_known, ended, turned, turn_asked, commit_asked, start_ledto, maintain_ledto, copies, part_begun, parts_begun, must_rest, writes_taken_up, phase_ledto, enter_ledto, copy_ledto, seek_ledto, writes_begun, wait_ledto, finished, finish_ledto, keeping_next, keeping_given, write_ledto, writes_called, keeping_called, unless_flush_rests, serves_alone, sweeps_next, sweep_ledto, sweep_called, begin_next}
 use Rattle.fkv_keeper.specs.KeeperRun.{KeeperEvent, BeginsTurn, BeginsCommit, Replies, Gets, Calls, is_in_hand, begins, keeper_run, IsOpened}
 use Rattle.fkv_keeper.specs.CheckpointLaws.{replies_after, copy_replies, LastBegin, begun_of, begun_by, last_begin_after, last_begin, copy_by, HasCopied, IsBeforeWrites}
 use Rattle.fkv_keeper.proofs.Happens.{happens_at, happens_so}
+use Rattle.fkv_sweep.specs.Sweeping.{is_sweeping, sweep_ask, sweep_next, sweep_read}
+use Rattle.fkv_sweep.specs.declared.sweeping.SweepAnswer.{SweepAnswer}
+use Rattle.fkv_sweep.specs.declared.sweeping.SweepAnswer.TheVariants as sweep
 
 -- what is known by how far the call has come
 abbrev pub Here : Places → List ℕ → LastBegin → KeeperState → Keeping → Type 0
@@ -112,10 +115,10 @@ start_sound : (p : Places) (replies : List ℕ) (told : LastBegin) (t : KeeperSt
 unfolding start_ledto
 start_sound p replies told t (Done (start.Begun number first)) e sound = record {
   copied = λ c in_hand full is_copied working early.
-      let same : commit_begun number t.start.asked.kind t.last.begin first ≡ c = cc in
+      let same : commit_begun number t.start.asked.kind (begin_next t first) first ≡ c = cc in
       absurd (not_log t.start.asked.kind (ap (λ (x : Commit). x.kind) same ∙ full) (ap (λ (x : Commit). x.is_copied) same ∙ is_copied));
   points = λ c in_hand taken. cc;
-  begun = λ c in_hand. let same : commit_begun number t.start.asked.kind t.last.begin first ≡ c = cc in ap (λ (x : Option CommitKind). begun_of x number first) sound.here ∙ ap (λ (x : Commit). Some (record { kind = x.kind; number = x.number; first = x.first })) same;
+  begun = λ c in_hand. let same : commit_begun number t.start.asked.kind (begin_next t first) first ≡ c = cc in ap (λ (x : Option CommitKind). begun_of x number first) sound.here ∙ ap (λ (x : Commit). Some (record { kind = x.kind; number = x.number; first = x.first })) same;
   rests = λ c in_hand so. cc;
   here = tt;
 }
@@ -207,9 +210,15 @@ lets_sound : (p : Places) (replies : List ℕ) (told : LastBegin) (s its : Keepe
 lets_sound p replies told s its reply granted sound led =
     either_sound (is_flush_resting s.maintain) p replies told (is_copy_resting s.copy) reply granted _ _ (λ rests. keeps p replies told s _ LoadsPhase (Ended _) refl refl refl (λ works. works) (λ so. tt) sound tt) led
 
+-- a sweep goes on, or the turn is over
+sweeps_sound : (p : Places) (replies : List ℕ) (told : LastBegin) (s : KeeperState) (reply : ℕ) (granted : Bool) → IsSound p replies told s LoadsPhase → from_phase p replies told (is_copy_resting s.copy) reply granted (sweeps_next s granted)
+sweeps_sound p replies told s reply granted sound =
+    either_sound (granted && is_sweeping s.sweep) p replies told (is_copy_resting s.copy) reply granted _ _ (λ goes. keeps p replies told s _ LoadsPhase Sweeps refl refl refl (λ works. works) (λ so. tt) sound tt)
+    (keeps p replies told s _ LoadsPhase (Ended _) refl refl refl (λ works. works) (λ so. tt) sound tt)
+
 phase_sound : (p : Places) (replies : List ℕ) (told : LastBegin) (s : KeeperState) (found : Option Commit) (said : PhaseSaid) (reply : ℕ) (granted : Bool) → s.commit ≡ found → IsSound p replies told s LoadsPhase → from_phase p replies told (is_copy_resting s.copy) reply granted (phase_ledto p s found said granted)
 unfolding phase_ledto
-phase_sound p replies told s None said reply granted in_hand sound = lets_sound p replies told s _ reply granted sound (over p replies told s LoadsPhase _ tt sound)
+phase_sound p replies told s None said reply granted in_hand sound = lets_sound p replies told s _ reply granted sound (sweeps_sound p replies told s reply granted sound)
 phase_sound p replies told s (Some c) said reply granted in_hand sound = by s.rests granted
   where
     by : (rests granted : Bool) → from_phase p replies told (is_copy_resting s.copy) reply granted (if rests then writes_taken_up s granted else unless_flush_rests s granted (part_begun p s c said granted))
@@ -339,6 +348,16 @@ unfolding finish_ledto
 finish_sound p replies told t (Done its) e sound = finished_sound p replies told t t.commit refl
 finish_sound p replies told t ask e sound = at_step p replies told t Finishes e sound
 
+-- the sweep's turn goes on, or is through
+sweep_sound : (p : Places) (replies : List ℕ) (told : LastBegin) (t : KeeperState) (ask : Ask SweepAnswer) → t.step ≡ Sweeps → IsSound p replies told t Sweeps → IsSound p replies told (sweep_ledto t ask) (sweep_ledto t ask).step
+unfolding sweep_ledto
+sweep_sound p replies told t (Done sweep.Through) e sound = over p replies told t Sweeps _ tt sound
+sweep_sound p replies told t ask e sound = at_step p replies told t Sweeps e sound
+
+read_sound : (p : Places) (replies : List ℕ) (told : LastBegin) (s : KeeperState) (done : Bool) (bytes : List ℕ) → s.step ≡ Sweeps → IsSound p replies told s Sweeps → IsSound p replies told (sweep_called s done bytes) (sweep_called s done bytes).step
+read_sound p replies told s true bytes e sound = sweep_sound p replies told (record s { sweep = sweep_read s.sweep bytes }) (sweep_ask (sweep_read s.sweep bytes)) e (keeps p replies told s _ Sweeps Sweeps refl refl refl (λ works. works) (λ early. early) sound tt)
+read_sound p replies told s false bytes e sound = record { copied = λ c in_hand full is_copied working early. absurd (broken_not working.0); points = sound.points; begun = sound.begun; rests = sound.rests; here = tt }
+
 -- a reply, an action, and a call of the device
 same_here : (p : Places) (replies : List ℕ) (told : LastBegin) (s t : KeeperState) (step : Keeping) → t.commit ≡ s.commit → t.copy ≡ s.copy → t.has_points ≡ s.has_points → t.is_broken ≡ s.is_broken → t.rests ≡ s.rests → Here p replies told t step → IsSound p replies told s step → IsSound p replies told t step
 same_here p replies told s t step commit copy points broken rests here sound = keeps p replies told s t step step commit copy points (λ works. (sym broken ∙ works.0, sym rests ∙ works.1)) (λ early. early) sound here
@@ -366,6 +385,7 @@ reply_sound shape p replies told s Seeks reply granted e sound = seek_sound p re
 reply_sound shape p replies told s Waits reply granted e sound = wait_sound shape p replies told _ (wait_ask (wait_next s.wait reply)) e (same_here p replies told s _ Waits refl refl refl refl refl sound.here sound)
 reply_sound shape p replies told s Writes reply granted e sound = at_step p replies told s Writes e sound
 reply_sound shape p replies told s Finishes reply granted e sound = finish_sound p replies told _ (finish_ask s.seek.points (finish_next s.finish reply)) e (same_here p replies told s _ Finishes refl refl refl refl refl tt sound)
+reply_sound shape p replies told s Sweeps reply granted e sound = sweep_sound p replies told _ (sweep_ask (sweep_next s.sweep reply)) e (same_here p replies told s _ Sweeps refl refl refl refl refl tt sound)
 
 given_sound : (shape : Shape) (p : Places) (replies : List ℕ) (told : LastBegin) (s : KeeperState) (step : Keeping) (action : Action) → s.step ≡ step → IsSound p replies told s step → IsSound p replies told (keeping_given shape p s step action) (keeping_given shape p s step action).step
 unfolding keeping_given
@@ -376,6 +396,7 @@ called_sound : (shape : Shape) (p : Places) (replies : List ℕ) (told : LastBeg
 unfolding keeping_called
 called_sound shape p replies told s Maintains done bytes e sound = maintain_sound p replies told _ (maintain_ask shape p (maintain_called shape p s.maintain done bytes)) e (same_here p replies told s _ Maintains refl refl refl refl refl tt sound)
 called_sound shape p replies told s Writes done bytes e sound = call_sound p replies told s done e sound
+called_sound shape p replies told s Sweeps done bytes e sound = read_sound p replies told s done bytes e sound
 called_sound shape p replies told s step done bytes e sound = at_step p replies told s step e sound
 
 -- where a turn or a commit is begun

@@ -16,6 +16,7 @@ use Rattle.fkv_plane.specs.declared.places.SessionWord.TheVariants as own
 use Rattle.fkv_plane.specs.declared.places.SharedWord.{SharedWord}
 use Rattle.fkv_plane.specs.declared.places.SharedWord.TheVariants as one
 use Rattle.fkv_plane.specs.Places.{Name, Shared, Drain, Session, Bucket, Overflow, Record, shared_place, session_place, place as place_of}
+use Rattle.fkv_plane.specs.Passing.{passed}
 use Rattle.fkv_checkpoint.specs.declared.copying.CopyStep.{CopyStep}
 use Rattle.fkv_checkpoint.specs.declared.copying.CopyStep.TheVariants as copy
 use Rattle.fkv_checkpoint.specs.Copying.{Copier, copy_step_ask}
@@ -54,13 +55,19 @@ use Rattle.fkv_maintain.specs.declared.maintaining.Maintaining.TheVariants as pa
 use Rattle.fkv_maintain.specs.Maintaining.{device_asked, maintaining_ask, maintain_ask}
 use Rattle.fkv_keeper.specs.declared.answers.KeeperTold.{KeeperTold}
 use Rattle.fkv_keeper.specs.declared.keepers.Keeping.{Keeping}
-use Rattle.fkv_keeper.specs.declared.keepers.Keeping.TheVariants.{Ended, Starts, Maintains, LoadsPhase, Enters, Copies, Seeks, Waits, Writes, Finishes}
-use Rattle.fkv_keeper.specs.Keeping.{KeeperState, copy_asked, device_passed, write_asked, keeping_ask, keeper_ask}
+use Rattle.fkv_keeper.specs.declared.keepers.Keeping.TheVariants.{Ended, Starts, Maintains, LoadsPhase, Enters, Copies, Seeks, Waits, Writes, Finishes, Sweeps}
+use Rattle.fkv_keeper.specs.Keeping.{KeeperState, copy_asked, device_passed, write_asked, keeping_ask, keeper_ask, sweep_passed}
 use Rattle.fkv_keeper.specs.KeeperRun.{KeeperEvent, keeper_run, IsOpened}
 use Rattle.fkv_keeper.specs.CheckpointLaws.{MayChange, MayStore, ChangesOnly, ChangesItsWords, SparesWord, SparesDurable}
 use Rattle.fkv_keeper.proofs.CheckpointAsks.{HasDrain, HasOffsets, passed_changes, defer_changes, shift_changes, turn_changes, scan_changes, claim_changes, flush_changes, serve_changes}
 use Rattle.fkv_keeper.proofs.CheckpointParts.{IsStartAt, IsEnterAt, IsSeekAt}
 use Rattle.fkv_keeper.proofs.CheckpointTurns.{IsMaintainAt, IsKeepingIn, run_in}
+use Rattle.fkv_keeper.proofs.SweepRuns.{run_loading}
+use Rattle.fkv_sweep.specs.Sweeping.{sweep_ask}
+use Rattle.fkv_sweep.proofs.Shown.{IsLoading, sweep_loads}
+use Rattle.fkv_sweep.specs.Swept.{IsLoadOrEnd}
+use Rattle.fkv_sweep.specs.declared.sweeping.SweepAnswer.{SweepAnswer}
+use Rattle.fkv_sweep.specs.declared.sweeping.SweepAnswer.TheVariants as sweep
 
 -- by the machine inside
 start_drain : HasDrain (MayChange Starts)
@@ -127,6 +134,14 @@ write_changes words phases p write.Device told = tt
 write_changes words phases p write.Written told = tt
 write_changes words phases p (write.Broken why) told = tt
 
+-- a sweep loads words alone
+sweep_changes : (words : Name → Type 0) (phases : Phase → Version → Type 0) (p : Places) (ask : Ask SweepAnswer) (told : KeeperTold) → IsLoadOrEnd ask → ChangesOnly words phases p (sweep_passed ask told)
+unfolding sweep_passed passed
+sweep_changes words phases p (Load place) told its = tt
+sweep_changes words phases p (Done sweep.Device) told its = tt
+sweep_changes words phases p (Done sweep.Through) told its = tt
+sweep_changes words phases p ask told its = absurd its
+
 -- what every turn does
 device_changes : (words : Name → Type 0) (phases : Phase → Version → Type 0) (p : Places) (ask : Ask DeviceAnswer) → ChangesOnly words phases p ask → ChangesOnly words phases p (device_asked ask)
 unfolding device_asked
@@ -162,21 +177,22 @@ maintain_changes shape p s part.Serves e fits =
     device_changes (MayChange Maintains) (MayStore s Maintains) p (serve_ask s.maintain.serving) (serve_changes (MayChange Maintains) (MayStore s Maintains) p s.maintain.serving
     (record { state = λ session. tt; header = λ session. tt; key = λ session. tt; value = λ session. tt }))
 
-keeping_changes : (shape : Shape) (p : Places) (s : KeeperState) (step : Keeping) → IsKeepingIn step s → ChangesOnly (MayChange step) (MayStore s step) p (keeping_ask shape p s step)
+keeping_changes : (shape : Shape) (p : Places) (s : KeeperState) (step : Keeping) → IsKeepingIn step s → IsLoading s.sweep → ChangesOnly (MayChange step) (MayStore s step) p (keeping_ask shape p s step)
 unfolding keeping_ask
-keeping_changes shape p s (Ended its) fits = tt
-keeping_changes shape p s Starts fits = passed_changes (MayChange Starts) (MayStore s Starts) p (start_ask s.start) _ (start_changes s p s.start s.start.step fits)
-keeping_changes shape p s Maintains fits = turn_device (MayChange Maintains) (MayStore s Maintains) p (maintain_ask shape p s.maintain) _ (maintain_changes shape p s s.maintain.step refl fits)
-keeping_changes shape p s LoadsPhase fits = tt
-keeping_changes shape p s Enters fits = passed_changes (MayChange Enters) (MayStore s Enters) p (enter_ask s.enter) _ (enter_changes s p s.enter s.enter.step fits)
-keeping_changes shape p s Copies fits = passed_changes (MayChange Copies) (MayStore s Copies) p (copy_asked s.copy) _ (found_changes (MayChange Copies) (MayStore s Copies) p s.copy)
-keeping_changes shape p s Seeks fits = passed_changes (MayChange Seeks) (MayStore s Seeks) p (seek_ask s.seek) _ (seek_changes s p s.seek s.seek.step fits)
-keeping_changes shape p s Waits fits = passed_changes (MayChange Waits) (MayStore s Waits) p (wait_ask s.wait) _ (wait_changes (MayChange Waits) (MayStore s Waits) p s.wait.step)
-keeping_changes shape p s Writes fits = write_changes (MayChange Writes) (MayStore s Writes) p (commit_answer s.writes) _
-keeping_changes shape p s Finishes fits = passed_changes (MayChange Finishes) (MayStore s Finishes) p (finish_ask s.seek.points s.finish) _ (finish_changes s p s.seek.points s.finish s.finish.step)
+keeping_changes shape p s (Ended its) fits loads = tt
+keeping_changes shape p s Starts fits loads = passed_changes (MayChange Starts) (MayStore s Starts) p (start_ask s.start) _ (start_changes s p s.start s.start.step fits)
+keeping_changes shape p s Maintains fits loads = turn_device (MayChange Maintains) (MayStore s Maintains) p (maintain_ask shape p s.maintain) _ (maintain_changes shape p s s.maintain.step refl fits)
+keeping_changes shape p s LoadsPhase fits loads = tt
+keeping_changes shape p s Enters fits loads = passed_changes (MayChange Enters) (MayStore s Enters) p (enter_ask s.enter) _ (enter_changes s p s.enter s.enter.step fits)
+keeping_changes shape p s Copies fits loads = passed_changes (MayChange Copies) (MayStore s Copies) p (copy_asked s.copy) _ (found_changes (MayChange Copies) (MayStore s Copies) p s.copy)
+keeping_changes shape p s Seeks fits loads = passed_changes (MayChange Seeks) (MayStore s Seeks) p (seek_ask s.seek) _ (seek_changes s p s.seek s.seek.step fits)
+keeping_changes shape p s Waits fits loads = passed_changes (MayChange Waits) (MayStore s Waits) p (wait_ask s.wait) _ (wait_changes (MayChange Waits) (MayStore s Waits) p s.wait.step)
+keeping_changes shape p s Writes fits loads = write_changes (MayChange Writes) (MayStore s Writes) p (commit_answer s.writes) _
+keeping_changes shape p s Finishes fits loads = passed_changes (MayChange Finishes) (MayStore s Finishes) p (finish_ask s.seek.points s.finish) _ (finish_changes s p s.seek.points s.finish s.finish.step)
+keeping_changes shape p s Sweeps fits loads = sweep_changes (MayChange Sweeps) (MayStore s Sweeps) p (sweep_ask s.sweep) _ (sweep_loads s.sweep loads)
 
 pub run_stores : (shape : Shape) (p : Places) (opening : KeeperState) (events : List KeeperEvent) → IsOpened opening → ChangesItsWords shape p (keeper_run shape p opening events)
-run_stores shape p opening events opened = let s = keeper_run shape p opening events in keeping_changes shape p s s.step (run_in shape p opening events opened)
+run_stores shape p opening events opened = let s = keeper_run shape p opening events in keeping_changes shape p s s.step (run_in shape p opening events opened) (run_loading shape p opening events opened)
 
 -- no other word is a session's durable one
 low_not : (place session : ℕ) → place < 24 → place ≡ session_place session own.Durable → ⊥

@@ -1,6 +1,6 @@
 -- At every moment of a run the drain slots of the machines inside are among the eight.
 use Rattle.std.proofs.Common.{◌≡◌, ℕ, ◌<◌, ◌∙◌, List, [], ◌∷◌, refl, ap, sym, subst, arith, Bool, true, false}
-use Rattle.std.specs.Prelude.{◌||◌, Option, Some, None, ⊤, if◌then◌else◌}
+use Rattle.std.specs.Prelude.{◌&&◌, ◌||◌, Option, Some, None, ⊤, if◌then◌else◌}
 use Rattle.fkv_base.specs.Limits.{drain_slots}
 use Rattle.fkv_base.specs.declared.phases.Phase.TheVariants as phase
 use Rattle.fkv_base.specs.declared.shapes.Shape.{Shape}
@@ -47,12 +47,15 @@ use Rattle.fkv_maintain.specs.declared.maintaining.Maintaining.{Maintaining}
 use Rattle.fkv_maintain.specs.declared.maintaining.Maintaining.TheVariants as part
 use Rattle.fkv_maintain.specs.Maintaining.{is_flush_resting, MaintainState, maintain_ask, maintain_next, maintain_given, maintain_called, scan_ledto, claim_ledto, flush_ledto, shift_ledto, serve_ledto, turn_ledto, maintaining_next, maintaining_given, maintaining_called, flush_told}
 use Rattle.fkv_keeper.specs.declared.keepers.Keeping.{Keeping}
-use Rattle.fkv_keeper.specs.declared.keepers.Keeping.TheVariants.{Ended, Starts, Maintains, LoadsPhase, Enters, Copies, Seeks, Waits, Writes, Finishes}
-use Rattle.fkv_keeper.specs.Keeping.{KeeperState, must_rest, parts_begun, is_copy_resting, copy_driven, copy_told, turn_asked, commit_asked, start_ledto, maintain_ledto, part_begun, phase_ledto, enter_ledto, copy_ledto, seek_ledto, writes_begun, wait_ledto, finished, finish_ledto, keeping_next, keeping_given, write_ledto, writes_called, keeping_called, serves_alone}
+use Rattle.fkv_keeper.specs.declared.keepers.Keeping.TheVariants.{Ended, Starts, Maintains, LoadsPhase, Enters, Copies, Seeks, Waits, Writes, Finishes, Sweeps}
+use Rattle.fkv_keeper.specs.Keeping.{KeeperState, must_rest, parts_begun, is_copy_resting, copy_driven, copy_told, turn_asked, commit_asked, start_ledto, maintain_ledto, part_begun, phase_ledto, enter_ledto, copy_ledto, seek_ledto, writes_begun, wait_ledto, finished, finish_ledto, keeping_next, keeping_given, write_ledto, writes_called, keeping_called, serves_alone, sweep_ledto}
 use Rattle.fkv_keeper.specs.KeeperRun.{KeeperEvent, BeginsTurn, BeginsCommit, Replies, Gets, Calls, is_in_hand, begins, keeper_run, IsOpened}
 use Rattle.fkv_keeper.proofs.CheckpointRanges.{IsShiftedIn, IsTurnedIn, shift_in, turn_in, claim_in, given_in}
 use Rattle.fkv_keeper.proofs.CheckpointParts.{IsStartIn, start_in, IsEnterIn, enter_in, IsSeekIn, seek_begun_in, seek_in}
 use Rattle.fkv_keeper.proofs.Happens.{happens_at, happens_so}
+use Rattle.fkv_sweep.specs.Sweeping.{is_sweeping, sweep_ask, sweep_next, sweep_read}
+use Rattle.fkv_sweep.specs.declared.sweeping.SweepAnswer.{SweepAnswer}
+use Rattle.fkv_sweep.specs.declared.sweeping.SweepAnswer.TheVariants as sweep
 
 -- what every turn does
 abbrev pub IsMaintainAt : Maintaining → MaintainState → Type 0
@@ -169,7 +172,7 @@ part_in p s c said granted = tt
 
 phase_in : (p : Places) (s : KeeperState) (found : Option Commit) (said : PhaseSaid) (granted : Bool) → IsKeeperIn (phase_ledto p s found said granted)
 unfolding phase_ledto
-phase_in p s None said granted = either_keeper (is_flush_resting s.maintain) _ _ tt tt
+phase_in p s None said granted = either_keeper (is_flush_resting s.maintain) _ _ tt (either_keeper (granted && is_sweeping s.sweep) _ _ tt tt)
 phase_in p s (Some c) said granted = either_keeper s.rests _ _ (either_keeper granted _ _ tt tt) (either_keeper (is_flush_resting s.maintain) _ _ tt (part_in p s c said granted))
 
 enter_led_in : (s : KeeperState) (ask : Ask EnterAnswer) → s.step ≡ Enters → IsEnterIn s.enter → IsKeeperIn (enter_ledto s ask)
@@ -225,6 +228,11 @@ unfolding finish_ledto
 finish_led_in s (Done its) e = finished_in s s.commit
 finish_led_in s ask e = keeping_at Finishes s e tt
 
+sweep_led_in : (s : KeeperState) (ask : Ask SweepAnswer) → s.step ≡ Sweeps → IsKeeperIn (sweep_ledto s ask)
+unfolding sweep_ledto
+sweep_led_in s (Done sweep.Through) e = tt
+sweep_led_in s ask e = keeping_at Sweeps s e tt
+
 reply_in : (shape : Shape) (p : Places) (s : KeeperState) (step : Keeping) (reply : ℕ) (granted : Bool) → s.step ≡ step → IsKeepingIn step s → IsKeeperIn (keeping_next shape p s step reply granted)
 unfolding keeping_next
 reply_in shape p s (Ended its) reply granted e fits = keeping_at (Ended its) s e tt
@@ -238,6 +246,7 @@ reply_in shape p s Seeks reply granted e fits = seek_led_in (record s { seek = s
 reply_in shape p s Waits reply granted e fits = wait_led_in shape (record s { wait = wait_next s.wait reply }) (wait_ask (wait_next s.wait reply)) e
 reply_in shape p s Writes reply granted e fits = keeping_at Writes s e tt
 reply_in shape p s Finishes reply granted e fits = finish_led_in (record s { finish = finish_next s.finish reply }) (finish_ask s.seek.points (finish_next s.finish reply)) e
+reply_in shape p s Sweeps reply granted e fits = sweep_led_in (record s { sweep = sweep_next s.sweep reply }) (sweep_ask (sweep_next s.sweep reply)) e
 
 keeper_given_in : (shape : Shape) (p : Places) (s : KeeperState) (step : Keeping) (action : Action) → s.step ≡ step → IsKeepingIn step s → IsKeeperIn (keeping_given shape p s step action)
 unfolding keeping_given
@@ -249,6 +258,8 @@ unfolding keeping_called
 called_in shape p s Maintains done bytes e fits =
     maintain_led_in (record s { maintain = maintain_called shape p s.maintain done bytes }) (maintain_ask shape p (maintain_called shape p s.maintain done bytes)) e (maintain_called_in shape p s.maintain s.maintain.step done bytes refl fits)
 called_in shape p s Writes done bytes e fits = call_in s done e
+called_in shape p s Sweeps true bytes e fits = sweep_led_in (record s { sweep = sweep_read s.sweep bytes }) (sweep_ask (sweep_read s.sweep bytes)) e
+called_in shape p s Sweeps false bytes e fits = tt
 called_in shape p s step done bytes e fits = keeping_at step s e fits
 
 begins_in : (s begun : KeeperState) (step : Keeping) → s.step ≡ step → IsKeepingIn step s → IsKeeperIn begun → IsKeeperIn (begins s (is_in_hand step) begun)

@@ -22,6 +22,7 @@ use Rattle.fkv_keeper.proofs.Rests.{begins_rest, rests_still}
 use Rattle.fkv_keeper.proofs.CheckpointRuns.{run_copied}
 use Rattle.fkv_keeper.proofs.CheckpointMoves.{IsMove, each_move}
 use Rattle.fkv_keeper.proofs.CheckpointWrites.{run_writes}
+use Rattle.std.specs.Option.{is_some}
 
 -- what comes before a step behind the wait
 before_it : (step next : Keeping) → MayFollow step next → IsBehindWait next → ((step ≡ Waits) × (next ≡ Writes)) ⊎ IsBehindWait step
@@ -234,7 +235,7 @@ run_used shape p opening (event ∷ before) opened behind = by_step (λ goes. ru
     from_rest : s.rests ≡ true → (is : Bool) → a.rests ≡ is → IsBehindWait (if is then Writes else a.step) → IsBeingWritten p replies told.begun w s → Written
     from_rest rests true is goes its =
         let was = run_rests shape p opening before opened rests in
-        let kept = rests_still shape p s event rests was.rests was.serves is in
+        let kept = rests_still shape p s event rests (ap is_some was.in_hand) was.rests was.serves is in
         still kept.commit kept.used kept.last (resting_first s.step event a w was.rests) (resting_replies (is_copy_resting s.copy) s.step event a.step replies was.rests (no_copies a.step kept.rests)) its
     from_rest rests false is goes its =
         let was = run_rests shape p opening before opened rests in

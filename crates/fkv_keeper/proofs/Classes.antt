@@ -1,6 +1,6 @@
 -- The class of the store for which the keeper starts commits stays, whatever happens.
 use Rattle.std.proofs.Common.{◌≡◌, ◌∙◌, ℕ, List, [], ◌∷◌, refl, ap, Bool, true, false}
-use Rattle.std.specs.Prelude.{Option, Some, None, if◌then◌else◌, ◌||◌}
+use Rattle.std.specs.Prelude.{◌&&◌, Option, Some, None, if◌then◌else◌, ◌||◌}
 use Rattle.fkv_base.specs.declared.classes.StoreClass.{StoreClass}
 use Rattle.fkv_base.specs.declared.phases.Phase.TheVariants as phase
 use Rattle.fkv_base.specs.declared.shapes.Shape.{Shape}
@@ -35,9 +35,12 @@ use Rattle.fkv_manifest.specs.declared.answers.WriteAnswer.{WriteAnswer}
 use Rattle.fkv_manifest.specs.declared.answers.WriteAnswer.TheVariants as write
 use Rattle.fkv_manifest.specs.Committing.{commit_answer, commit_next}
 use Rattle.fkv_keeper.specs.declared.keepers.Keeping.{Keeping}
-use Rattle.fkv_keeper.specs.declared.keepers.Keeping.TheVariants.{Ended, Starts, Maintains, LoadsPhase, Enters, Copies, Seeks, Waits, Writes, Finishes}
-use Rattle.fkv_keeper.specs.Keeping.{KeeperState, must_rest, commit_asked, turn_asked, copies, copies_next, copy_driven, copy_ledto, copy_told, enter_ledto, finish_ledto, finished, is_copy_resting, keeping_called, keeping_given, keeping_next, maintain_ledto, part_begun, phase_ledto, seek_ledto, start_ledto, turned, wait_ledto, write_ledto, writes_begun, writes_called}
+use Rattle.fkv_keeper.specs.declared.keepers.Keeping.TheVariants.{Ended, Starts, Maintains, LoadsPhase, Enters, Copies, Seeks, Waits, Writes, Finishes, Sweeps}
+use Rattle.fkv_keeper.specs.Keeping.{KeeperState, must_rest, commit_asked, turn_asked, copies, copies_next, copy_driven, copy_ledto, copy_told, enter_ledto, finish_ledto, finished, is_copy_resting, keeping_called, keeping_given, keeping_next, maintain_ledto, part_begun, phase_ledto, seek_ledto, start_ledto, turned, wait_ledto, write_ledto, writes_begun, writes_called, sweep_ledto, sweep_called}
 use Rattle.fkv_keeper.specs.KeeperRun.{BeginsCommit, BeginsTurn, Calls, Gets, KeeperEvent, Replies, begins, is_in_hand, keeper_happens, keeper_run}
+use Rattle.fkv_sweep.specs.Sweeping.{is_sweeping, sweep_ask, sweep_next, sweep_read}
+use Rattle.fkv_sweep.specs.declared.sweeping.SweepAnswer.{SweepAnswer}
+use Rattle.fkv_sweep.specs.declared.sweeping.SweepAnswer.TheVariants as sweep
 
 module _ (class : StoreClass) where
   abbrev Same : KeeperState → Type 0
@@ -78,7 +81,7 @@ module _ (class : StoreClass) where
 
   phase_same : (p : Places) (s : KeeperState) (found : Option Commit) (said : PhaseSaid) (granted : Bool) → Same s → Same (phase_ledto p s found said granted)
   unfolding phase_ledto
-  phase_same p s None said granted was = either (is_flush_resting s.maintain) _ _ was was
+  phase_same p s None said granted was = either (is_flush_resting s.maintain) _ _ was (either (granted && is_sweeping s.sweep) _ _ was was)
   phase_same p s (Some c) said granted was = either s.rests _ _ (either granted _ _ was was) (either (is_flush_resting s.maintain) _ _ was (part_same p s c said granted was))
 
   enter_same : (s : KeeperState) (ask : Ask EnterAnswer) → Same s → Same (enter_ledto s ask)
@@ -134,6 +137,15 @@ module _ (class : StoreClass) where
   called_same s true was = write_same (record s { writes = commit_next s.writes true }) s.commit (commit_answer (commit_next s.writes true)) was
   called_same s false was = was
 
+  sweep_same : (s : KeeperState) (ask : Ask SweepAnswer) → Same s → Same (sweep_ledto s ask)
+  unfolding sweep_ledto
+  sweep_same s (Done sweep.Through) was = was
+  sweep_same s ask was = was
+
+  read_same : (s : KeeperState) (done : Bool) (bytes : List ℕ) → Same s → Same (sweep_called s done bytes)
+  read_same s true bytes was = sweep_same (record s { sweep = sweep_read s.sweep bytes }) (sweep_ask (sweep_read s.sweep bytes)) was
+  read_same s false bytes was = was
+
   -- ---- each event of the keeper
   reply_same : (shape : Shape) (p : Places) (s : KeeperState) (step : Keeping) (reply : ℕ) (granted : Bool) → Same s → Same (keeping_next shape p s step reply granted)
   unfolding keeping_next
@@ -147,6 +159,7 @@ module _ (class : StoreClass) where
   reply_same shape p s Waits reply granted was = wait_same shape _ (wait_ask (wait_next s.wait reply)) was
   reply_same shape p s Writes reply granted was = was
   reply_same shape p s Finishes reply granted was = finish_same _ (finish_ask s.seek.points (finish_next s.finish reply)) was
+  reply_same shape p s Sweeps reply granted was = sweep_same _ (sweep_ask (sweep_next s.sweep reply)) was
 
   given_same : (shape : Shape) (p : Places) (s : KeeperState) (step : Keeping) (action : Action) → Same s → Same (keeping_given shape p s step action)
   unfolding keeping_given
@@ -157,6 +170,7 @@ module _ (class : StoreClass) where
   unfolding keeping_called
   device_same shape p s Maintains done bytes was = maintain_same _ (maintain_ask shape p (maintain_called shape p s.maintain done bytes)) was
   device_same shape p s Writes done bytes was = called_same s done was
+  device_same shape p s Sweeps done bytes was = read_same s done bytes was
   device_same shape p s step done bytes was = was
 
   happens_same : (shape : Shape) (p : Places) (s : KeeperState) (event : KeeperEvent) → Same s → Same (keeper_happens shape p s event)

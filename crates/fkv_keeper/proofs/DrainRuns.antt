@@ -1,6 +1,6 @@
 -- A call of the keeper that ends for want of a drain slot has sought all of them in vain.
 use Rattle.std.proofs.Common.{◌≡◌, ℕ, ◌∙◌, List, [], ◌∷◌, refl, ap, sym, subst, Bool, true, false}
-use Rattle.std.specs.Prelude.{⊤, ◌||◌, Option, Some, None, if◌then◌else◌}
+use Rattle.std.specs.Prelude.{◌&&◌, ⊤, ◌||◌, Option, Some, None, if◌then◌else◌}
 use Rattle.fkv_base.specs.declared.faults.Fault.{Fault}
 use Rattle.fkv_base.specs.declared.faults.Fault.TheVariants as fault
 use Rattle.fkv_base.specs.declared.phases.Phase.TheVariants as phase
@@ -38,14 +38,17 @@ use Rattle.fkv_maintain.specs.Maintaining.{is_flush_resting, MaintainState, main
 use Rattle.fkv_keeper.specs.declared.answers.KeeperTold.{KeeperTold}
 use Rattle.fkv_keeper.specs.declared.answers.KeeperTold.TheVariants.{Turned, CommitRefused}
 use Rattle.fkv_keeper.specs.declared.keepers.Keeping.{Keeping}
-use Rattle.fkv_keeper.specs.declared.keepers.Keeping.TheVariants.{Ended, Starts, Maintains, LoadsPhase, Enters, Copies, Seeks, Waits, Writes, Finishes}
-use Rattle.fkv_keeper.specs.Keeping.{asked_for, KeeperState, must_rest, parts_begun, is_copy_resting, copy_driven, copy_told, device_passed, end_told, keeping_ask, ended, turned, turn_over, turn_asked, commit_asked, start_ledto, maintain_ledto, copies, part_begun, phase_ledto, enter_ledto, copy_ledto, seek_ledto, writes_begun, wait_ledto, finished, finish_ledto, keeping_next, keeping_given, write_ledto, writes_called, keeping_called, serves_alone}
+use Rattle.fkv_keeper.specs.declared.keepers.Keeping.TheVariants.{Ended, Starts, Maintains, LoadsPhase, Enters, Copies, Seeks, Waits, Writes, Finishes, Sweeps}
+use Rattle.fkv_keeper.specs.Keeping.{asked_for, KeeperState, must_rest, parts_begun, is_copy_resting, copy_driven, copy_told, device_passed, end_told, keeping_ask, ended, turned, turn_over, turn_asked, commit_asked, start_ledto, maintain_ledto, copies, part_begun, phase_ledto, enter_ledto, copy_ledto, seek_ledto, writes_begun, wait_ledto, finished, finish_ledto, keeping_next, keeping_given, write_ledto, writes_called, keeping_called, serves_alone, sweep_ledto, sweep_called}
 use Rattle.fkv_keeper.specs.KeeperRun.{KeeperEvent, BeginsTurn, BeginsCommit, Replies, Gets, Calls, is_in_hand, is_calling, keeper_happens, keeper_run, IsOpened}
 use Rattle.fkv_keeper.specs.DrainLaws.{HasSoughtAll, told_anew, told_after, call_told}
 use Rattle.fkv_keeper.proofs.DrainSought.{passed_told, still_sought, now_sought}
 use Rattle.fkv_keeper.proofs.DrainCommits.{EnterKnows, enter_step, enter_begins, enter_none, SeekKnows, seek_step, seek_begins, seek_none, StartKnows, start_step, start_none}
 use Rattle.fkv_keeper.proofs.DrainParts.{IsLeftOut, maintain_replied, maintain_got, maintain_made_call}
 use Rattle.fkv_keeper.proofs.Happens.{happens_at, happens_so}
+use Rattle.fkv_sweep.specs.Sweeping.{is_sweeping, sweep_ask, sweep_next, sweep_read}
+use Rattle.fkv_sweep.specs.declared.sweeping.SweepAnswer.{SweepAnswer}
+use Rattle.fkv_sweep.specs.declared.sweeping.SweepAnswer.TheVariants as sweep
 
 -- the turn was told to have left a part out
 abbrev Full : KeeperState → List Exchange → Type 0
@@ -112,7 +115,7 @@ part_led p s c said granted told full = over s told full
 
 phase_led : (p : Places) (s : KeeperState) (found : Option Commit) (said : PhaseSaid) (granted : Bool) (told : List Exchange) → Full s told → Knows (phase_ledto p s found said granted) told
 unfolding phase_ledto
-phase_led p s None said granted told full = either (is_flush_resting s.maintain) _ _ told (over (record s { is_granted = granted }) told full) (over s told full)
+phase_led p s None said granted told full = either (is_flush_resting s.maintain) _ _ told (over (record s { is_granted = granted }) told full) (either (granted && is_sweeping s.sweep) _ _ told full (over (record s { is_granted = granted }) told full))
 phase_led p s (Some c) said granted told full = either s.rests _ _ told (either granted _ _ told full (over (record s { is_granted = false }) told full))
     (either (is_flush_resting s.maintain) _ _ told (over (record s { is_granted = granted }) told full) (part_led p s c said granted told full))
 
@@ -169,6 +172,15 @@ write_called : (s : KeeperState) (done : Bool) (told : List Exchange) → s.step
 write_called s true told e full = write_led (record s { writes = commit_next s.writes true }) s.commit (commit_answer (commit_next s.writes true)) told e full
 write_called s false told e full = tt
 
+sweep_led : (t : KeeperState) (ask : Ask SweepAnswer) (told : List Exchange) → t.step ≡ Sweeps → Full t told → Knows (sweep_ledto t ask) told
+unfolding sweep_ledto
+sweep_led t (Done sweep.Through) told e full = over t told full
+sweep_led t ask told e full = at_step t Sweeps told e full
+
+read_called : (s : KeeperState) (done : Bool) (bytes : List ℕ) (told : List Exchange) → s.step ≡ Sweeps → Full s told → Knows (sweep_called s done bytes) told
+read_called s true bytes told e full = sweep_led (record s { sweep = sweep_read s.sweep bytes }) (sweep_ask (sweep_read s.sweep bytes)) told e full
+read_called s false bytes told e full = tt
+
 -- the keeper passes on what they ask
 device_told : (ask : Ask MaintainAnswer) (other : KeeperTold) (reply : ℕ) (told : List Exchange) → exchanged (device_passed ask other) reply told ≡ exchanged ask reply told
 unfolding device_passed exchanged
@@ -202,6 +214,7 @@ reply_at shape p s Seeks reply granted told e knows =
 reply_at shape p s Waits reply granted told e knows = wait_led shape (record s { wait = wait_next s.wait reply }) (wait_ask (wait_next s.wait reply)) _ e (λ full. still_sought _ reply told (knows full))
 reply_at shape p s Writes reply granted told e knows = at_step s Writes _ e (λ full. still_sought _ reply told (knows full))
 reply_at shape p s Finishes reply granted told e knows = finish_led (record s { finish = finish_next s.finish reply }) (finish_ask s.seek.points (finish_next s.finish reply)) _ e (λ full. still_sought _ reply told (knows full))
+reply_at shape p s Sweeps reply granted told e knows = sweep_led (record s { sweep = sweep_next s.sweep reply }) (sweep_ask (sweep_next s.sweep reply)) _ e (λ full. still_sought _ reply told (knows full))
 
 given_at : (shape : Shape) (p : Places) (s : KeeperState) (step : Keeping) (action : Action) (told : List Exchange) → s.step ≡ step → KnowsAt s step told → Knows (keeping_given shape p s step action) told
 unfolding keeping_given
@@ -213,6 +226,7 @@ unfolding keeping_called
 called_at shape p s Maintains done bytes told e knows =
     maintain_led (record s { maintain = maintain_called shape p s.maintain done bytes }) (maintain_ask shape p (maintain_called shape p s.maintain done bytes)) told e (maintain_made_call shape p s.maintain told done bytes knows)
 called_at shape p s Writes done bytes told e knows = write_called s done told e knows
+called_at shape p s Sweeps done bytes told e knows = read_called s done bytes told e knows
 called_at shape p s step done bytes told e knows = at_step s step told e knows
 
 -- a turn and a commit that begin

@@ -38,7 +38,7 @@ use Rattle.fkv_manifest.proofs.Shown.{newest_spelled}
 use Rattle.fkv_keeper.specs.declared.answers.KeeperTold.{KeeperTold}
 use Rattle.fkv_keeper.specs.declared.keepers.Keeping.{Keeping}
 use Rattle.fkv_keeper.specs.declared.keepers.Keeping.TheVariants.{Ended, Starts, Waits, Writes}
-use Rattle.fkv_keeper.specs.Keeping.{Finality, KeeperState, asked_for, lost_left, start_ledto, keeping_next, keeping_given, keeping_called}
+use Rattle.fkv_keeper.specs.Keeping.{Finality, KeeperState, asked_for, lost_left, start_ledto, keeping_next, keeping_given, keeping_called, begin_next}
 use Rattle.fkv_keeper.specs.KeeperRun.{KeeperEvent, Replies, is_in_hand, keeper_happens, keeper_run, IsOpened}
 use Rattle.fkv_keeper.specs.LastCommits.{point_written, slot_said, slot_written}
 use Rattle.fkv_keeper.specs.CheckpointLaws.{IsCommitAfter, IsFinished, IsWrittenAs, AreWritesBegun, copy_replies, begun_with}
@@ -150,7 +150,7 @@ unfolding start_ledto
 started t (Done (start.Begun number first)) asks its known = record {
   starts = λ now. absurd (not_starts _ _ refl now);
   commit = λ c in_hand.
-      subst (λ (x : Commit). MayBegin (asked_for t x.kind) x.number) (some_same (commit_begun number t.start.asked.kind t.last.begin first) c in_hand)
+      subst (λ (x : Commit). MayBegin (asked_for t x.kind) x.number) (some_same (commit_begun number t.start.asked.kind (begin_next t first) first) c in_hand)
       (subst (λ (x : StartAsked). MayBegin x number) its.1 (begun_may t.start t.start.step number first asks its.0));
 }
 started t (Done (start.Refused why)) asks its known = record { starts = λ now. absurd (not_starts _ _ refl now); commit = known }

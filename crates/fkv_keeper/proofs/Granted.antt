@@ -1,6 +1,6 @@
--- What was granted counts only where a copy begins or is refused, or writes or a flush rest, and there the state says it.
+-- What was granted counts only where a copy or a sweep begins or is refused, or writes or a flush rest, and there the state says it.
 use Rattle.std.proofs.Common.{◌≡◌, ℕ, Bool, true, false, refl}
-use Rattle.std.specs.Prelude.{◌||◌, Option, Some, None, if◌then◌else◌}
+use Rattle.std.specs.Prelude.{◌&&◌, ◌||◌, Option, Some, None, if◌then◌else◌}
 use Rattle.fkv_base.specs.declared.faults.Fault.TheVariants as fault
 use Rattle.fkv_base.specs.declared.phases.Phase.TheVariants as phase
 use Rattle.fkv_base.specs.declared.shapes.Shape.{Shape}
@@ -14,9 +14,10 @@ use Rattle.fkv_commit.specs.Entering.{enter_begun}
 use Rattle.fkv_commit.specs.Seeking.{seek_begun}
 use Rattle.fkv_keeper.specs.declared.answers.KeeperTold.TheVariants.{TurnRefused}
 use Rattle.fkv_keeper.specs.declared.keepers.Keeping.{Keeping}
-use Rattle.fkv_keeper.specs.declared.keepers.Keeping.TheVariants.{LoadsPhase, Enters, Copies, Seeks}
+use Rattle.fkv_keeper.specs.declared.keepers.Keeping.TheVariants.{LoadsPhase, Enters, Copies, Seeks, Sweeps}
 use Rattle.fkv_maintain.specs.Maintaining.{is_flush_resting}
-use Rattle.fkv_keeper.specs.Keeping.{KeeperState, is_copy_resting, ended, turned, copies, part_begun, writes_taken_up, phase_ledto, keeping_next, keeper_next, unless_flush_rests}
+use Rattle.fkv_sweep.specs.Sweeping.{is_sweeping, turn_begun}
+use Rattle.fkv_keeper.specs.Keeping.{KeeperState, is_copy_resting, ended, turned, copies, part_begun, writes_taken_up, phase_ledto, keeping_next, keeper_next, sweeps_next, unless_flush_rests}
 
 -- a step that goes by the grant leads where its state says
 abbrev SaysGranted : (Bool → KeeperState) → Bool → Type 0
@@ -54,9 +55,20 @@ lets_says : (s : KeeperState) (its : Bool → KeeperState) (granted rests : Bool
 lets_says s its granted true says = refl
 lets_says s its granted false says = says
 
+sweeps_says : (s : KeeperState) (granted : Bool) → SaysGranted (sweeps_next s) granted
+sweeps_says s true = by_goes (is_sweeping s.sweep)
+  where
+    led : Bool → Bool → KeeperState
+    led goes granted = if granted && goes then record s { sweep = turn_begun s.sweep; is_granted = true; step = Sweeps } else turned (record s { is_granted = granted })
+
+    by_goes : (goes : Bool) → led goes true ≡ led goes (led goes true).is_granted
+    by_goes true = refl
+    by_goes false = refl
+sweeps_says s false = refl
+
 phase_says : (p : Places) (s : KeeperState) (commit : Option Commit) (said : PhaseSaid) (granted : Bool) → SaysGranted (phase_ledto p s commit said) granted
 unfolding phase_ledto
-phase_says p s None said granted = lets_says s (λ g. turned s) granted (is_flush_resting s.maintain) refl
+phase_says p s None said granted = lets_says s (sweeps_next s) granted (is_flush_resting s.maintain) (sweeps_says s granted)
 phase_says p s (Some c) said granted = by s.rests granted
   where
     by : (rests granted : Bool) → SaysGranted (λ g. if rests then writes_taken_up s g else unless_flush_rests s g (part_begun p s c said g)) granted

@@ -1,6 +1,6 @@
 -- A keeper whose call is in hand asks for a word or for the device: whatever it begins asks, and where a machine inside it is at its end it goes on.
 use Rattle.std.proofs.Common.{◌≡◌, ℕ, ◌<◌, refl, sym, subst, ap, arith, Bool, true, false, List, [], ◌∷◌, ◌∙◌}
-use Rattle.std.specs.Prelude.{nat_lt, ◌||◌, if◌then◌else◌, Option, Some, None}
+use Rattle.std.specs.Prelude.{◌&&◌, nat_lt, ◌||◌, if◌then◌else◌, Option, Some, None}
 use Rattle.std.proofs.lemmas.Bool.Decides.{nat_tests}
 use Rattle.fkv_base.specs.declared.faults.Fault.TheVariants as fault
 use Rattle.fkv_base.specs.declared.numbers.Serial.{Serial}
@@ -54,15 +54,20 @@ use Rattle.fkv_maintain.specs.Parts.{IsServing}
 use Rattle.fkv_maintain.specs.Maintaining.{is_flush_resting, maintain_ask, device_asked, maintaining_ask, maintain_next, maintain_given, maintain_called}
 use Rattle.fkv_keeper.specs.declared.answers.KeeperTold.TheVariants.{Turned, TurnRefused, CommitRefused}
 use Rattle.fkv_keeper.specs.declared.keepers.Keeping.{Keeping}
-use Rattle.fkv_keeper.specs.declared.keepers.Keeping.TheVariants.{Ended, Starts, Maintains, LoadsPhase, Enters, Copies, Seeks, Waits, Writes, Finishes}
+use Rattle.fkv_keeper.specs.declared.keepers.Keeping.TheVariants.{Ended, Starts, Maintains, LoadsPhase, Enters, Copies, Seeks, Waits, Writes, Finishes, Sweeps}
 use Rattle.fkv_keeper.specs.Answers.{is_busy}
 use Rattle.fkv_keeper.specs.LastCommits.{is_gate_open}
 use Rattle.fkv_keeper.specs.KeeperAsks.{keeper_asks_left}
 use Rattle.fkv_keeper.specs.KeeperRun.{KeeperEvent, BeginsTurn, BeginsCommit, Replies, Gets, Calls, is_in_hand, begins, keeper_happens, keeper_run}
-use Rattle.fkv_keeper.specs.Keeping.{KeeperState, device_passed, write_asked, turn_over, is_copy_resting, copy_asked, copy_told, copy_driven, keeping_ask, ended, turned, commit_asked, turn_asked, start_ledto, maintain_ledto, copies, copies_next, part_begun, writes_taken_up, parts_begun, must_rest, phase_ledto, enter_ledto, copy_ledto, seek_ledto, checkpoint_used, writes_of, writes_begun, wait_ledto, finished, finish_ledto, keeping_next, keeping_given, write_ledto, keeping_called, unless_flush_rests, serves_alone}
+use Rattle.fkv_keeper.specs.Keeping.{KeeperState, device_passed, write_asked, turn_over, is_copy_resting, copy_asked, copy_told, copy_driven, keeping_ask, ended, turned, commit_asked, turn_asked, start_ledto, maintain_ledto, copies, copies_next, part_begun, writes_taken_up, parts_begun, must_rest, phase_ledto, enter_ledto, copy_ledto, seek_ledto, checkpoint_used, writes_of, writes_begun, wait_ledto, finished, finish_ledto, keeping_next, keeping_given, write_ledto, keeping_called, unless_flush_rests, serves_alone, sweeps_next, sweep_ledto, sweep_passed}
 use Rattle.fkv_keeper.specs.KeeperLaws.{MayRest}
 use Rattle.fkv_keeper.proofs.KeeperLeft.{keeper_left, never, nor}
 use Rattle.fkv_keeper.proofs.Rests.{begins_rest, rests_still}
+use Rattle.fkv_sweep.specs.Sweeping.{is_sweeping, sweep_ask, sweep_next, sweep_read, sweeping_ask, most_records}
+use Rattle.std.specs.Option.{is_some}
+use Rattle.fkv_sweep.specs.declared.sweeping.SweepAnswer.{SweepAnswer}
+use Rattle.fkv_sweep.specs.declared.sweeping.SweepAnswer.TheVariants as sweep
+use Rattle.fkv_sweep.specs.declared.sweeping.Sweeping.TheVariants as sweeping
 
 -- the writes of a commit go on: neither they nor those of its slot are at an end
 abbrev GoesOn : Gating → Committing → Type 0
@@ -170,7 +175,7 @@ finishes shape p s c = finish_on s.seek.points (finish_begun s.finish c.number) 
 
 -- where writes rest they go on, and a turn serves
 abbrev GoesOnThere : KeeperState → Type 0
-GoesOnThere s = s.rests ≡ true → MayRest s.step × (s.step ≡ Maintains → IsServing s.maintain.step) × GoesOn s.writes.gate.step s.writes.step
+GoesOnThere s = s.rests ≡ true → (is_some s.commit ≡ true) × MayRest s.step × (s.step ≡ Maintains → IsServing s.maintain.step) × GoesOn s.writes.gate.step s.writes.step
 
 -- where a reply leads
 
@@ -198,13 +203,24 @@ part_busy shape p s c (Says phase.WaitPending version) granted some = next_copie
 part_busy shape p s c (Says phase.WaitFlush version) granted some = either_busy s.has_points shape p (record s { wait = wait_begun c.end c.epoch; step = Waits }) (turned s) (waits shape p s c) tt
 part_busy shape p s c said granted some = tt
 
+-- a sweep that goes on loads the head
+sweeps_busy : (shape : Shape) (p : Places) (s : KeeperState) (granted : Bool) → IsBusyNow shape p (sweeps_next s granted)
+unfolding keeping_ask sweeping_ask sweep_passed passed
+sweeps_busy shape p s granted = by granted (is_sweeping s.sweep)
+  where
+    by : (granted goes : Bool)
+        → IsBusyNow shape p (if granted && goes then record s { sweep = record s.sweep { next = s.sweep.at; left = most_records; wanted = []; step = if goes then sweeping.LoadsHead else sweeping.AtRest }; is_granted = true; step = Sweeps } else turned (record s { is_granted = granted }))
+    by true true = refl
+    by true false = tt
+    by false goes = tt
+
 phased : (shape : Shape) (p : Places) (s : KeeperState) (c : Option Commit) (said : PhaseSaid) (granted : Bool) → 0 < p.buckets → GoesOnThere s → IsBusyNow shape p (phase_ledto p s c said granted)
 unfolding phase_ledto
-phased shape p s None said granted some there = either_busy (is_flush_resting s.maintain) shape p (turned (record s { is_granted = granted })) (turned s) tt tt
+phased shape p s None said granted some there = either_busy (is_flush_resting s.maintain) shape p (turned (record s { is_granted = granted })) (sweeps_next s granted) tt (sweeps_busy shape p s granted)
 phased shape p s (Some c) said granted some there = by s.rests refl
   where
     by : (rests : Bool) → s.rests ≡ rests → IsBusyNow shape p (if rests then writes_taken_up s granted else unless_flush_rests s granted (part_begun p s c said granted))
-    by true rests = either_busy granted shape p _ _ (there rests).2 tt
+    by true rests = either_busy granted shape p _ _ (there rests).3 tt
     by false awake = either_busy (is_flush_resting s.maintain) shape p (turned (record s { is_granted = granted })) (part_begun p s c said granted) tt (part_busy shape p s c said granted some)
 
 entered : (shape : Shape) (p : Places) (s : KeeperState) (ask : Ask EnterAnswer) → s.step ≡ Enters → enter_ask s.enter ≡ ask → IsBusyNow shape p (enter_ledto s ask)
@@ -253,6 +269,11 @@ unfolding finish_ledto keeping_ask passed
 finished_busy shape p s (Done its) at same = done_busy shape p s s.commit
 finished_busy shape p s ask at same = still shape p s Finishes at (ap (λ (its : Ask FinishAnswer). is_busy (passed its (turn_over s))) same)
 
+swept_busy : (shape : Shape) (p : Places) (s : KeeperState) (ask : Ask SweepAnswer) → s.step ≡ Sweeps → sweep_ask s.sweep ≡ ask → IsBusyNow shape p (sweep_ledto s ask)
+unfolding sweep_ledto keeping_ask sweep_passed passed
+swept_busy shape p s (Done sweep.Through) at same = tt
+swept_busy shape p s ask at same = still shape p s Sweeps at (ap (λ (its : Ask SweepAnswer). is_busy (sweep_passed its (turn_over s))) same)
+
 next_busy : (shape : Shape) (p : Places) (s : KeeperState) (step : Keeping) (reply : ℕ) (granted : Bool) → 0 < p.buckets → s.step ≡ step → GoesOnThere s → IsBusyNow shape p s → IsBusyNow shape p (keeping_next shape p s step reply granted)
 unfolding keeping_next
 next_busy shape p s (Ended its) reply granted some at there held = held
@@ -265,6 +286,7 @@ next_busy shape p s Seeks reply granted some at there held = sought shape p (rec
 next_busy shape p s Waits reply granted some at there held = waited shape p (record s { wait = wait_next s.wait reply }) (wait_ask (wait_next s.wait reply)) at refl
 next_busy shape p s Writes reply granted some at there held = held
 next_busy shape p s Finishes reply granted some at there held = finished_busy shape p (record s { finish = finish_next s.finish reply }) (finish_ask s.seek.points (finish_next s.finish reply)) at refl
+next_busy shape p s Sweeps reply granted some at there held = swept_busy shape p (record s { sweep = sweep_next s.sweep reply }) (sweep_ask (sweep_next s.sweep reply)) at refl
 
 given_busy : (shape : Shape) (p : Places) (s : KeeperState) (step : Keeping) (action : Action) → s.step ≡ step → IsBusyNow shape p s → IsBusyNow shape p (keeping_given shape p s step action)
 unfolding keeping_given
@@ -307,6 +329,8 @@ unfolding keeping_called
 called_busy shape p s Maintains done bytes at here held = maintained shape p (record s { maintain = maintain_called shape p s.maintain done bytes }) (maintain_ask shape p (maintain_called shape p s.maintain done bytes)) at refl
 called_busy shape p s Writes true bytes at here held = written shape p (record s { writes = commit_next s.writes true }) s.commit (commit_answer (commit_next s.writes true)) at (write_led s.writes.gate s.writes.step here)
 called_busy shape p s Writes false bytes at here held = tt
+called_busy shape p s Sweeps true bytes at here held = swept_busy shape p (record s { sweep = sweep_read s.sweep bytes }) (sweep_ask (sweep_read s.sweep bytes)) at refl
+called_busy shape p s Sweeps false bytes at here held = tt
 called_busy shape p s step done bytes at here held = held
 
 begins_busy : (shape : Shape) (p : Places) (s t : KeeperState) (hand : Bool) → IsBusyNow shape p s → IsBusyNow shape p t → IsBusyNow shape p (begins s hand t)
@@ -335,17 +359,17 @@ event_there shape p s event there held is = by s.rests refl
     a : KeeperState
     a = keeper_happens shape p s event
 
-    by : (rests : Bool) → s.rests ≡ rests → MayRest a.step × (a.step ≡ Maintains → IsServing a.maintain.step) × GoesOn a.writes.gate.step a.writes.step
+    by : (rests : Bool) → s.rests ≡ rests → (is_some a.commit ≡ true) × MayRest a.step × (a.step ≡ Maintains → IsServing a.maintain.step) × GoesOn a.writes.gate.step a.writes.step
     by true rests =
         let was = there rests in
-        let still = rests_still shape p s event rests was.0 was.1 is in
-        (still.rests, still.serves, subst (λ (w : CommitWriter). GoesOn w.gate.step w.step) (sym still.writes) was.2)
+        let still = rests_still shape p s event rests was.0 was.1 was.2 is in
+        (ap is_some still.commit ∙ was.0, still.rests, still.serves, subst (λ (w : CommitWriter). GoesOn w.gate.step w.step) (sym still.writes) was.3)
     by false awake =
         let its = begins_rest shape p s event awake is in
         let here : BusyAt shape p s Writes = subst (λ (x : Keeping). BusyAt shape p s x) its.writes held in
         let next = commit_next s.writes true in
         let on : GoesOn next.gate.step next.step = led_on next.gate.step next.step (commit_answer next) its.answers (write_led s.writes.gate s.writes.step here) in
-        subst (λ (x : KeeperState). MayRest x.step × (x.step ≡ Maintains → IsServing x.maintain.step) × GoesOn x.writes.gate.step x.writes.step) (sym its.same) (tt, (λ at. cc), on)
+        subst (λ (x : KeeperState). (is_some x.commit ≡ true) × MayRest x.step × (x.step ≡ Maintains → IsServing x.maintain.step) × GoesOn x.writes.gate.step x.writes.step) (sym its.same) (ap is_some its.in_hand, tt, (λ at. cc), on)
 
 -- a call that is in hand asks, and writes that rest go on
 record Asks (shape : Shape) (p : Places) (s : KeeperState) : Type 0 where

@@ -1,5 +1,5 @@
 -- The keeper calls the device where it asks for it, and what the writes of a commit make of it are the keeper's calls.
-use Rattle.std.proofs.Common.{◌≡◌, ℕ, List, [], Bool, false, ◌∙◌, refl}
+use Rattle.std.proofs.Common.{◌≡◌, ℕ, List, [], Bool, false, ◌∙◌, refl, sym}
 use Rattle.std.specs.Prelude.{Option, Some, None}
 use Rattle.fkv_base.specs.declared.faults.Fault.TheVariants as fault
 use Rattle.fkv_base.specs.declared.shapes.Shape.{Shape}
@@ -23,13 +23,18 @@ use Rattle.fkv_manifest.proofs.Shown.{step_after}
 use Rattle.fkv_keeper.specs.declared.answers.KeeperTold.{KeeperTold}
 use Rattle.fkv_keeper.specs.declared.answers.KeeperTold.TheVariants.{Device, Turned, TurnRefused, Begun, CommitRefused}
 use Rattle.fkv_keeper.specs.declared.keepers.Keeping.{Keeping}
-use Rattle.fkv_keeper.specs.declared.keepers.Keeping.TheVariants.{Ended, Starts, Maintains, LoadsPhase, Enters, Copies, Seeks, Waits, Writes, Finishes}
+use Rattle.fkv_keeper.specs.declared.keepers.Keeping.TheVariants.{Ended, Starts, Maintains, LoadsPhase, Enters, Copies, Seeks, Waits, Writes, Finishes, Sweeps}
 use Rattle.fkv_maintain.specs.declared.maintaining.MaintainAnswer.{MaintainAnswer}
 use Rattle.fkv_maintain.specs.declared.maintaining.MaintainAnswer.TheVariants as maintain
-use Rattle.fkv_keeper.specs.Keeping.{KeeperState, device_passed, end_told, write_asked, turn_over, copy_asked, keeping_ask, keeper_ask}
+use Rattle.fkv_keeper.specs.Keeping.{KeeperState, device_passed, end_told, write_asked, turn_over, copy_asked, keeping_ask, keeper_ask, sweep_passed}
 use Rattle.fkv_keeper.specs.KeeperAsks.{keeping_made, keeper_made, keeper_calls_asked}
 use Rattle.fkv_maintain.specs.Maintaining.{maintain_ask, maintain_calls_asked}
 use Rattle.fkv_maintain.proofs.Shown.{maintain_asked_calls}
+use Rattle.fkv_sweep.specs.Sweeping.{sweep_ask}
+use Rattle.fkv_sweep.specs.AsksLeft.{steps_asked}
+use Rattle.fkv_sweep.proofs.Shown.{sweep_calls}
+use Rattle.fkv_sweep.specs.declared.sweeping.SweepAnswer.{SweepAnswer}
+use Rattle.fkv_sweep.specs.declared.sweeping.SweepAnswer.TheVariants as sweep
 
 passed_calls : {A : Type 0} (ask : Ask A) (told : KeeperTold) → 0 ≡ keeper_calls_asked (Done told) → 0 ≡ keeper_calls_asked (passed ask told)
 unfolding passed
@@ -63,6 +68,19 @@ write_calls write.Device full = refl
 write_calls write.Written full = refl
 write_calls (write.Broken why) full = refl
 
+sweep_device_calls : (ask : Ask SweepAnswer) (full : Bool) → steps_asked ask ≡ keeper_calls_asked (sweep_passed ask (Turned false full))
+unfolding sweep_passed passed
+sweep_device_calls (Done sweep.Device) full = refl
+sweep_device_calls (Done sweep.Through) full = refl
+sweep_device_calls (Load place) full = refl
+sweep_device_calls (Store place new) full = refl
+sweep_device_calls (Swap place new) full = refl
+sweep_device_calls (Cas place old new) full = refl
+sweep_device_calls (Add place k) full = refl
+sweep_device_calls (Max place k) full = refl
+sweep_device_calls (Put slot action) full = refl
+sweep_device_calls (Take slot) full = refl
+
 end_calls : (told : KeeperTold) (full : Bool) → 0 ≡ keeper_calls_asked (Done (end_told told (Turned false full)))
 end_calls Device full = refl
 end_calls (Turned finished some) full = refl
@@ -82,6 +100,7 @@ keeping_asked_calls shape p s Seeks = passed_calls (seek_ask s.seek) (turn_over 
 keeping_asked_calls shape p s Waits = passed_calls (wait_ask s.wait) (turn_over s) refl
 keeping_asked_calls shape p s Writes = write_calls (commit_answer s.writes) s.is_drain_full
 keeping_asked_calls shape p s Finishes = passed_calls (finish_ask s.seek.points s.finish) (turn_over s) refl
+keeping_asked_calls shape p s Sweeps = sym (sweep_calls s.sweep) ∙ sweep_device_calls (sweep_ask s.sweep) s.is_drain_full
 
 pub keeper_asked_calls : (shape : Shape) (p : Places) (s : KeeperState) → keeper_made p s ≡ keeper_calls_asked (keeper_ask shape p s)
 keeper_asked_calls shape p s = keeping_asked_calls shape p s s.step

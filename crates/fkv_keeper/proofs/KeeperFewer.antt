@@ -1,6 +1,6 @@
 -- Each reply, action and call of the device leaves a call of the keeper fewer.
-use Rattle.std.proofs.Common.{◌≡◌, ℕ, ◌+◌, ◌<◌, ◌≤◌, ◌∙◌, refl, sym, ap, arith, List, Bool, true, false}
-use Rattle.std.specs.Prelude.{◌||◌, if◌then◌else◌, Option, Some, None}
+use Rattle.std.proofs.Common.{◌≡◌, ℕ, ◌+◌, ◌-◌, ◌<◌, ◌≤◌, ◌∙◌, refl, sym, ap, arith, List, Bool, true, false}
+use Rattle.std.specs.Prelude.{◌&&◌, ◌||◌, if◌then◌else◌, Option, Some, None}
 use Rattle.fkv_base.specs.declared.faults.Fault.TheVariants as fault
 use Rattle.fkv_base.specs.declared.phases.Phase.TheVariants as phase
 use Rattle.fkv_base.specs.declared.shapes.Shape.{Shape}
@@ -44,20 +44,26 @@ use Rattle.fkv_manifest.specs.Gating.{GateWriter, gate_answer, gate_next, gate_c
 use Rattle.fkv_keeper.specs.declared.answers.KeeperTold.{KeeperTold}
 use Rattle.fkv_keeper.specs.declared.answers.KeeperTold.TheVariants.{Device, Turned, TurnRefused, CommitRefused}
 use Rattle.fkv_keeper.specs.declared.keepers.Keeping.{Keeping}
-use Rattle.fkv_keeper.specs.declared.keepers.Keeping.TheVariants.{Ended, Starts, Maintains, LoadsPhase, Enters, Copies, Seeks, Waits, Writes, Finishes}
+use Rattle.fkv_keeper.specs.declared.keepers.Keeping.TheVariants.{Ended, Starts, Maintains, LoadsPhase, Enters, Copies, Seeks, Waits, Writes, Finishes, Sweeps}
 use Rattle.fkv_maintain.specs.declared.maintaining.MaintainAnswer.{MaintainAnswer}
 use Rattle.fkv_maintain.specs.declared.maintaining.MaintainAnswer.TheVariants as maintain
 use Rattle.fkv_maintain.specs.AsksLeft.{maintain_asks_left}
-use Rattle.fkv_keeper.specs.KeeperAsks.{committing_calls_left, writes_left, copy_left, most_copy_asks, most_write_asks, most_part_asks, keeping_asks_left, keeper_asks_left, keeping_made, keeper_calls_asked}
-use Rattle.fkv_keeper.specs.Keeping.{KeeperState, device_passed, write_asked, turn_over, is_copy_resting, copy_asked, copy_told, copy_driven, keeping_ask, keeper_ask, ended, start_ledto, maintain_ledto, copies, part_begun, phase_ledto, enter_ledto, copy_ledto, seek_ledto, writes_begun, wait_ledto, finished, finish_ledto, keeping_next, keeper_next, keeping_given, keeper_given, must_rest, turned, write_ledto, keeping_called, keeper_called, writes_of, checkpoint_used}
+use Rattle.fkv_keeper.specs.KeeperAsks.{committing_calls_left, writes_left, copy_left, most_copy_asks, most_write_asks, most_part_asks, keeping_asks_left, keeper_asks_left, keeping_made, keeper_calls_asked, most_behind_phase}
+use Rattle.fkv_keeper.specs.Keeping.{KeeperState, device_passed, write_asked, turn_over, is_copy_resting, copy_asked, copy_told, copy_driven, keeping_ask, keeper_ask, ended, start_ledto, maintain_ledto, copies, part_begun, phase_ledto, enter_ledto, copy_ledto, seek_ledto, writes_begun, wait_ledto, finished, finish_ledto, keeping_next, keeper_next, keeping_given, keeper_given, must_rest, turned, write_ledto, keeping_called, keeper_called, writes_of, checkpoint_used, sweeps_next, sweep_ledto, sweep_passed, writes_taken_up, unless_flush_rests}
 use Rattle.fkv_maintain.specs.declared.maintaining.Maintaining.TheVariants.{Broken}
 use Rattle.fkv_maintain.specs.Maintaining.{is_flush_resting, MaintainState, maintaining_ask, maintain_ask, maintain_next, maintain_given, maintain_called}
 use Rattle.fkv_keeper.proofs.KeeperDevice.{keeper_asked_calls}
 use Rattle.fkv_keeper.proofs.KeeperLeft.{never, nor, copy_where, write_busy}
-use Rattle.fkv_keeper.proofs.KeeperTakes.{starting_takes, entering_takes, copy_takes, seeking_takes, waiting_takes, finishing_takes}
+use Rattle.fkv_keeper.proofs.KeeperTakes.{starting_takes, entering_takes, copy_takes, seeking_takes, waiting_takes, finishing_takes, sweeping_takes}
 use Rattle.fkv_maintain.proofs.Shown.{passed_takes}
 use Rattle.fkv_plane.proofs.Shown.{some_sum, sum_most, sum_whole}
 use Rattle.fkv_maintain.proofs.Shown.{maintain_fewer, maintain_given_fewer, maintain_called_fewer}
+use Rattle.fkv_sweep.specs.Sweeping.{is_sweeping, sweep_ask, sweep_next, sweep_read, turn_begun}
+use Rattle.fkv_sweep.specs.AsksLeft.{steps_asked, is_through, most_sweep_asks, sweep_asks_left}
+use Rattle.fkv_sweep.proofs.Shown.{sweep_asked, sweep_fewer, sweep_read_fewer, sweep_turn_bounded}
+use Rattle.fkv_plane.specs.AsksLeft.{sum_left}
+use Rattle.fkv_sweep.specs.declared.sweeping.SweepAnswer.{SweepAnswer}
+use Rattle.fkv_sweep.specs.declared.sweeping.SweepAnswer.TheVariants as sweep
 
 write_done : (answer : WriteAnswer) (told : KeeperTold) → is_done (write_asked answer told) ≡ true
 write_done write.Device told = refl
@@ -99,6 +105,32 @@ device_takes (Max place k) told = refl
 device_takes (Put slot action) told = refl
 device_takes (Take slot) told = refl
 
+sweep_goes : (ask : Ask SweepAnswer) (told : KeeperTold) → is_done (sweep_passed ask told) ≡ false → (is_through ask ≡ false) × (steps_asked ask ≡ 0)
+unfolding sweep_passed passed
+sweep_goes (Done sweep.Device) told asks = never asks
+sweep_goes (Done sweep.Through) told asks = never asks
+sweep_goes (Load place) told asks = (refl, refl)
+sweep_goes (Store place new) told asks = (refl, refl)
+sweep_goes (Swap place new) told asks = (refl, refl)
+sweep_goes (Cas place old new) told asks = (refl, refl)
+sweep_goes (Add place k) told asks = (refl, refl)
+sweep_goes (Max place k) told asks = (refl, refl)
+sweep_goes (Put slot action) told asks = (refl, refl)
+sweep_goes (Take slot) told asks = (refl, refl)
+
+sweep_takes : (ask : Ask SweepAnswer) (told : KeeperTold) → takes_action (sweep_passed ask told) ≡ takes_action ask
+unfolding sweep_passed passed
+sweep_takes (Done sweep.Device) told = refl
+sweep_takes (Done sweep.Through) told = refl
+sweep_takes (Load place) told = refl
+sweep_takes (Store place new) told = refl
+sweep_takes (Swap place new) told = refl
+sweep_takes (Cas place old new) told = refl
+sweep_takes (Add place k) told = refl
+sweep_takes (Max place k) told = refl
+sweep_takes (Put slot action) told = refl
+sweep_takes (Take slot) told = refl
+
 never_done : {A X : Type 0} (ask : Ask A) → is_done ask ≡ true → is_done ask ≡ false → X
 never_done ask done asks = never (sym done ∙ asks)
 
@@ -128,20 +160,28 @@ start_led shape p s old (Done (start.Refused why)) at fewer = some_below (start_
 start_led shape p s old (Done start.Idle) at fewer = some_below (start_asks_left s.start) old fewer
 start_led shape p s old ask at fewer = inside_start shape p s old at fewer
 
+below_old : (x a old behind : ℕ) → x ≤ a + behind → a < old → x < old + behind
+below_old x a old behind sum fewer = omega (arith, sum, fewer)
+
+above_behind : (a old behind : ℕ) → a < old → behind < old + behind
+above_behind a old behind fewer = omega (arith, fewer)
+
+some_more : (old behind : ℕ) → 0 < old + (behind + 1)
+some_more old behind = omega arith
+
 inside_maintain : (shape : Shape) (p : Places) (s : KeeperState) (old : ℕ) → s.step ≡ Maintains → maintain_asks_left shape s.maintain < old
-    → keeper_asks_left shape p s < old + (most_part_asks s.seek.sessions s.finish.sessions + 1)
+    → keeper_asks_left shape p s < old + (most_behind_phase s.sweep.places s.seek.sessions s.finish.sessions + 1)
 unfolding keeping_asks_left
 inside_maintain shape p s old at fewer =
-    let behind = most_part_asks s.seek.sessions s.finish.sessions + 1 in
-    let most = sum_most (maintain_asks_left shape s.maintain) behind in
-    rw at (omega (arith, most, fewer))
+    let behind = most_behind_phase s.sweep.places s.seek.sessions s.finish.sessions + 1 in
+    rw at (below_old (sum_left (maintain_asks_left shape s.maintain) behind) (maintain_asks_left shape s.maintain) old behind (sum_most (maintain_asks_left shape s.maintain) behind) fewer)
 
 maintain_led : (shape : Shape) (p : Places) (s : KeeperState) (old : ℕ) (ask : Ask MaintainAnswer) → s.step ≡ Maintains → maintain_asks_left shape s.maintain < old
-    → keeper_asks_left shape p (maintain_ledto s ask) < old + (most_part_asks s.seek.sessions s.finish.sessions + 1)
+    → keeper_asks_left shape p (maintain_ledto s ask) < old + (most_behind_phase s.sweep.places s.seek.sessions s.finish.sessions + 1)
 unfolding maintain_ledto keeping_asks_left
-maintain_led shape p s old (Done maintain.Through) at fewer = omega (arith, fewer)
-maintain_led shape p s old (Done maintain.Spent) at fewer = omega arith
-maintain_led shape p s old (Done maintain.Broken) at fewer = omega arith
+maintain_led shape p s old (Done maintain.Through) at fewer = above_behind (maintain_asks_left shape s.maintain) old (most_behind_phase s.sweep.places s.seek.sessions s.finish.sessions + 1) fewer
+maintain_led shape p s old (Done maintain.Spent) at fewer = some_more old (most_behind_phase s.sweep.places s.seek.sessions s.finish.sessions)
+maintain_led shape p s old (Done maintain.Broken) at fewer = some_more old (most_behind_phase s.sweep.places s.seek.sessions s.finish.sessions)
 maintain_led shape p s old (Done maintain.Device) at fewer = inside_maintain shape p s old at fewer
 maintain_led shape p s old ask at fewer = inside_maintain shape p s old at fewer
 
@@ -207,12 +247,35 @@ takes_up_led shape p s =
     let most = sum_most (writes_left s.writes) (s.finish.sessions + 1) in
     omega (arith, few, most)
 
-phase_led : (shape : Shape) (p : Places) (s : KeeperState) (commit : Option Commit) (said : PhaseSaid) (granted : Bool)
-    → keeper_asks_left shape p (phase_ledto p s commit said granted) < most_part_asks s.seek.sessions s.finish.sessions + 1
-unfolding phase_ledto
-phase_led shape p s None said granted = either shape p (is_flush_resting s.maintain) _ _ _ (over shape p (record s { is_granted = granted }) (turn_over s) _ (omega arith)) (over shape p s (turn_over s) _ (omega arith))
-phase_led shape p s (Some c) said granted = either shape p s.rests _ _ _ (either shape p granted _ _ _ (takes_up_led shape p s) (over shape p (record s { is_granted = false }) (turn_over s) _ (omega arith)))
+commit_led : (shape : Shape) (p : Places) (s : KeeperState) (c : Commit) (said : PhaseSaid) (granted : Bool)
+    → keeper_asks_left shape p (if s.rests then writes_taken_up s granted else unless_flush_rests s granted (part_begun p s c said granted)) < most_part_asks s.seek.sessions s.finish.sessions + 1
+commit_led shape p s c said granted = either shape p s.rests _ _ _ (either shape p granted _ _ _ (takes_up_led shape p s) (over shape p (record s { is_granted = false }) (turn_over s) _ (omega arith)))
     (either shape p (is_flush_resting s.maintain) _ _ _ (over shape p (record s { is_granted = granted }) (turn_over s) _ (omega arith)) (part_led shape p s c said granted))
+
+-- or by what a sweep has
+within_part : (x parts swept : ℕ) → x < parts + 1 → x < parts + swept + 1
+within_part x parts swept low = omega (arith, low)
+
+within_sweep : (x parts swept : ℕ) → x ≤ swept → x < parts + swept + 1
+within_sweep x parts swept low = omega (arith, low)
+
+some_behind : (parts swept : ℕ) → 0 < parts + swept + 1
+some_behind parts swept = omega arith
+
+goes_led : (shape : Shape) (p : Places) (s : KeeperState) → keeper_asks_left shape p (record s { sweep = turn_begun s.sweep; is_granted = true; step = Sweeps }) < most_behind_phase s.sweep.places s.seek.sessions s.finish.sessions + 1
+unfolding keeping_asks_left
+goes_led shape p s = within_sweep (sweep_asks_left (turn_begun s.sweep)) (most_part_asks s.seek.sessions s.finish.sessions) (most_sweep_asks s.sweep.places) (sweep_turn_bounded s.sweep)
+
+sweeps_led : (shape : Shape) (p : Places) (s : KeeperState) (granted : Bool) → keeper_asks_left shape p (sweeps_next s granted) < most_behind_phase s.sweep.places s.seek.sessions s.finish.sessions + 1
+sweeps_led shape p s granted = either shape p (granted && is_sweeping s.sweep) _ _ _ (goes_led shape p s)
+    (over shape p (record s { is_granted = granted }) (turn_over s) _ (some_behind (most_part_asks s.seek.sessions s.finish.sessions) (most_sweep_asks s.sweep.places)))
+
+phase_led : (shape : Shape) (p : Places) (s : KeeperState) (commit : Option Commit) (said : PhaseSaid) (granted : Bool)
+    → keeper_asks_left shape p (phase_ledto p s commit said granted) < most_behind_phase s.sweep.places s.seek.sessions s.finish.sessions + 1
+unfolding phase_ledto
+phase_led shape p s None said granted = either shape p (is_flush_resting s.maintain) _ _ _
+    (over shape p (record s { is_granted = granted }) (turn_over s) _ (some_behind (most_part_asks s.seek.sessions s.finish.sessions) (most_sweep_asks s.sweep.places))) (sweeps_led shape p s granted)
+phase_led shape p s (Some c) said granted = within_part _ (most_part_asks s.seek.sessions s.finish.sessions) (most_sweep_asks s.sweep.places) (commit_led shape p s c said granted)
 
 inside_enter : (shape : Shape) (p : Places) (s : KeeperState) (old : ℕ) → s.step ≡ Enters → enter_asks_left s.enter < old → keeper_asks_left shape p s < old
 unfolding keeping_asks_left
@@ -313,7 +376,19 @@ unfolding finish_ledto
 finish_led shape p s old (Done its) at fewer = finished_over shape p s s.commit old (some_below (finish_asks_left s.finish) old fewer)
 finish_led shape p s old ask at fewer = inside_finish shape p s old at fewer
 
+inside_sweep : (shape : Shape) (p : Places) (s : KeeperState) (old : ℕ) → s.step ≡ Sweeps → sweep_asks_left s.sweep < old → keeper_asks_left shape p s < old
+unfolding keeping_asks_left
+inside_sweep shape p s old at fewer = rw at fewer
+
+sweep_led : (shape : Shape) (p : Places) (s : KeeperState) (old : ℕ) (ask : Ask SweepAnswer) → s.step ≡ Sweeps → sweep_asks_left s.sweep < old → keeper_asks_left shape p (sweep_ledto s ask) < old
+unfolding sweep_ledto keeping_asks_left
+sweep_led shape p s old (Done sweep.Through) at fewer = some_below (sweep_asks_left s.sweep) old fewer
+sweep_led shape p s old ask at fewer = inside_sweep shape p s old at fewer
+
 -- each reply leaves fewer, where a word is asked for
+
+below_whole : (x sum whole : ℕ) → whole ≡ sum → x < sum → x < whole
+below_whole x sum whole same low = omega (arith, same, low)
 
 keeping_fewer : (shape : Shape) (p : Places) (s : KeeperState) (step : Keeping) (reply : ℕ) (granted : Bool) → s.step ≡ step → is_done (keeping_ask shape p s step) ≡ false
     → takes_action (keeping_ask shape p s step) ≡ false → keeper_asks_left shape p (keeping_next shape p s step reply granted) < keeping_asks_left shape p s step
@@ -328,9 +403,9 @@ keeping_fewer shape p s Maintains reply granted at asks takes =
     let next = maintain_next shape p s.maintain reply in
     let inside : is_done ask ≡ false = sym (device_done ask (turn_over s)) ∙ asks in
     let fewer = maintain_fewer shape p s.maintain reply inside (sym (device_takes ask (turn_over s)) ∙ takes) in
-    let whole = sum_whole (maintain_asks_left shape s.maintain) (most_part_asks s.seek.sessions s.finish.sessions + 1) (some_below (maintain_asks_left shape next) (maintain_asks_left shape s.maintain) fewer) in
+    let whole = sum_whole (maintain_asks_left shape s.maintain) (most_behind_phase s.sweep.places s.seek.sessions s.finish.sessions + 1) (some_below (maintain_asks_left shape next) (maintain_asks_left shape s.maintain) fewer) in
     let led = maintain_led shape p (record s { maintain = next }) (maintain_asks_left shape s.maintain) (maintain_ask shape p next) at fewer in
-    omega (arith, whole, led)
+    below_whole _ _ _ whole led
 keeping_fewer shape p s LoadsPhase reply granted at asks takes = phase_led shape p s s.commit (phase_said reply) granted
 keeping_fewer shape p s Enters reply granted at asks takes =
     let inside : is_done (enter_ask s.enter) ≡ false = sym (passed_done (enter_ask s.enter) (turn_over s)) ∙ asks in
@@ -356,6 +431,10 @@ keeping_fewer shape p s Finishes reply granted at asks takes =
     let inside : is_done (finish_ask s.seek.points s.finish) ≡ false = sym (passed_done (finish_ask s.seek.points s.finish) (turn_over s)) ∙ asks in
     let fewer = finish_fewer s.finish reply ((finish_left s.seek.points s.finish).0 inside) in
     finish_led shape p (record s { finish = finish_next s.finish reply }) (finish_asks_left s.finish) (finish_ask s.seek.points (finish_next s.finish reply)) at fewer
+keeping_fewer shape p s Sweeps reply granted at asks takes =
+    let goes = sweep_goes (sweep_ask s.sweep) (turn_over s) asks in
+    let some = (sweep_asked s.sweep (sweep_ask s.sweep) refl).0 goes.0 in
+    sweep_led shape p (record s { sweep = sweep_next s.sweep reply }) (sweep_asks_left s.sweep) (sweep_ask (sweep_next s.sweep reply)) at (sweep_fewer s.sweep reply some goes.1)
 
 pub keeper_fewer : (shape : Shape) (p : Places) (s : KeeperState) (reply : ℕ) (granted : Bool) → is_done (keeper_ask shape p s) ≡ false → takes_action (keeper_ask shape p s) ≡ false
     → keeper_asks_left shape p (keeper_next shape p s reply granted) < keeper_asks_left shape p s
@@ -372,9 +451,9 @@ keeping_given_fewer shape p s Maintains action at takes =
     let ask = maintain_ask shape p s.maintain in
     let next = maintain_given s.maintain action in
     let fewer = maintain_given_fewer shape p s.maintain action (sym (device_takes ask (turn_over s)) ∙ takes) in
-    let whole = sum_whole (maintain_asks_left shape s.maintain) (most_part_asks s.seek.sessions s.finish.sessions + 1) (some_below (maintain_asks_left shape next) (maintain_asks_left shape s.maintain) fewer) in
+    let whole = sum_whole (maintain_asks_left shape s.maintain) (most_behind_phase s.sweep.places s.seek.sessions s.finish.sessions + 1) (some_below (maintain_asks_left shape next) (maintain_asks_left shape s.maintain) fewer) in
     let led = maintain_led shape p (record s { maintain = next }) (maintain_asks_left shape s.maintain) (maintain_ask shape p next) at fewer in
-    omega (arith, whole, led)
+    below_whole _ _ _ whole led
 keeping_given_fewer shape p s LoadsPhase action at takes = nor takes
 keeping_given_fewer shape p s Enters action at takes = never (sym takes ∙ passed_takes (enter_ask s.enter) (turn_over s) ∙ entering_takes s.enter)
 keeping_given_fewer shape p s Copies action at takes = never (sym takes ∙ passed_takes (copy_asked s.copy) (turn_over s) ∙ copy_takes s.copy)
@@ -382,6 +461,7 @@ keeping_given_fewer shape p s Seeks action at takes = never (sym takes ∙ passe
 keeping_given_fewer shape p s Waits action at takes = never (sym takes ∙ passed_takes (wait_ask s.wait) (turn_over s) ∙ waiting_takes s.wait)
 keeping_given_fewer shape p s Writes action at takes = nor (sym (write_takes (commit_answer s.writes) (turn_over s)) ∙ takes)
 keeping_given_fewer shape p s Finishes action at takes = never (sym takes ∙ passed_takes (finish_ask s.seek.points s.finish) (turn_over s) ∙ finishing_takes s.seek.points s.finish)
+keeping_given_fewer shape p s Sweeps action at takes = never (sym takes ∙ sweep_takes (sweep_ask s.sweep) (turn_over s) ∙ sweeping_takes s.sweep)
 
 pub keeper_given_fewer : (shape : Shape) (p : Places) (s : KeeperState) (action : Action) → takes_action (keeper_ask shape p s) ≡ true → keeper_asks_left shape p (keeper_given shape p s action) < keeper_asks_left shape p s
 keeper_given_fewer shape p s action takes = keeping_given_fewer shape p s s.step action refl takes
@@ -441,6 +521,22 @@ turn_asks_device (Max place k) full asks = cc
 turn_asks_device (Put slot action) full asks = cc
 turn_asks_device (Take slot) full asks = cc
 
+sweep_asks_device : (ask : Ask SweepAnswer) (full : Bool) → sweep_passed ask (Turned false full) ≡ Done Device → (is_through ask ≡ false) × (steps_asked ask ≡ 1)
+unfolding sweep_passed passed
+sweep_asks_device (Done sweep.Device) full asks = (refl, refl)
+sweep_asks_device (Done sweep.Through) full asks = cc
+sweep_asks_device (Load place) full asks = cc
+sweep_asks_device (Store place new) full asks = cc
+sweep_asks_device (Swap place new) full asks = cc
+sweep_asks_device (Cas place old new) full asks = cc
+sweep_asks_device (Add place k) full asks = cc
+sweep_asks_device (Max place k) full asks = cc
+sweep_asks_device (Put slot action) full asks = cc
+sweep_asks_device (Take slot) full asks = cc
+
+one_fewer : (x n steps : ℕ) → x ≤ n - steps → steps ≡ 1 → 0 < n → x < n
+one_fewer x n steps low one some = omega (arith, low, one, some)
+
 keeping_called_fewer : (shape : Shape) (p : Places) (s : KeeperState) (step : Keeping) (done : Bool) (bytes : List ℕ) → s.step ≡ step → keeping_ask shape p s step ≡ Done Device → keeping_made p s step ≡ 1
     → keeper_asks_left shape p (keeping_called shape p s step done bytes) < keeping_asks_left shape p s step
 unfolding keeping_ask keeping_made keeping_called keeping_asks_left
@@ -448,9 +544,9 @@ keeping_called_fewer shape p s Maintains done bytes at asks one =
     let ask = maintain_ask shape p s.maintain in
     let next = maintain_called shape p s.maintain done bytes in
     let fewer = maintain_called_fewer shape p s.maintain done bytes (turn_asks_device ask s.is_drain_full asks) in
-    let whole = sum_whole (maintain_asks_left shape s.maintain) (most_part_asks s.seek.sessions s.finish.sessions + 1) (some_below (maintain_asks_left shape next) (maintain_asks_left shape s.maintain) fewer) in
+    let whole = sum_whole (maintain_asks_left shape s.maintain) (most_behind_phase s.sweep.places s.seek.sessions s.finish.sessions + 1) (some_below (maintain_asks_left shape next) (maintain_asks_left shape s.maintain) fewer) in
     let led = maintain_led shape p (record s { maintain = next }) (maintain_asks_left shape s.maintain) (maintain_ask shape p next) at fewer in
-    omega (arith, whole, led)
+    below_whole _ _ _ whole led
 keeping_called_fewer shape p s Writes true bytes at asks one =
     let fewer = writing_called s.writes.gate s.writes.step (asks_device (commit_answer s.writes) s.is_drain_full asks) in
     let next = commit_next s.writes true in
@@ -459,6 +555,12 @@ keeping_called_fewer shape p s Writes true bytes at asks one =
     omega (arith, whole, led)
 keeping_called_fewer shape p s Writes false bytes at asks one =
     some_sum (writes_left s.writes) (s.finish.sessions + 1) ((write_busy s.writes s.is_drain_full).0 (rw asks refl))
+keeping_called_fewer shape p s Sweeps true bytes at asks one =
+    let device = sweep_asks_device (sweep_ask s.sweep) s.is_drain_full asks in
+    let some = (sweep_asked s.sweep (sweep_ask s.sweep) refl).0 device.0 in
+    let fewer = one_fewer (sweep_asks_left (sweep_read s.sweep bytes)) (sweep_asks_left s.sweep) (steps_asked (sweep_ask s.sweep)) (sweep_read_fewer s.sweep bytes) device.1 some in
+    sweep_led shape p (record s { sweep = sweep_read s.sweep bytes }) (sweep_asks_left s.sweep) (sweep_ask (sweep_read s.sweep bytes)) at fewer
+keeping_called_fewer shape p s Sweeps false bytes at asks one = (sweep_asked s.sweep (sweep_ask s.sweep) refl).0 (sweep_asks_device (sweep_ask s.sweep) s.is_drain_full asks).0
 keeping_called_fewer shape p s step done bytes at asks one = cc
 
 pub keeper_called_fewer : (shape : Shape) (p : Places) (s : KeeperState) (done : Bool) (bytes : List ℕ) → keeper_ask shape p s ≡ Done Device

@@ -28,16 +28,22 @@ use Rattle.fkv_manifest.specs.Gating.{GateWriter, gate_answer, gate_calls_left}
 use Rattle.fkv_keeper.specs.declared.answers.KeeperTold.{KeeperTold}
 use Rattle.fkv_keeper.specs.declared.answers.KeeperTold.TheVariants.{Device, Turned, TurnRefused, Begun, CommitRefused}
 use Rattle.fkv_keeper.specs.declared.keepers.Keeping.{Keeping}
-use Rattle.fkv_keeper.specs.declared.keepers.Keeping.TheVariants.{Ended, Starts, Maintains, LoadsPhase, Enters, Copies, Seeks, Waits, Writes, Finishes}
+use Rattle.fkv_keeper.specs.declared.keepers.Keeping.TheVariants.{Ended, Starts, Maintains, LoadsPhase, Enters, Copies, Seeks, Waits, Writes, Finishes, Sweeps}
 use Rattle.fkv_maintain.specs.declared.maintaining.MaintainAnswer.{MaintainAnswer}
 use Rattle.fkv_maintain.specs.declared.maintaining.MaintainAnswer.TheVariants as maintain
 use Rattle.fkv_keeper.specs.Answers.{is_busy}
 use Rattle.fkv_maintain.specs.AsksLeft.{GoesOnWhereLeft, maintain_asks_left}
-use Rattle.fkv_keeper.specs.KeeperAsks.{committing_calls_left, writes_left, copy_left, most_write_asks, most_part_asks, keeping_asks_left, keeper_asks_left, IsBusyWhereLeft}
-use Rattle.fkv_keeper.specs.Keeping.{KeeperState, device_passed, end_told, write_asked, turn_over, copy_asked, keeping_ask, keeper_ask, finished}
+use Rattle.fkv_keeper.specs.KeeperAsks.{committing_calls_left, writes_left, copy_left, most_write_asks, most_behind_phase, keeping_asks_left, keeper_asks_left, IsBusyWhereLeft}
+use Rattle.fkv_keeper.specs.Keeping.{KeeperState, device_passed, end_told, write_asked, turn_over, copy_asked, keeping_ask, keeper_ask, finished, sweep_passed}
 use Rattle.fkv_maintain.specs.Maintaining.{maintain_ask}
 use Rattle.fkv_plane.proofs.Shown.{some_sum, some_inside}
 use Rattle.fkv_maintain.proofs.Shown.{maintain_left}
+use Rattle.fkv_sweep.specs.Sweeping.{sweep_ask}
+use Rattle.fkv_sweep.specs.AsksLeft.{sweep_asks_left}
+use Rattle.fkv_sweep.proofs.Shown.{sweep_asked}
+use Rattle.fkv_sweep.specs.declared.sweeping.SweepAnswer.{SweepAnswer}
+use Rattle.fkv_sweep.specs.declared.sweeping.SweepAnswer.TheVariants as sweep
+use Rattle.fkv_sweep.specs.AsksLeft.{GoesOnWhereLeft as SweepsWhereLeft}
 
 pub never : {X : Type 0} → true ≡ false → X
 never e = cc
@@ -76,6 +82,19 @@ device_busy (Add place k) full left where_left = (λ busy. where_left.0 refl, λ
 device_busy (Max place k) full left where_left = (λ busy. where_left.0 refl, λ some. refl)
 device_busy (Put slot action) full left where_left = (λ busy. where_left.0 refl, λ some. refl)
 device_busy (Take slot) full left where_left = (λ busy. where_left.0 refl, λ some. refl)
+
+sweep_busy : (ask : Ask SweepAnswer) (full : Bool) (left : ℕ) → SweepsWhereLeft left ask → IsBusyWhereLeft left (sweep_passed ask (Turned false full))
+unfolding sweep_passed passed
+sweep_busy (Done sweep.Device) full left where_left = (λ busy. where_left.0 refl, λ some. refl)
+sweep_busy (Done sweep.Through) full left where_left = (λ busy. nor busy, λ some. never (where_left.1 some))
+sweep_busy (Load place) full left where_left = (λ busy. where_left.0 refl, λ some. refl)
+sweep_busy (Store place new) full left where_left = (λ busy. where_left.0 refl, λ some. refl)
+sweep_busy (Swap place new) full left where_left = (λ busy. where_left.0 refl, λ some. refl)
+sweep_busy (Cas place old new) full left where_left = (λ busy. where_left.0 refl, λ some. refl)
+sweep_busy (Add place k) full left where_left = (λ busy. where_left.0 refl, λ some. refl)
+sweep_busy (Max place k) full left where_left = (λ busy. where_left.0 refl, λ some. refl)
+sweep_busy (Put slot action) full left where_left = (λ busy. where_left.0 refl, λ some. refl)
+sweep_busy (Take slot) full left where_left = (λ busy. where_left.0 refl, λ some. refl)
 
 sum_where : (ask : Ask KeeperTold) (inside behind : ℕ) → IsBusyWhereLeft inside ask → IsBusyWhereLeft (sum_left inside behind) ask
 sum_where ask inside behind its = (λ busy. some_sum inside behind (its.0 busy), λ some. its.1 (some_inside inside behind some))
@@ -123,7 +142,7 @@ unfolding keeping_ask keeping_asks_left
 keeping_left shape p s (Ended its) = end_idle its s.is_drain_full
 keeping_left shape p s Starts = passed_busy (start_ask s.start) (CommitRefused fault.CommitRunning) (start_asks_left s.start) refl (start_left s.start)
 keeping_left shape p s Maintains =
-    let behind = most_part_asks s.seek.sessions s.finish.sessions + 1 in
+    let behind = most_behind_phase s.sweep.places s.seek.sessions s.finish.sessions + 1 in
     let left = maintain_asks_left shape s.maintain in
     let ask = maintain_ask shape p s.maintain in
     sum_where (device_passed ask (turn_over s)) left behind (device_busy ask s.is_drain_full left (maintain_left shape p s.maintain))
@@ -135,6 +154,7 @@ keeping_left shape p s Waits =
     sum_where (passed (wait_ask s.wait) (turn_over s)) (wait_asks_left s.wait) (most_write_asks s.finish.sessions) (passed_busy (wait_ask s.wait) (turn_over s) (wait_asks_left s.wait) refl (wait_left s.wait))
 keeping_left shape p s Writes = sum_where (write_asked (commit_answer s.writes) (turn_over s)) (writes_left s.writes) (s.finish.sessions + 1) (write_busy s.writes s.is_drain_full)
 keeping_left shape p s Finishes = passed_busy (finish_ask s.seek.points s.finish) (turn_over s) (finish_asks_left s.finish) refl (finish_left s.seek.points s.finish)
+keeping_left shape p s Sweeps = sweep_busy (sweep_ask s.sweep) s.is_drain_full (sweep_asks_left s.sweep) (sweep_asked s.sweep (sweep_ask s.sweep) refl)
 
 pub keeper_left : (shape : Shape) (p : Places) (s : KeeperState) → IsBusyWhereLeft (keeper_asks_left shape p s) (keeper_ask shape p s)
 keeper_left shape p s = keeping_left shape p s s.step

@@ -16,7 +16,7 @@ use Rattle.fkv_base.specs.declared.commits.CommitKind.{CommitKind}
 use Rattle.fkv_keeper.specs.declared.answers.KeeperTold.{KeeperTold}
 use Rattle.fkv_keeper.specs.declared.answers.KeeperTold.TheVariants.{Device, Turned, TurnRefused, CommitRefused}
 use Rattle.fkv_keeper.specs.declared.keepers.Keeping.{Keeping}
-use Rattle.fkv_keeper.specs.declared.keepers.Keeping.TheVariants.{Ended, Starts, Maintains, LoadsPhase, Enters, Copies, Seeks, Waits, Writes, Finishes}
+use Rattle.fkv_keeper.specs.declared.keepers.Keeping.TheVariants.{Ended, Starts, Maintains, LoadsPhase, Enters, Copies, Seeks, Waits, Writes, Finishes, Sweeps}
 use Rattle.fkv_maintain.specs.declared.maintaining.Maintaining.{Maintaining}
 use Rattle.fkv_maintain.specs.declared.maintaining.Maintaining.TheVariants as part
 use Rattle.fkv_maintain.specs.declared.maintaining.MaintainAnswer.{MaintainAnswer}
@@ -37,6 +37,7 @@ use Rattle.fkv_keeper.proofs.KeeperDevice.{keeper_asked_calls}
 use Rattle.fkv_keeper.proofs.Classes.{happens_class}
 use Rattle.fkv_keeper.proofs.Rests.{BeginsRest, RestsStill, begins_rest, rests_still}
 use Rattle.fkv_keeper.proofs.KeeperSound.{IsRefused, IsGoing, Knows, KnowsWrites, IsStep, works_not, kept_writes, stays, reply_step, given_step, called_step, turn_step, commit_step}
+use Rattle.std.specs.Option.{is_some}
 
 -- what holds at every moment
 pub record IsSound (shape : Shape) (failed : Bool) (w : Writing) (opened : Option Version) (s : KeeperState) : Type 0 where
@@ -58,6 +59,7 @@ begins_step shape w s begun Seeks e known its_step = stays shape w s Seeks tt e 
 begins_step shape w s begun Waits e known its_step = stays shape w s Waits tt e known
 begins_step shape w s begun Writes e known its_step = stays shape w s Writes tt e known
 begins_step shape w s begun Finishes e known its_step = stays shape w s Finishes tt e known
+begins_step shape w s begun Sweeps e known its_step = stays shape w s Sweeps tt e known
 
 unwritten : (step : Keeping) (after : KeeperState) (w : Writing) → writing_after step BeginsTurn after w ≡ w
 unwritten Waits after w = refl
@@ -125,6 +127,7 @@ made_breaks : (shape : Shape) (p : Places) (s : KeeperState) (step : Keeping) (b
 unfolding keeping_made keeping_called
 made_breaks shape p s Maintains bytes made = broken_ledto (record s { maintain = maintain_called shape p s.maintain false bytes }) (maintain_ask shape p (maintain_called shape p s.maintain false bytes)) (part_breaks shape p s.maintain s.maintain.step bytes made)
 made_breaks shape p s Writes bytes made = refl
+made_breaks shape p s Sweeps bytes made = refl
 made_breaks shape p s step bytes made = cc
 
 asked_made : (n : ℕ) (ask : Ask KeeperTold) (bytes : List ℕ) → n ≡ keeper_calls_asked ask → is_failure (Calls false bytes) ask ≡ true → nat_lt 0 n ≡ true
@@ -212,7 +215,7 @@ rests_after shape p s event w knows was is =
     by : (rests : Bool) → s.rests ≡ rests → IsResting shape a (writing_after s.step event a w)
     by true rests =
         let its = was rests in
-        subst (λ (x : Writing). IsResting shape a x) (sym (unwritten_resting s.step event a w its.rests)) (still_rests shape p s event w its (rests_still shape p s event rests its.rests its.serves now))
+        subst (λ (x : Writing). IsResting shape a x) (sym (unwritten_resting s.step event a w its.rests)) (still_rests shape p s event w its (rests_still shape p s event rests (ap is_some its.in_hand) its.rests its.serves now))
     by false awake = now_rests shape s event a w (begins_rest shape p s event awake now) knows
 
 -- one event

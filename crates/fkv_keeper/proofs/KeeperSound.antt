@@ -1,6 +1,6 @@
 -- What holds of a keeper at every moment of a run.
 use Rattle.std.proofs.Common.{◌≡◌, ℕ, ◌∙◌, List, [], ◌∷◌, refl, ap, sym, subst, Bool, true, false}
-use Rattle.std.specs.Prelude.{◌||◌, Option, Some, None, if◌then◌else◌, ⊤}
+use Rattle.std.specs.Prelude.{◌&&◌, ◌||◌, Option, Some, None, if◌then◌else◌, ⊤}
 use Rattle.fkv_base.specs.declared.faults.Fault.TheVariants as fault
 use Rattle.fkv_base.specs.declared.numbers.Addr.{Addr}
 use Rattle.fkv_base.specs.declared.numbers.Version.{Version}
@@ -36,16 +36,19 @@ use Rattle.fkv_manifest.specs.Made.{commit_run}
 use Rattle.fkv_keeper.specs.declared.answers.KeeperTold.{KeeperTold}
 use Rattle.fkv_keeper.specs.declared.answers.KeeperTold.TheVariants.{Turned, TurnRefused, CommitRefused}
 use Rattle.fkv_keeper.specs.declared.keepers.Keeping.{Keeping}
-use Rattle.fkv_keeper.specs.declared.keepers.Keeping.TheVariants.{Ended, Starts, Maintains, LoadsPhase, Enters, Copies, Seeks, Waits, Writes, Finishes}
+use Rattle.fkv_keeper.specs.declared.keepers.Keeping.TheVariants.{Ended, Starts, Maintains, LoadsPhase, Enters, Copies, Seeks, Waits, Writes, Finishes, Sweeps}
 use Rattle.fkv_maintain.specs.declared.maintaining.MaintainAnswer.{MaintainAnswer}
 use Rattle.fkv_maintain.specs.declared.maintaining.MaintainAnswer.TheVariants as maintain
 use Rattle.fkv_maintain.specs.Maintaining.{is_flush_resting, maintain_ask, maintain_next, maintain_given, maintain_called}
-use Rattle.fkv_keeper.specs.Keeping.{KeeperState, is_copy_resting, copy_taken, copy_driven, copy_told, copied, points_known, ended, turned, start_ledto, maintain_ledto, copies, part_begun, parts_begun, writes_taken_up, phase_ledto, enter_ledto, copy_ledto, seek_ledto, writes_begun, wait_ledto, finished, finish_ledto, keeping_next, keeping_given, must_rest, write_ledto, writes_called, keeping_called, asked_for, unless_flush_rests, serves_alone}
+use Rattle.fkv_keeper.specs.Keeping.{KeeperState, is_copy_resting, copy_taken, copy_driven, copy_told, copied, points_known, ended, turned, start_ledto, maintain_ledto, copies, part_begun, parts_begun, writes_taken_up, phase_ledto, enter_ledto, copy_ledto, seek_ledto, writes_begun, wait_ledto, finished, finish_ledto, keeping_next, keeping_given, must_rest, write_ledto, writes_called, keeping_called, asked_for, unless_flush_rests, serves_alone, sweeps_next, sweep_ledto, sweep_called}
 use Rattle.fkv_record.specs.Places.{area_place}
 use Rattle.fkv_keeper.specs.declared.last_commits.Checkpoint.{Checkpoint}
 use Rattle.fkv_keeper.specs.LastCommits.{area_number}
 use Rattle.fkv_keeper.specs.KeeperRun.{Replies, Gets, Calls, Writing, writing_after, open_after}
 use Rattle.fkv_keeper.specs.KeeperLaws.{IsRefusal, AreWritesOfCommit, IsWritten, IsMemoryRefused, number_in_hand, IsFinishOfBegun}
+use Rattle.fkv_sweep.specs.Sweeping.{is_sweeping, sweep_ask, sweep_next, sweep_read}
+use Rattle.fkv_sweep.specs.declared.sweeping.SweepAnswer.{SweepAnswer}
+use Rattle.fkv_sweep.specs.declared.sweeping.SweepAnswer.TheVariants as sweep
 
 -- a call has been refused
 abbrev pub IsRefused : Keeping → Type 0
@@ -172,9 +175,13 @@ lets_step : (shape : Shape) (w : Writing) (s its : KeeperState) (granted rests :
 lets_step shape w s its granted true works led = turns shape w s (record s { is_granted = granted }) s.is_drain_full works refl
 lets_step shape w s its granted false works led = led
 
+-- a sweep goes on, or the turn is over
+sweeps_step : (shape : Shape) (w : Writing) (s : KeeperState) (granted : Bool) → s.is_broken ≡ false → IsStep shape w s (sweeps_next s granted)
+sweeps_step shape w s granted works = either_step (granted && is_sweeping s.sweep) shape w s _ _ (going shape w s _ Sweeps tt refl works refl works) (turns shape w s (record s { is_granted = granted }) s.is_drain_full works refl)
+
 phase_step : (shape : Shape) (p : Places) (w : Writing) (s : KeeperState) (found : Option Commit) (said : PhaseSaid) (granted : Bool) → s.is_broken ≡ false → s.commit ≡ found → (s.rests ≡ true → KnowsWrites shape s w) → IsStep shape w s (phase_ledto p s found said granted)
 unfolding phase_ledto
-phase_step shape p w s None said granted works in_hand resting = lets_step shape w s _ granted (is_flush_resting s.maintain) works (turns shape w s s s.is_drain_full works refl)
+phase_step shape p w s None said granted works in_hand resting = lets_step shape w s _ granted (is_flush_resting s.maintain) works (sweeps_step shape w s granted works)
 phase_step shape p w s (Some c) said granted works in_hand resting = by s.rests refl
   where
     by : (rests : Bool) → s.rests ≡ rests → IsStep shape w s (if rests then writes_taken_up s granted else unless_flush_rests s granted (part_begun p s c said granted))
@@ -305,6 +312,16 @@ finish_step shape w s reply ask e works known = going shape w s t Finishes tt e 
     after : IsWritten shape t w
     after = record { commit = known.commit; in_hand = known.in_hand; writes = writes; answered = known.answered }
 
+-- the sweep's turn goes on, or is through
+sweep_step : (shape : Shape) (w : Writing) (s t : KeeperState) (ask : Ask SweepAnswer) → t.step ≡ Sweeps → t.is_broken ≡ false → t.commit ≡ s.commit → IsStep shape w s (sweep_ledto t ask)
+unfolding sweep_ledto
+sweep_step shape w s t (Done sweep.Through) e works same = turns shape w s t t.is_drain_full works (ap number_in_hand same)
+sweep_step shape w s t ask e works same = going shape w s t Sweeps tt e works (ap number_in_hand same) works
+
+read_step : (shape : Shape) (w : Writing) (s : KeeperState) (done : Bool) (bytes : List ℕ) → s.step ≡ Sweeps → s.is_broken ≡ false → IsStep shape w s (sweep_called s done bytes)
+read_step shape w s true bytes e works = sweep_step shape w s _ (sweep_ask (sweep_read s.sweep bytes)) e works refl
+read_step shape w s false bytes e works = record { broken = λ broken. tt; knows = tt; number = refl; memory = λ ends. cc; told = λ full ends. cc }
+
 -- a reply, an action, and a call of the device, where a call is in hand
 pub reply_step : (shape : Shape) (p : Places) (w : Writing) (s : KeeperState) (step : Keeping) (reply : ℕ) (granted : Bool) → IsGoing step → s.step ≡ step → (s.rests ≡ true → KnowsWrites shape s w) → Knows shape s w step → IsStep shape (writing_after step (Replies reply granted) (keeping_next shape p s step reply granted) w) s (keeping_next shape p s step reply granted)
 unfolding keeping_next
@@ -320,6 +337,7 @@ reply_step shape p w s Waits reply granted goes e resting known =
     wait_step shape (record { first = (wait_ledto shape t (wait_ask (wait_next s.wait reply))).writes; answers = [] }) s t (wait_ask (wait_next s.wait reply)) e known refl refl refl
 reply_step shape p w s Writes reply granted goes e resting known = going shape w s s Writes tt e known.0 refl known
 reply_step shape p w s Finishes reply granted goes e resting known = finish_step shape w s reply (finish_ask s.seek.points (finish_next s.finish reply)) e known.0 known.1
+reply_step shape p w s Sweeps reply granted goes e resting known = sweep_step shape w s _ (sweep_ask (sweep_next s.sweep reply)) e known refl
 
 -- where nothing happens
 pub stays : (shape : Shape) (w : Writing) (s : KeeperState) (step : Keeping) → IsGoing step → s.step ≡ step → Knows shape s w step → IsStep shape w s s
@@ -333,6 +351,7 @@ stays shape w s Enters goes e known = going shape w s s Enters tt e known refl k
 stays shape w s Copies goes e known = going shape w s s Copies tt e known refl known
 stays shape w s Seeks goes e known = going shape w s s Seeks tt e known refl known
 stays shape w s Waits goes e known = going shape w s s Waits tt e known refl known
+stays shape w s Sweeps goes e known = going shape w s s Sweeps tt e known refl known
 
 pub given_step : (shape : Shape) (p : Places) (w : Writing) (s : KeeperState) (step : Keeping) (action : Action) → IsGoing step → s.step ≡ step → Knows shape s w step → IsStep shape (writing_after step (Gets action) (keeping_given shape p s step action) w) s (keeping_given shape p s step action)
 unfolding keeping_given
@@ -343,6 +362,7 @@ pub called_step : (shape : Shape) (p : Places) (w : Writing) (s : KeeperState) (
 unfolding keeping_called
 called_step shape p w s Maintains done bytes goes e known = maintain_step shape w s _ (maintain_ask shape p (maintain_called shape p s.maintain done bytes)) e known refl
 called_step shape p w s Writes done bytes goes e known = call_step shape w s done e known.0 known.1
+called_step shape p w s Sweeps done bytes goes e known = read_step shape w s done bytes e known
 called_step shape p w s step done bytes goes e known = stays shape w s step goes e known
 
 -- where a turn or a commit is begun

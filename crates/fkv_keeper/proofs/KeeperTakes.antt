@@ -1,4 +1,4 @@
--- Of the machines of a commit none waits for actions.
+-- Of the machines of a commit none waits for actions, and neither does a sweep.
 use Rattle.std.proofs.Common.{◌≡◌, ◌∙◌, refl, List, false}
 use Rattle.std.specs.Prelude.{ℕ, Option, Some, None}
 use Rattle.fkv_base.specs.declared.numbers.Serial.{Serial}
@@ -30,6 +30,11 @@ use Rattle.fkv_commit.specs.Starting.{StartState, starting_ask, start_ask}
 use Rattle.fkv_commit.specs.Waiting.{WaitState, waiting_ask, wait_ask}
 use Rattle.fkv_epoch.specs.Arming.{arm_ask}
 use Rattle.fkv_epoch.specs.Raising.{raise_ask}
+use Rattle.fkv_plane.specs.declared.asks.Ask.{Ask}
+use Rattle.fkv_plane.specs.declared.asks.Ask.TheVariants.{Load, Store, Swap, Cas, Add, Max, Put, Take, Done}
+use Rattle.fkv_sweep.specs.declared.sweeping.SweepAnswer.{SweepAnswer}
+use Rattle.fkv_sweep.specs.Sweeping.{Sweeper, sweep_ask}
+use Rattle.fkv_sweep.proofs.Shown.{sweep_takes_none}
 use Rattle.fkv_keeper.specs.Keeping.{copy_asked}
 use Rattle.fkv_maintain.proofs.Shown.{passed_takes, raise_takes, arm_takes}
 
@@ -101,3 +106,17 @@ finish_step_takes points s step = refl
 
 pub finishing_takes : (points : List Serial) (s : FinishState) → takes_action (finish_ask points s) ≡ false
 finishing_takes points s = finish_step_takes points s s.step
+
+ask_takes : (ask : Ask SweepAnswer) → ((slot : ℕ) → ask ≡ Take slot → ⊥) → takes_action ask ≡ false
+ask_takes (Load place) none = refl
+ask_takes (Store place new) none = refl
+ask_takes (Swap place new) none = refl
+ask_takes (Cas place old new) none = refl
+ask_takes (Add place k) none = refl
+ask_takes (Max place k) none = refl
+ask_takes (Put slot action) none = refl
+ask_takes (Take slot) none = absurd (none slot refl)
+ask_takes (Done its) none = refl
+
+pub sweeping_takes : (s : Sweeper) → takes_action (sweep_ask s) ≡ false
+sweeping_takes s = ask_takes (sweep_ask s) (sweep_takes_none s)

@@ -1,4 +1,4 @@
-mod BeginKept
+mod BeginMoves
 mod BeginRun
 mod CheckpointAsks
 mod CheckpointMoves
@@ -30,10 +30,13 @@ mod KeeperRuns
 mod KeeperSound
 mod KeeperTakes
 mod NewKeepers
+mod NoSweep
 mod PartMoves
 mod PointsFound
 mod PointsWritten
 mod Rests
 pub mod Shown
+mod SweepMoves
+mod SweepRuns
 mod TurnRun
 mod WholeCalls

@@ -1,6 +1,6 @@
 -- What one event begins, and what is known of the commit in hand after it.
 use Rattle.std.proofs.Common.{◌≡◌, ℕ, ◌∙◌, inl, inr, List, refl, ap, sym, subst, Bool, true, false}
-use Rattle.std.specs.Prelude.{not, ◌||◌, Option, Some, None, if◌then◌else◌}
+use Rattle.std.specs.Prelude.{◌&&◌, not, ◌||◌, Option, Some, None, if◌then◌else◌}
 use Rattle.fkv_base.specs.declared.phases.Phase.TheVariants as phase
 use Rattle.fkv_base.specs.declared.shapes.Shape.{Shape}
 use Rattle.fkv_words.specs.declared.phase_words.PhaseSaid.{PhaseSaid}
@@ -34,11 +34,14 @@ use Rattle.fkv_maintain.specs.declared.maintaining.MaintainAnswer.TheVariants as
 use Rattle.fkv_maintain.specs.Maintaining.{is_flush_resting, maintain_ask, maintain_next, maintain_given, maintain_called}
 use Rattle.fkv_keeper.specs.declared.answers.KeeperTold.{KeeperTold}
 use Rattle.fkv_keeper.specs.declared.keepers.Keeping.{Keeping}
-use Rattle.fkv_keeper.specs.declared.keepers.Keeping.TheVariants.{Ended, Starts, Maintains, LoadsPhase, Enters, Copies, Seeks, Waits, Writes, Finishes}
-use Rattle.fkv_keeper.specs.Keeping.{KeeperState, is_copy_resting, copy_driven, copy_told, copied, points_known, ended, turned, turn_asked, commit_asked, start_ledto, maintain_ledto, copies, part_begun, must_rest, writes_taken_up, phase_ledto, enter_ledto, copy_ledto, seek_ledto, writes_begun, wait_ledto, finished, finish_ledto, keeping_next, keeping_given, write_ledto, writes_called, keeping_called, unless_flush_rests}
+use Rattle.fkv_keeper.specs.declared.keepers.Keeping.TheVariants.{Ended, Starts, Maintains, LoadsPhase, Enters, Copies, Seeks, Waits, Writes, Finishes, Sweeps}
+use Rattle.fkv_keeper.specs.Keeping.{KeeperState, is_copy_resting, copy_driven, copy_told, copied, points_known, ended, turned, turn_asked, commit_asked, start_ledto, maintain_ledto, copies, part_begun, must_rest, writes_taken_up, phase_ledto, enter_ledto, copy_ledto, seek_ledto, writes_begun, wait_ledto, finished, finish_ledto, keeping_next, keeping_given, write_ledto, writes_called, keeping_called, unless_flush_rests, sweeps_next, sweep_ledto, sweep_called}
 use Rattle.fkv_keeper.specs.KeeperRun.{KeeperEvent, BeginsTurn, BeginsCommit, Replies, Gets, Calls, keeper_happens}
 use Rattle.fkv_keeper.specs.PartLaws.{IsPartBegun, end_of, entered_after, taken_after, end_after, seek_after, KnowsParts}
 use Rattle.fkv_keeper.proofs.Happens.{happens_at, happens_so}
+use Rattle.fkv_sweep.specs.Sweeping.{is_sweeping, sweep_ask, sweep_next, sweep_read, sweep_failed}
+use Rattle.fkv_sweep.specs.declared.sweeping.SweepAnswer.{SweepAnswer}
+use Rattle.fkv_sweep.specs.declared.sweeping.SweepAnswer.TheVariants as sweep
 
 -- what one event is said to do
 pub record IsPart (event : KeeperEvent) (step : Keeping) (s a : KeeperState) : Type 0 where
@@ -144,9 +147,16 @@ lets_part : (s its : KeeperState) (reply : ℕ) (granted : Bool) → IsPart (Rep
 lets_part s its reply granted led = either (is_flush_resting s.maintain) (Replies reply granted) LoadsPhase s _ _
     (λ rests. ends (Replies reply granted) LoadsPhase s (record s { is_granted = granted }) _ (record { entered = refl; taken = refl; end = λ was is before after. same_end s s refl was is before after; seek = refl })) (λ awake. led)
 
+-- a sweep goes on, or the turn is over
+sweeps_part : (s : KeeperState) (reply : ℕ) (granted : Bool) → IsPart (Replies reply granted) LoadsPhase s (sweeps_next s granted)
+sweeps_part s reply granted =
+    either (granted && is_sweeping s.sweep) (Replies reply granted) LoadsPhase s _ _
+    (λ goes. record { begins = tt; knows = record { entered = refl; taken = λ other. refl; end = λ was is before after. same_end s s refl was is before after; seek = λ other. refl } })
+    (λ not. ends (Replies reply granted) LoadsPhase s (record s { is_granted = granted }) _ (record { entered = refl; taken = refl; end = λ was is before after. same_end s s refl was is before after; seek = refl }))
+
 phase_part : (p : Places) (s : KeeperState) (found : Option Commit) (reply : ℕ) (granted : Bool) → s.step ≡ LoadsPhase → s.commit ≡ found → IsPart (Replies reply granted) LoadsPhase s (phase_ledto p s found (phase_said reply) granted)
 unfolding phase_ledto
-phase_part p s None reply granted e in_hand = lets_part s _ reply granted (over s reply granted)
+phase_part p s None reply granted e in_hand = lets_part s _ reply granted (sweeps_part s reply granted)
 phase_part p s (Some c) reply granted e in_hand = by s.rests refl granted
   where
     by : (rests : Bool) → s.rests ≡ rests → (granted : Bool) → IsPart (Replies reply granted) LoadsPhase s (if rests then writes_taken_up s granted else unless_flush_rests s granted (part_begun p s c (phase_said reply) granted))
@@ -251,6 +261,16 @@ finish_part s reply granted (Done its) e = finished_part s reply granted s.commi
 finish_part s reply granted ask e =
     remains (Replies reply granted) Finishes s (record s { finish = finish_next s.finish reply }) e e (record { entered = refl; taken = refl; end = λ was is before after. same_end s s refl was is before after; seek = refl })
 
+-- the sweep's turn goes on, or is through
+sweep_part : (event : KeeperEvent) (s t : KeeperState) (ask : Ask SweepAnswer) → s.step ≡ Sweeps → t.step ≡ Sweeps → IsKnown event Sweeps s t → IsPart event Sweeps s (sweep_ledto t ask)
+unfolding sweep_ledto
+sweep_part event s t (Done sweep.Through) e still its = ends event Sweeps s t _ its
+sweep_part event s t ask e still its = remains event Sweeps s t e still its
+
+read_part : (s : KeeperState) (done : Bool) (bytes : List ℕ) → s.step ≡ Sweeps → IsPart (Calls done bytes) Sweeps s (sweep_called s done bytes)
+read_part s true bytes e = sweep_part (Calls true bytes) s (record s { sweep = sweep_read s.sweep bytes }) (sweep_ask (sweep_read s.sweep bytes)) e e (record { entered = refl; taken = refl; end = λ was is before after. same_end s s refl was is before after; seek = refl })
+read_part s false bytes e = ends (Calls false bytes) Sweeps s (record s { sweep = sweep_failed s.sweep; is_broken = true; rests = false }) _ (record { entered = refl; taken = refl; end = λ was is before after. same_end s s refl was is before after; seek = refl })
+
 -- a reply, an action, and a call of the device
 reply_part : (shape : Shape) (p : Places) (s : KeeperState) (step : Keeping) (reply : ℕ) (granted : Bool) → s.step ≡ step → IsPart (Replies reply granted) step s (keeping_next shape p s step reply granted)
 unfolding keeping_next
@@ -266,6 +286,7 @@ reply_part shape p s Waits reply granted e =
     wait_part shape s reply granted (record s { wait = wait_next s.wait reply }) (wait_ask (wait_next s.wait reply)) e e refl (record { entered = refl; taken = refl; end = λ was is before after. same_end s s refl was is before after; seek = refl })
 reply_part shape p s Writes reply granted e = remains (Replies reply granted) Writes s s e e (record { entered = refl; taken = refl; end = same_end s s refl; seek = refl })
 reply_part shape p s Finishes reply granted e = finish_part s reply granted (finish_ask s.seek.points (finish_next s.finish reply)) e
+reply_part shape p s Sweeps reply granted e = sweep_part (Replies reply granted) s _ (sweep_ask (sweep_next s.sweep reply)) e e (record { entered = refl; taken = refl; end = λ was is before after. same_end s s refl was is before after; seek = refl })
 
 given_part : (p : Places) (shape : Shape) (s : KeeperState) (step : Keeping) (action : Action) → s.step ≡ step → IsPart (Gets action) step s (keeping_given shape p s step action)
 unfolding keeping_given
@@ -278,6 +299,7 @@ unfolding keeping_called
 called_part p shape s Maintains done bytes e =
     maintain_part (Calls done bytes) s _ (maintain_ask shape p (maintain_called shape p s.maintain done bytes)) e e (record { entered = refl; taken = refl; end = λ was is before after. same_end s s refl was is before after; seek = refl })
 called_part p shape s Writes done bytes e = call_part s done bytes e
+called_part p shape s Sweeps done bytes e = read_part s done bytes e
 called_part p shape s step done bytes e = remains (Calls done bytes) step s s e e (record { entered = refl; taken = refl; end = same_end s s refl; seek = refl })
 
 -- where a turn or a commit is begun

@@ -40,12 +40,16 @@ use Rattle.fkv_maintain.proofs.Shown.{serving_goes}
 use Rattle.fkv_keeper.specs.declared.answers.KeeperTold.{KeeperTold}
 use Rattle.fkv_keeper.specs.declared.answers.KeeperTold.TheVariants.{TurnRefused, CommitRefused}
 use Rattle.fkv_keeper.specs.declared.keepers.Keeping.{Keeping}
-use Rattle.fkv_keeper.specs.declared.keepers.Keeping.TheVariants.{Ended, Starts, Maintains, LoadsPhase, Enters, Copies, Seeks, Waits, Writes, Finishes}
-use Rattle.fkv_keeper.specs.Keeping.{KeeperState, come_to, is_copy_resting, copy_driven, copy_told, asked_for, ended, turned, parts_begun, turn_asked, commit_asked, start_ledto, maintain_ledto, copies, copies_next, part_begun, writes_taken_up, phase_ledto, enter_ledto, copy_ledto, seek_ledto, writes_begun, wait_ledto, finished, finish_ledto, keeping_next, keeping_given, must_rest, rested, write_ledto, writes_called, keeping_called, unless_flush_rests, serves_alone}
+use Rattle.fkv_keeper.specs.declared.keepers.Keeping.TheVariants.{Ended, Starts, Maintains, LoadsPhase, Enters, Copies, Seeks, Waits, Writes, Finishes, Sweeps}
+use Rattle.fkv_keeper.specs.Keeping.{KeeperState, come_to, is_copy_resting, copy_driven, copy_told, asked_for, ended, turned, parts_begun, turn_asked, commit_asked, start_ledto, maintain_ledto, copies, copies_next, part_begun, writes_taken_up, phase_ledto, enter_ledto, copy_ledto, seek_ledto, writes_begun, wait_ledto, finished, finish_ledto, keeping_next, keeping_given, must_rest, rested, write_ledto, writes_called, keeping_called, unless_flush_rests, serves_alone, sweeps_next, sweep_ledto}
 use Rattle.fkv_keeper.specs.KeeperRun.{KeeperEvent, BeginsTurn, BeginsCommit, Replies, Gets, Calls, keeper_happens}
 use Rattle.fkv_keeper.specs.KeeperLaws.{MayRest}
 use Rattle.fkv_keeper.specs.CheckpointLaws.{MayFollow, MayStep}
 use Rattle.fkv_keeper.proofs.Happens.{happens_at, happens_so}
+use Rattle.fkv_sweep.specs.Sweeping.{is_sweeping, sweep_ask, sweep_next, sweep_read}
+use Rattle.std.specs.Option.{is_some}
+use Rattle.fkv_sweep.specs.declared.sweeping.SweepAnswer.{SweepAnswer}
+use Rattle.fkv_sweep.specs.declared.sweeping.SweepAnswer.TheVariants as sweep
 
 -- Writes begin to rest by a call of theirs that succeeds, behind which a sync is due.
 pub record BeginsRest (s : KeeperState) (event : KeeperEvent) (a : KeeperState) : Type 0 where
@@ -98,7 +102,7 @@ either_as false s x y one other = other
 
 phase_rests : (p : Places) (s : KeeperState) (found : Option Commit) (said : PhaseSaid) (granted : Bool) → RestsAs s (phase_ledto p s found said granted)
 unfolding phase_ledto
-phase_rests p s None said granted = inl (either_same (is_flush_resting s.maintain) s _ _ refl refl)
+phase_rests p s None said granted = inl (either_same (is_flush_resting s.maintain) s _ _ refl (either_same (granted && is_sweeping s.sweep) s _ _ refl refl))
 phase_rests p s (Some c) said granted = either_as s.rests s (writes_taken_up s granted) (unless_flush_rests s granted (part_begun p s c said granted)) (either_as granted s _ _ (inr (refl, tt)) (inl refl))
     (inl (either_same (is_flush_resting s.maintain) s _ _ refl (part_rests p s c said granted)))
 
@@ -144,6 +148,11 @@ unfolding finish_ledto
 finish_rests t (Done its) = finished_rests t t.commit
 finish_rests t ask = refl
 
+sweep_rests : (t : KeeperState) (ask : Ask SweepAnswer) → (sweep_ledto t ask).rests ≡ t.rests
+unfolding sweep_ledto
+sweep_rests t (Done sweep.Through) = refl
+sweep_rests t ask = refl
+
 -- by a call of the writes
 abbrev RestsBy : KeeperState → KeeperEvent → KeeperState → Type 0
 RestsBy s event a = RestsAs s a ⊎ BeginsRest s event a
@@ -179,6 +188,7 @@ reply_rests shape p s Seeks reply granted = inl (seek_rests (record s { seek = s
 reply_rests shape p s Waits reply granted = inl (wait_rests shape (record s { wait = wait_next s.wait reply }) (wait_ask (wait_next s.wait reply)))
 reply_rests shape p s Writes reply granted = inl refl
 reply_rests shape p s Finishes reply granted = inl (finish_rests (record s { finish = finish_next s.finish reply }) (finish_ask s.seek.points (finish_next s.finish reply)))
+reply_rests shape p s Sweeps reply granted = inl (sweep_rests (record s { sweep = sweep_next s.sweep reply }) (sweep_ask (sweep_next s.sweep reply)))
 
 given_rests : (shape : Shape) (p : Places) (s : KeeperState) (step : Keeping) (action : Action) → RestsAs s (keeping_given shape p s step action)
 unfolding keeping_given
@@ -189,6 +199,8 @@ called_rests : (shape : Shape) (p : Places) (s : KeeperState) (step : Keeping) (
 unfolding keeping_called
 called_rests shape p s Maintains done bytes e = inl (maintain_rests (record s { maintain = maintain_called shape p s.maintain done bytes }) (maintain_ask shape p (maintain_called shape p s.maintain done bytes)))
 called_rests shape p s Writes done bytes e = call_rests s done bytes e
+called_rests shape p s Sweeps true bytes e = inl (inl (sweep_rests (record s { sweep = sweep_read s.sweep bytes }) (sweep_ask (sweep_read s.sweep bytes))))
+called_rests shape p s Sweeps false bytes e = inl (inr (refl, tt))
 called_rests shape p s step done bytes e = inl (inl refl)
 
 happens_rests : (shape : Shape) (p : Places) (s : KeeperState) (step : Keeping) (event : KeeperEvent) → s.step ≡ step → RestsBy s event (happens_at shape p s step event)
@@ -280,6 +292,7 @@ at_serves s Seeks e serves = tt
 at_serves s Waits e serves = tt
 at_serves s Writes e serves = tt
 at_serves s Finishes e serves = tt
+at_serves s Sweeps e serves = tt
 
 at_maintains : (s : KeeperState) (step : Keeping) → s.step ≡ step → Serves s step → s.step ≡ Maintains → IsServing s.maintain.step
 at_maintains s step e serves maintains = subst (λ (x : Keeping). Serves s x) (sym e ∙ maintains) serves
@@ -305,14 +318,10 @@ maintain_still s m (Done maintain.Spent) e serving is = record { rests = tt; wor
 maintain_still s m (Done maintain.Broken) e serving is = cc
 maintain_still s m ask e serving is = record { rests = rw e tt; works = refl; serves = λ at. serving; commit = refl; copy = refl; writes = refl; used = refl; seek = refl; last = refl; lost = refl }
 
-phase_still : (p : Places) (s : KeeperState) (found : Option Commit) (said : PhaseSaid) (granted : Bool) → s.rests ≡ true → (phase_ledto p s found said granted).rests ≡ true → RestsStill s (phase_ledto p s found said granted)
+phase_still : (p : Places) (s : KeeperState) (found : Option Commit) (said : PhaseSaid) (granted : Bool) → s.rests ≡ true → is_some found ≡ true → (phase_ledto p s found said granted).rests ≡ true → RestsStill s (phase_ledto p s found said granted)
 unfolding phase_ledto
-phase_still p s None said granted was is = by (is_flush_resting s.maintain)
-  where
-    by : (b : Bool) → RestsStill s (if b then turned (record s { is_granted = granted }) else turned s)
-    by true = record { rests = tt; works = refl; serves = λ at. cc; commit = refl; copy = refl; writes = refl; used = refl; seek = refl; last = refl; lost = refl }
-    by false = record { rests = tt; works = refl; serves = λ at. cc; commit = refl; copy = refl; writes = refl; used = refl; seek = refl; last = refl; lost = refl }
-phase_still p s (Some c) said granted was is = by s.rests was granted is
+phase_still p s None said granted was held is = cc
+phase_still p s (Some c) said granted was held is = by s.rests was granted is
   where
     by : (rests : Bool) → rests ≡ true → (granted : Bool) → (if rests then writes_taken_up s granted else unless_flush_rests s granted (part_begun p s c said granted)).rests ≡ true
         → RestsStill s (if rests then writes_taken_up s granted else unless_flush_rests s granted (part_begun p s c said granted))
@@ -356,33 +365,33 @@ commit_still s kind was = by s.is_broken s.rests was
     by false true so = record { rests = tt; works = refl; serves = λ at. cc; commit = refl; copy = refl; writes = refl; used = refl; seek = refl; last = refl; lost = refl }
     by false false so = cc
 
-happens_still : (shape : Shape) (p : Places) (s : KeeperState) (step : Keeping) (event : KeeperEvent) → s.step ≡ step → s.rests ≡ true → MayRest step → Serves s step
+happens_still : (shape : Shape) (p : Places) (s : KeeperState) (step : Keeping) (event : KeeperEvent) → s.step ≡ step → s.rests ≡ true → is_some s.commit ≡ true → MayRest step → Serves s step
     → (happens_at shape p s step event).rests ≡ true → RestsStill s (happens_at shape p s step event)
 unfolding keeping_next keeping_given keeping_called
-happens_still shape p s (Ended its) BeginsTurn e was may serves is = turn_still s its e was
-happens_still shape p s (Ended its) (BeginsCommit kind) e was may serves is = commit_still s kind was
-happens_still shape p s (Ended its) (Replies reply granted) e was may serves is = as_it_was s (Ended its) e may tt
-happens_still shape p s (Ended its) (Gets action) e was may serves is = as_it_was s (Ended its) e may tt
-happens_still shape p s (Ended its) (Calls done bytes) e was may serves is = as_it_was s (Ended its) e may tt
-happens_still shape p s Maintains (Replies reply granted) e was may serves is =
+happens_still shape p s (Ended its) BeginsTurn e was held may serves is = turn_still s its e was
+happens_still shape p s (Ended its) (BeginsCommit kind) e was held may serves is = commit_still s kind was
+happens_still shape p s (Ended its) (Replies reply granted) e was held may serves is = as_it_was s (Ended its) e may tt
+happens_still shape p s (Ended its) (Gets action) e was held may serves is = as_it_was s (Ended its) e may tt
+happens_still shape p s (Ended its) (Calls done bytes) e was held may serves is = as_it_was s (Ended its) e may tt
+happens_still shape p s Maintains (Replies reply granted) e was held may serves is =
     maintain_still s (maintain_next shape p s.maintain reply) (maintain_ask shape p (maintain_next shape p s.maintain reply)) e (next_serves shape p s.maintain reply serves) is
-happens_still shape p s Maintains (Gets action) e was may serves is =
+happens_still shape p s Maintains (Gets action) e was held may serves is =
     maintain_still s (maintain_given s.maintain action) (maintain_ask shape p (maintain_given s.maintain action)) e (given_serves shape p s.maintain action serves) is
-happens_still shape p s Maintains (Calls done bytes) e was may serves is =
+happens_still shape p s Maintains (Calls done bytes) e was held may serves is =
     maintain_still s (maintain_called shape p s.maintain done bytes) (maintain_ask shape p (maintain_called shape p s.maintain done bytes)) e (called_serves shape p s.maintain done bytes serves) is
-happens_still shape p s Maintains BeginsTurn e was may serves is = as_it_was s Maintains e tt serves
-happens_still shape p s Maintains (BeginsCommit kind) e was may serves is = as_it_was s Maintains e tt serves
-happens_still shape p s LoadsPhase (Replies reply granted) e was may serves is = phase_still p s s.commit (phase_said reply) granted was is
-happens_still shape p s LoadsPhase BeginsTurn e was may serves is = as_it_was s LoadsPhase e tt tt
-happens_still shape p s LoadsPhase (BeginsCommit kind) e was may serves is = as_it_was s LoadsPhase e tt tt
-happens_still shape p s LoadsPhase (Gets action) e was may serves is = as_it_was s LoadsPhase e tt tt
-happens_still shape p s LoadsPhase (Calls done bytes) e was may serves is = as_it_was s LoadsPhase e tt tt
-happens_still shape p s step event e was may serves is = absurd may
+happens_still shape p s Maintains BeginsTurn e was held may serves is = as_it_was s Maintains e tt serves
+happens_still shape p s Maintains (BeginsCommit kind) e was held may serves is = as_it_was s Maintains e tt serves
+happens_still shape p s LoadsPhase (Replies reply granted) e was held may serves is = phase_still p s s.commit (phase_said reply) granted was held is
+happens_still shape p s LoadsPhase BeginsTurn e was held may serves is = as_it_was s LoadsPhase e tt tt
+happens_still shape p s LoadsPhase (BeginsCommit kind) e was held may serves is = as_it_was s LoadsPhase e tt tt
+happens_still shape p s LoadsPhase (Gets action) e was held may serves is = as_it_was s LoadsPhase e tt tt
+happens_still shape p s LoadsPhase (Calls done bytes) e was held may serves is = as_it_was s LoadsPhase e tt tt
+happens_still shape p s step event e was held may serves is = absurd may
 
-pub rests_still : (shape : Shape) (p : Places) (s : KeeperState) (event : KeeperEvent) → s.rests ≡ true → MayRest s.step → (s.step ≡ Maintains → IsServing s.maintain.step)
+pub rests_still : (shape : Shape) (p : Places) (s : KeeperState) (event : KeeperEvent) → s.rests ≡ true → is_some s.commit ≡ true → MayRest s.step → (s.step ≡ Maintains → IsServing s.maintain.step)
     → (keeper_happens shape p s event).rests ≡ true → RestsStill s (keeper_happens shape p s event)
-rests_still shape p s event was may serves is =
-    subst (λ (x : KeeperState). RestsStill s x) same (happens_still shape p s s.step event refl was may (at_serves s s.step refl serves) (ap (λ (x : KeeperState). x.rests) same ∙ is))
+rests_still shape p s event was held may serves is =
+    subst (λ (x : KeeperState). RestsStill s x) same (happens_still shape p s s.step event refl was held may (at_serves s s.step refl serves) (ap (λ (x : KeeperState). x.rests) same ∙ is))
   where
     same : happens_at shape p s s.step event ≡ keeper_happens shape p s event
     same = happens_so shape p s event
@@ -408,7 +417,7 @@ maintain_ended s event m ask was is = not_both s.rests is was
 
 phase_ended : (p : Places) (s : KeeperState) (event : KeeperEvent) (found : Option Commit) (said : PhaseSaid) (granted : Bool) → s.rests ≡ true → (phase_ledto p s found said granted).rests ≡ false → EndsRest s event (phase_ledto p s found said granted)
 unfolding phase_ledto
-phase_ended p s event None said granted was is = not_both s.rests (sym (either_same (is_flush_resting s.maintain) s (turned (record s { is_granted = granted })) (turned s) refl refl) ∙ is) was
+phase_ended p s event None said granted was is = not_both s.rests (sym (either_same (is_flush_resting s.maintain) s (turned (record s { is_granted = granted })) (sweeps_next s granted) refl (either_same (granted && is_sweeping s.sweep) s _ _ refl refl)) ∙ is) was
 phase_ended p s event (Some c) said granted was is = by s.rests was granted is
   where
     by : (rests : Bool) → rests ≡ true → (granted : Bool) → (if rests then writes_taken_up s granted else unless_flush_rests s granted (part_begun p s c said granted)).rests ≡ false

@@ -1,7 +1,6 @@
 -- What the crates above may cite of these proofs.
-pub use Rattle.fkv_maintain.proofs.Shown.{IsLoadOrCall}
-pub use Rattle.fkv_keeper.proofs.BeginKept.{run_begins}
-pub use Rattle.fkv_keeper.proofs.GoesOn.{due_asks, kept_asks}
+pub use Rattle.fkv_keeper.proofs.BeginMoves.{run_begins}
+pub use Rattle.fkv_keeper.proofs.GoesOn.{MovesNone, due_asks, kept_moves}
 pub use Rattle.fkv_keeper.proofs.HandBusy.{run_ended}
 pub use Rattle.fkv_keeper.proofs.KeeperBegun.{begin_bounded, turn_bounded}
 pub use Rattle.fkv_keeper.proofs.KeeperDevice.{keeper_asked_calls}
@@ -9,6 +8,8 @@ pub use Rattle.fkv_keeper.proofs.KeeperDue.{makes_due}
 pub use Rattle.fkv_keeper.proofs.KeeperFewer.{keeper_fewer, keeper_given_fewer, keeper_called_fewer, ended_none}
 pub use Rattle.fkv_keeper.proofs.KeeperLeft.{keeper_left}
 pub use Rattle.fkv_keeper.proofs.NewKeepers.{new_is_opened}
+pub use Rattle.fkv_keeper.proofs.SweepMoves.{begin_moves, sweep_moves}
+pub use Rattle.fkv_keeper.proofs.SweepRuns.{IsKept, IsOfStore, event_on, in_hand_on, new_of_store, run_kept, run_loading, run_of_store, run_on, run_within, sweep_kept}
 pub use Rattle.fkv_keeper.proofs.WholeCalls.{run_joins}
 pub use Rattle.fkv_keeper.proofs.KeeperCalls.{calls_one, done_calls}
 pub use Rattle.fkv_keeper.proofs.KeeperRuns.{IsSound, run_sound, run_broken, run_finished, run_memory, run_number, run_rests, copy_again}

@@ -1,6 +1,6 @@
 -- A turn tells a finished commit just where it has finished the one in hand; else that one and the newest finished commit stay.
 use Rattle.std.proofs.Common.{inl, inr, ◌≡◌, ℕ, ◌∙◌, refl, sym, ap, List, Bool, true, false}
-use Rattle.std.specs.Prelude.{◌⊎◌, ◌||◌, if◌then◌else◌, Option, Some, None, Result}
+use Rattle.std.specs.Prelude.{◌&&◌, ◌⊎◌, ◌||◌, if◌then◌else◌, Option, Some, None, Result}
 use Rattle.fkv_base.specs.declared.faults.Fault.{Fault}
 use Rattle.fkv_base.specs.declared.numbers.Addr.{Addr}
 use Rattle.fkv_keeper.specs.declared.answers.Turn.{Turn}
@@ -34,12 +34,15 @@ use Rattle.fkv_manifest.specs.Committing.{commit_answer, commit_next}
 use Rattle.fkv_keeper.specs.declared.answers.KeeperTold.{KeeperTold}
 use Rattle.fkv_keeper.specs.declared.answers.KeeperTold.TheVariants.{Device, Turned, TurnRefused, Begun, CommitRefused}
 use Rattle.fkv_keeper.specs.declared.keepers.Keeping.{Keeping}
-use Rattle.fkv_keeper.specs.declared.keepers.Keeping.TheVariants.{Ended, Starts, Maintains, LoadsPhase, Enters, Copies, Seeks, Waits, Writes, Finishes}
+use Rattle.fkv_keeper.specs.declared.keepers.Keeping.TheVariants.{Ended, Starts, Maintains, LoadsPhase, Enters, Copies, Seeks, Waits, Writes, Finishes, Sweeps}
 use Rattle.fkv_maintain.specs.declared.maintaining.MaintainAnswer.{MaintainAnswer}
 use Rattle.fkv_maintain.specs.declared.maintaining.MaintainAnswer.TheVariants as maintain
-use Rattle.fkv_keeper.specs.Keeping.{KeeperState, device_passed, write_asked, is_copy_resting, copy_asked, copy_driven, keeping_ask, keeper_ask, ended, maintain_ledto, copies, part_begun, phase_ledto, enter_ledto, copy_ledto, seek_ledto, writes_begun, wait_ledto, finished, finish_ledto, keeping_next, keeper_next, keeping_given, keeper_given, must_rest, parts_begun, write_ledto, copied, points_known, turn_asked, Finality, keeping_called, keeper_called, serves_alone}
+use Rattle.fkv_keeper.specs.Keeping.{KeeperState, device_passed, write_asked, is_copy_resting, copy_asked, copy_driven, keeping_ask, keeper_ask, ended, maintain_ledto, copies, part_begun, phase_ledto, enter_ledto, copy_ledto, seek_ledto, writes_begun, wait_ledto, finished, finish_ledto, keeping_next, keeper_next, keeping_given, keeper_given, must_rest, parts_begun, write_ledto, copied, points_known, turn_asked, Finality, keeping_called, keeper_called, serves_alone, sweep_ledto, sweep_passed}
 use Rattle.fkv_maintain.specs.Maintaining.{is_flush_resting, maintain_ask, maintain_next, maintain_given, maintain_called}
 use Rattle.fkv_keeper.proofs.KeeperLeft.{never, nor}
+use Rattle.fkv_sweep.specs.Sweeping.{is_sweeping, sweep_ask, sweep_next, sweep_read}
+use Rattle.fkv_sweep.specs.declared.sweeping.SweepAnswer.{SweepAnswer}
+use Rattle.fkv_sweep.specs.declared.sweeping.SweepAnswer.TheVariants as sweep
 
 abbrev pub TurnRuns : KeeperState → KeeperState → Keeping → Type 0
 TurnRuns before s (Ended (Turned true full)) = IsCommitFinished before s
@@ -80,7 +83,7 @@ part_led before s p c said granted kept = kept
 
 phase_led : (before s : KeeperState) (p : Places) (commit : Option Commit) (said : PhaseSaid) (granted : Bool) → IsCommitKept before s → TurnRuns before (phase_ledto p s commit said granted) (phase_ledto p s commit said granted).step
 unfolding phase_ledto
-phase_led before s p None said granted kept = either before (is_flush_resting s.maintain) _ _ kept kept
+phase_led before s p None said granted kept = either before (is_flush_resting s.maintain) _ _ kept (either before (granted && is_sweeping s.sweep) _ _ kept kept)
 phase_led before s p (Some c) said granted kept = either before s.rests _ _ (either before granted _ _ kept kept) (either before (is_flush_resting s.maintain) _ _ kept (part_led before s p c said granted kept))
 
 enter_led : (before s : KeeperState) (ask : Ask EnterAnswer) → s.step ≡ Enters → IsCommitKept before s → TurnRuns before (enter_ledto s ask) (enter_ledto s ask).step
@@ -140,6 +143,11 @@ unfolding finish_ledto
 finish_led before s (Done its) at kept = finished_led before s s.commit refl kept
 finish_led before s ask at kept = rw at kept
 
+sweep_led : (before s : KeeperState) (ask : Ask SweepAnswer) → s.step ≡ Sweeps → IsCommitKept before s → TurnRuns before (sweep_ledto s ask) (sweep_ledto s ask).step
+unfolding sweep_ledto
+sweep_led before s (Done sweep.Through) at kept = kept
+sweep_led before s ask at kept = rw at kept
+
 step_runs : (before s : KeeperState) (shape : Shape) (p : Places) (step : Keeping) (reply : ℕ) (granted : Bool) → s.step ≡ step → TurnRuns before s step → is_done (keeping_ask shape p s step) ≡ false
     → TurnRuns before (keeping_next shape p s step reply granted) (keeping_next shape p s step reply granted).step
 unfolding keeping_ask keeping_next
@@ -153,6 +161,7 @@ step_runs before s shape p Seeks reply granted at runs asks = seek_led before (r
 step_runs before s shape p Waits reply granted at runs asks = wait_led before (record s { wait = wait_next s.wait reply }) shape _ at runs
 step_runs before s shape p Writes reply granted at runs asks = rw at runs
 step_runs before s shape p Finishes reply granted at runs asks = finish_led before (record s { finish = finish_next s.finish reply }) _ at runs
+step_runs before s shape p Sweeps reply granted at runs asks = sweep_led before (record s { sweep = sweep_next s.sweep reply }) _ at runs
 
 pub runs_next : (before s : KeeperState) (shape : Shape) (p : Places) (reply : ℕ) (granted : Bool) → TurnRuns before s s.step → is_done (keeper_ask shape p s) ≡ false
     → TurnRuns before (keeper_next shape p s reply granted) (keeper_next shape p s reply granted).step
@@ -171,6 +180,8 @@ unfolding keeping_called
 step_called before s shape p Maintains done bytes at runs = maintain_led before (record s { maintain = maintain_called shape p s.maintain done bytes }) _ at runs
 step_called before s shape p Writes true bytes at runs = write_led before (record s { writes = commit_next s.writes true }) s.commit _ at runs
 step_called before s shape p Writes false bytes at runs = runs
+step_called before s shape p Sweeps true bytes at runs = sweep_led before (record s { sweep = sweep_read s.sweep bytes }) _ at runs
+step_called before s shape p Sweeps false bytes at runs = runs
 step_called before s shape p step done bytes at runs = rw at runs
 
 pub runs_called : (before s : KeeperState) (shape : Shape) (p : Places) (done : Bool) (bytes : List ℕ) → TurnRuns before s s.step → TurnRuns before (keeper_called shape p s done bytes) (keeper_called shape p s done bytes).step
@@ -209,6 +220,19 @@ device_tells (Max place k) full = refl
 device_tells (Put slot action) full = refl
 device_tells (Take slot) full = refl
 
+sweep_tells : (ask : Ask SweepAnswer) (full : Bool) → tells_finished (sweep_passed ask (Turned false full)) ≡ false
+unfolding sweep_passed passed
+sweep_tells (Done sweep.Device) full = refl
+sweep_tells (Done sweep.Through) full = refl
+sweep_tells (Load place) full = refl
+sweep_tells (Store place new) full = refl
+sweep_tells (Swap place new) full = refl
+sweep_tells (Cas place old new) full = refl
+sweep_tells (Add place k) full = refl
+sweep_tells (Max place k) full = refl
+sweep_tells (Put slot action) full = refl
+sweep_tells (Take slot) full = refl
+
 write_tells : (answer : WriteAnswer) (full : Bool) → tells_finished (write_asked answer (Turned false full)) ≡ false
 write_tells write.Device full = refl
 write_tells write.Written full = refl
@@ -231,6 +255,7 @@ step_made before s shape p Copies runs = inr (passed_tells (copy_asked s.copy) s
 step_made before s shape p Seeks runs = inr (passed_tells (seek_ask s.seek) s.is_drain_full, runs)
 step_made before s shape p Waits runs = inr (passed_tells (wait_ask s.wait) s.is_drain_full, runs)
 step_made before s shape p Finishes runs = inr (passed_tells (finish_ask s.seek.points s.finish) s.is_drain_full, runs)
+step_made before s shape p Sweeps runs = inr (sweep_tells (sweep_ask s.sweep) s.is_drain_full, runs)
 
 kept_made : (before s : KeeperState) (newest : Finality) (ask : Ask KeeperTold) (result : Result Turn Fault) → tells_finished ask ≡ false → IsCommitKept before s → IsTurnTold newest ask result → IsTurnMade before s result
 kept_made before s newest (Done (Turned true full)) result tells kept told = never tells

@@ -32,7 +32,7 @@ use Rattle.fkv_commit.specs.Commits.{is_log}
 use Rattle.fkv_commit.specs.Starting.{start_ask}
 use Rattle.fkv_keeper.specs.declared.answers.KeeperTold.TheVariants.{Turned, Begun}
 use Rattle.fkv_keeper.specs.declared.keepers.Keeping.{Keeping}
-use Rattle.fkv_keeper.specs.declared.keepers.Keeping.TheVariants.{Ended, Starts, Maintains, LoadsPhase, Enters, Copies, Seeks, Waits, Writes, Finishes}
+use Rattle.fkv_keeper.specs.declared.keepers.Keeping.TheVariants.{Ended, Starts, Maintains, LoadsPhase, Enters, Copies, Seeks, Waits, Writes, Finishes, Sweeps}
 use Rattle.fkv_maintain.specs.declared.maintaining.Maintaining.TheVariants.{Claims}
 use Rattle.fkv_maintain.specs.Maintaining.{MaintainState}
 use Rattle.fkv_keeper.specs.LastCommits.{other_area, area_number, gate_opened, slot_written}
@@ -250,7 +250,7 @@ pub record KeepsLists (s a : KeeperState) : Type 0 where
   pub used : (s.step ≡ Waits → ⊥) → a.used ≡ s.used
   pub points : (s.step ≡ Seeks → ⊥) → (a.step ≡ Seeks → ⊥) → a.seek.points ≡ s.seek.points
 
--- which step may follow which: after what every turn does, and the phase, comes at most one thing for the commit in hand
+-- which step may follow which: after what every turn does, and the phase, comes at most one thing for the commit in hand, or a sweep
 abbrev pub MayFollow : Keeping → Keeping → Type 0
 MayFollow step (Ended told) = ⊤
 MayFollow (Ended its) Starts = ⊤
@@ -263,6 +263,7 @@ MayFollow LoadsPhase Enters = ⊤
 MayFollow LoadsPhase Copies = ⊤
 MayFollow LoadsPhase Seeks = ⊤
 MayFollow LoadsPhase Waits = ⊤
+MayFollow LoadsPhase Sweeps = ⊤
 MayFollow Enters Enters = ⊤
 MayFollow Copies Copies = ⊤
 MayFollow Seeks Seeks = ⊤
@@ -271,6 +272,7 @@ MayFollow Waits Writes = ⊤
 MayFollow Writes Writes = ⊤
 MayFollow Writes Finishes = ⊤
 MayFollow Finishes Finishes = ⊤
+MayFollow Sweeps Sweeps = ⊤
 MayFollow step after = ⊥
 
 -- the phase is loaded once in a turn

@@ -25,16 +25,19 @@ use Rattle.fkv_manifest.specs.Made.{with_call}
 use Rattle.fkv_keeper.specs.declared.answers.KeeperTold.{KeeperTold}
 use Rattle.fkv_keeper.specs.declared.answers.KeeperTold.TheVariants.{Device}
 use Rattle.fkv_keeper.specs.declared.keepers.Keeping.{Keeping}
-use Rattle.fkv_keeper.specs.declared.keepers.Keeping.TheVariants.{Ended, Starts, Maintains, LoadsPhase, Enters, Copies, Seeks, Waits, Writes, Finishes}
+use Rattle.fkv_keeper.specs.declared.keepers.Keeping.TheVariants.{Ended, Starts, Maintains, LoadsPhase, Enters, Copies, Seeks, Waits, Writes, Finishes, Sweeps}
 use Rattle.fkv_keeper.specs.Answers.{is_busy}
 use Rattle.fkv_maintain.specs.AsksLeft.{maintain_asks_left, most_maintain_asks}
 use Rattle.fkv_keeper.specs.Keeping.{KeeperModel, KeeperState, keeper_called}
+use Rattle.fkv_sweep.specs.AsksLeft.{most_sweep_asks, sweep_asks_left}
+use Rattle.fkv_sweep.specs.Sweeping.{read_asked, read_place, piece_bytes}
 use Rattle.fkv_maintain.specs.Maintaining.{maintain_asked, maintain_calls, maintain_made}
 
 -- how many calls of the device it makes
 unfoldable pub keeping_made : Places → KeeperState → Keeping → ℕ
 keeping_made p s Maintains = maintain_made p s.maintain
 keeping_made p s Writes = calls_next (commit_answer s.writes)
+keeping_made p s Sweeps = count_by (read_asked s.sweep)
 keeping_made p s step = 0
 
 abbrev pub keeper_made : Places → KeeperState → ℕ
@@ -58,14 +61,19 @@ keeper_calls shape s done = keeping_calls shape s s.step done
 unfoldable pub keeping_due : Shape → KeeperState → Keeping → Option AskedCall
 keeping_due shape s Maintains = maintain_asked shape s.maintain
 keeping_due shape s Writes = first_asked (with_call (commit_call s.writes true) [])
+keeping_due shape s Sweeps = read_asked s.sweep
 keeping_due shape s step = None
 
 abbrev pub keeper_due : KeeperModel → Option AskedCall
 keeper_due k = keeping_due k.shape k.state k.state.step
 
--- what a device of these bytes gives for the address of the mailbox that is served
+-- what a device of these bytes gives: a sweep the records that it reads in a row, and else the one at the address of the mailbox that is served
+unfoldable pub keeping_read : KeeperModel → Keeping → List ℕ → List ℕ
+keeping_read k Sweeps seen = bytes_at seen (read_place k.state.sweep) piece_bytes
+keeping_read k step seen = bytes_at seen (mail_place k.shape k.state.maintain.serving) 24
+
 abbrev pub keeper_read : KeeperModel → List ℕ → List ℕ
-keeper_read k seen = bytes_at seen (mail_place k.shape k.state.maintain.serving) 24
+keeper_read k seen = keeping_read k k.state.step seen
 
 -- A step at the device: it was called, and what the device counts and refuses says with what result; by this the keeper went on. Any device has
 -- met the call that is due, with its place and bytes and this outcome, and no other one. An honest device took what the keeper writes, and gave
@@ -115,29 +123,34 @@ most_write_asks sessions = 8 + (sessions + 1)
 abbrev pub most_part_asks : ℕ → ℕ → ℕ
 most_part_asks seeks finishes = (2 * drain_slots + 4) + most_copy_asks + (4 * seeks + 2 * drain_slots + 7) + (2 + most_write_asks finishes)
 
+-- a turn does one thing for the commit, or it sweeps
+abbrev pub most_behind_phase : Places → ℕ → ℕ → ℕ
+most_behind_phase p seeks finishes = most_part_asks seeks finishes + most_sweep_asks p
+
 -- The asks and calls that are left, at most: those of the machine inside that is under way, and of what may come behind it. A machine that is at its
 -- end asks for nothing, and nothing comes behind it.
 unfoldable pub keeping_asks_left : Shape → Places → KeeperState → Keeping → ℕ
 keeping_asks_left shape p s (Ended its) = 0
 keeping_asks_left shape p s Starts = start_asks_left s.start
-keeping_asks_left shape p s Maintains = sum_left (maintain_asks_left shape s.maintain) (most_part_asks s.seek.sessions s.finish.sessions + 1)
-keeping_asks_left shape p s LoadsPhase = most_part_asks s.seek.sessions s.finish.sessions + 1
+keeping_asks_left shape p s Maintains = sum_left (maintain_asks_left shape s.maintain) (most_behind_phase s.sweep.places s.seek.sessions s.finish.sessions + 1)
+keeping_asks_left shape p s LoadsPhase = most_behind_phase s.sweep.places s.seek.sessions s.finish.sessions + 1
 keeping_asks_left shape p s Enters = enter_asks_left s.enter
 keeping_asks_left shape p s Copies = copy_left s.copy
 keeping_asks_left shape p s Seeks = seek_asks_left s.seek
 keeping_asks_left shape p s Waits = sum_left (wait_asks_left s.wait) (most_write_asks s.finish.sessions)
 keeping_asks_left shape p s Writes = sum_left (writes_left s.writes) (s.finish.sessions + 1)
 keeping_asks_left shape p s Finishes = finish_asks_left s.finish
+keeping_asks_left shape p s Sweeps = sweep_asks_left s.sweep
 
 abbrev pub keeper_asks_left : Shape → Places → KeeperState → ℕ
 keeper_asks_left shape p s = keeping_asks_left shape p s s.step
 
--- a commit's beginning, and a turn, which has as many in a large index as in a small one
+-- a commit's beginning, and a turn: but for a sweep, which follows chains, it has as many in a large index as in a small one
 abbrev pub most_begin_asks : ℕ
 most_begin_asks = 2 * drain_slots + 7
 
-abbrev pub most_turn_asks : Shape → ℕ
-most_turn_asks shape = most_maintain_asks shape + (most_part_asks shape.sessions shape.sessions + 1)
+abbrev pub most_turn_asks : Shape → Places → ℕ
+most_turn_asks shape p = most_maintain_asks shape + (most_behind_phase p shape.sessions shape.sessions + 1)
 
 -- a call is in hand just where some are left
 abbrev pub IsBusyWhereLeft : ℕ → Ask KeeperTold → Type 0

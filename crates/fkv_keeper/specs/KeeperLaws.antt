@@ -19,7 +19,7 @@ use Rattle.fkv_manifest.specs.Made.{commit_run}
 use Rattle.fkv_keeper.specs.declared.answers.KeeperTold.{KeeperTold}
 use Rattle.fkv_keeper.specs.declared.answers.KeeperTold.TheVariants.{Turned, TurnRefused, CommitRefused}
 use Rattle.fkv_keeper.specs.declared.keepers.Keeping.{Keeping}
-use Rattle.fkv_keeper.specs.declared.keepers.Keeping.TheVariants.{Ended, Starts, Maintains, LoadsPhase, Copies, Finishes}
+use Rattle.fkv_keeper.specs.declared.keepers.Keeping.TheVariants.{Ended, Maintains, LoadsPhase, Copies, Finishes}
 use Rattle.fkv_base.specs.declared.numbers.Version.{Version}
 use Rattle.fkv_keeper.specs.LastCommits.{area_number}
 use Rattle.fkv_keeper.specs.Keeping.{KeeperState, is_sync, is_resting, is_copy_resting, gate_writes_of, ended, turn_asked, commit_asked, keeper_ask, keeper_next}

@@ -10,6 +10,7 @@ use Rattle.fkv_base.specs.declared.commits.CommitKind.{CommitKind}
 use Rattle.fkv_manifest.specs.Committing.{CommitWriter}
 use Rattle.fkv_maintain.specs.declared.maintaining.Maintaining.TheVariants.{Through}
 use Rattle.fkv_maintain.specs.Maintaining.{is_flush_resting}
+use Rattle.fkv_sweep.specs.Sweeping.{sweep_begun}
 use Rattle.fkv_keeper.specs.declared.answers.KeeperTold.{KeeperTold}
 use Rattle.fkv_keeper.specs.declared.answers.KeeperTold.TheVariants.{Device, Turned, Begun}
 use Rattle.fkv_keeper.specs.declared.keepers.Keeping.{Keeping}
@@ -50,7 +51,7 @@ keeper_run shape p opening [] = opening
 keeper_run shape p opening (event ∷ before) = keeper_happens shape p (keeper_run shape p opening before) event
 
 -- The keeper of a store that was opened: no call and no commit is in hand, no writes and no flush rest, the device has not failed, and no part of a turn is under way.
--- Mailboxes are served of a log that begins where that of the newest finished commit does.
+-- Mailboxes are served of a log that begins where that of the newest finished commit does, and a sweep has nothing to go over.
 pub record IsOpened (s : KeeperState) : Type 0 where
   pub none_in_hand : is_in_hand s.step ≡ false
   pub no_commit : s.commit ≡ None
@@ -59,6 +60,7 @@ pub record IsOpened (s : KeeperState) : Type 0 where
   pub works : s.is_broken ≡ false
   pub turns_rest : s.maintain.step ≡ Through
   pub serves_from : s.maintain.begin ≡ s.last.begin
+  pub none_swept : (shape : Shape) × (p : Places) × (s.sweep ≡ sweep_begun shape p s.last.begin s.last.begin)
 
 -- it asks for the device, and the call fails
 abbrev pub is_failure : KeeperEvent → Ask KeeperTold → Bool

@@ -1,6 +1,7 @@
 -- What the keeper does: it begins commits, and makes turns, in each of which it does what every turn does and then at most one thing for the
 -- commit in hand.
-use Rattle.std.specs.Prelude.{ℕ, List, [], length, replicate, Bool, true, false, not, ◌&&◌, ◌||◌, if◌then◌else◌, Option, Some, None}
+use Rattle.std.specs.Prelude.{ℕ, ◌^◌, ◌==◌, nat_le, List, [], length, replicate, Bool, true, false, not, ◌&&◌, ◌||◌, if◌then◌else◌, Option, Some, None}
+use Rattle.std.specs.Option.{is_some}
 use Rattle.fkv_base.specs.declared.faults.Fault.TheVariants as fault
 use Rattle.fkv_base.specs.declared.numbers.Addr.{Addr}
 use Rattle.fkv_base.specs.declared.numbers.Serial.{Serial}
@@ -49,12 +50,16 @@ use Rattle.fkv_manifest.specs.Gating.{GateWriter, gate_start}
 use Rattle.fkv_keeper.specs.declared.answers.KeeperTold.{KeeperTold}
 use Rattle.fkv_keeper.specs.declared.answers.KeeperTold.TheVariants.{Device, Turned, TurnRefused, Begun, CommitRefused}
 use Rattle.fkv_keeper.specs.declared.keepers.Keeping.{Keeping}
-use Rattle.fkv_keeper.specs.declared.keepers.Keeping.TheVariants.{Ended, Starts, Maintains, LoadsPhase, Enters, Copies, Seeks, Waits, Writes, Finishes}
+use Rattle.fkv_keeper.specs.declared.keepers.Keeping.TheVariants.{Ended, Starts, Maintains, LoadsPhase, Enters, Copies, Seeks, Waits, Writes, Finishes, Sweeps}
 use Rattle.fkv_keeper.specs.declared.last_commits.Checkpoint.{Checkpoint}
 use Rattle.fkv_maintain.specs.declared.maintaining.MaintainAnswer.{MaintainAnswer}
 use Rattle.fkv_maintain.specs.declared.maintaining.MaintainAnswer.TheVariants as maintain
 use Rattle.fkv_keeper.specs.LastCommits.{other_area, area_number, is_gate_open, gate_opened, slot_place, slot_written}
-use Rattle.fkv_maintain.specs.Maintaining.{MaintainState, is_flush_resting, maintain_begun, maintain_serving, maintain_ask, maintain_next, maintain_given, maintain_called, maintain_word_due}
+use Rattle.fkv_sweep.specs.declared.sweeping.SweepAnswer.{SweepAnswer}
+use Rattle.fkv_sweep.specs.declared.sweeping.SweepAnswer.TheVariants as sweep
+use Rattle.fkv_sweep.specs.Sweeping.{Sweeper, is_sweeping, sweep_begun, sweep_ask, sweep_next, sweep_read, sweep_failed, sweep_word_due}
+use Rattle.fkv_sweep.specs.Sweeping as sweeping
+use Rattle.fkv_maintain.specs.Maintaining.{MaintainState, is_flush_resting, maintain_begun, maintain_from, maintain_serving, maintain_ask, maintain_next, maintain_given, maintain_called, maintain_word_due}
 
 -- a finished commit
 pub record Finality : Type 0 where
@@ -75,6 +80,8 @@ pub record KeeperState : Type 0 where
   pub wait : WaitState
   pub writes : CommitWriter
   pub finish : FinishState
+  -- the sweep of the log's front, which finds where the log may come to begin
+  pub sweep : Sweeper
   -- the commit in hand
   pub commit : Option Commit
   -- wait-pending was deferred
@@ -123,6 +130,11 @@ unfoldable pub device_passed : Ask MaintainAnswer → KeeperTold → Ask KeeperT
 device_passed (Done maintain.Device) told = Done Device
 device_passed ask told = passed ask told
 
+-- so is the read that a sweep needs
+unfoldable pub sweep_passed : Ask SweepAnswer → KeeperTold → Ask KeeperTold
+sweep_passed (Done sweep.Device) told = Done Device
+sweep_passed ask told = passed ask told
+
 -- so is the one that the writes of a commit need
 abbrev pub write_asked : WriteAnswer → KeeperTold → Ask KeeperTold
 write_asked write.Device told = Done Device
@@ -149,6 +161,7 @@ keeping_ask shape p s Seeks = passed (seek_ask s.seek) (turn_over s)
 keeping_ask shape p s Waits = passed (wait_ask s.wait) (turn_over s)
 keeping_ask shape p s Writes = write_asked (commit_answer s.writes) (turn_over s)
 keeping_ask shape p s Finishes = passed (finish_ask s.seek.points s.finish) (turn_over s)
+keeping_ask shape p s Sweeps = sweep_passed (sweep_ask s.sweep) (turn_over s)
 
 abbrev pub keeper_ask : Shape → Places → KeeperState → Ask KeeperTold
 keeper_ask shape p s = keeping_ask shape p s s.step
@@ -193,17 +206,27 @@ parts_begun alone s = if alone then maintain_serving s else maintain_begun s
 abbrev pub turn_asked : KeeperState → KeeperState
 turn_asked s = if s.is_broken then ended s (TurnRefused fault.Broken) else record s { maintain = parts_begun (serves_alone s) s.maintain; is_drain_full = false; step = Maintains }
 
--- By what the machines inside ask next. The log of a commit begins where that of the newest finished one does.
+-- a sweep has passed all its records
+abbrev pub is_swept : Sweeper → Bool
+is_swept w = w.at.0 == w.to.0
+
+-- Where the log of a commit begins that starts with this first address: where the sweep ends, if that is done and lies behind neither the checkpoint in force nor the
+-- commit. Else it is where the log of the newest finished commit begins.
+abbrev pub begin_next : KeeperState → Addr → Addr
+begin_next s first = if is_swept s.sweep && nat_le s.sweep.to.0 s.last.checkpoint.first.0 && nat_le s.sweep.to.0 first.0 then s.sweep.to else s.last.begin
+
+-- By what the machines inside ask next.
 unfoldable pub start_ledto : KeeperState → Ask StartAnswer → KeeperState
 start_ledto s (Done (start.Begun number first)) =
-    ended (record s { commit = Some (commit_begun number s.start.asked.kind s.last.begin first); copy = None; has_entered = false; has_points = false; rests = false }) (Begun number)
+    ended (record s { commit = Some (commit_begun number s.start.asked.kind (begin_next s first) first); copy = None; has_entered = false; has_points = false; rests = false }) (Begun number)
 start_ledto s (Done (start.Refused why)) = ended s (CommitRefused why)
 start_ledto s (Done start.Idle) = ended s (CommitRefused fault.CommitRunning)
 start_ledto s ask = s
 
--- the place of the record's word that its flush loads, if it loads one
+-- the place of the word that its flush loads of a record, or that its sweep loads, if it loads one
 abbrev pub word_due_at : Places → KeeperState → Keeping → Option ℕ
 word_due_at p s Maintains = maintain_word_due p s.maintain
+word_due_at p s Sweeps = sweep_word_due s.sweep
 word_due_at p s step = None
 
 abbrev pub keeper_word_due : Places → KeeperState → Option ℕ
@@ -247,9 +270,14 @@ writes_taken_up s granted = if granted then record s { rests = false; is_granted
 abbrev pub unless_flush_rests : KeeperState → Bool → KeeperState → KeeperState
 unless_flush_rests s granted its = if is_flush_resting s.maintain then turned (record s { is_granted = granted }) else its
 
+-- With no commit in hand a sweep that isn't done goes on, where it is let.
+abbrev pub sweeps_next : KeeperState → Bool → KeeperState
+sweeps_next s granted =
+    if granted && is_sweeping s.sweep then record s { sweep = sweeping.turn_begun s.sweep; is_granted = true; step = Sweeps } else turned (record s { is_granted = granted })
+
 -- where writes rest, they are next, whatever the phase is
 unfoldable pub phase_ledto : Places → KeeperState → Option Commit → PhaseSaid → Bool → KeeperState
-phase_ledto p s None said granted = unless_flush_rests s granted (turned s)
+phase_ledto p s None said granted = unless_flush_rests s granted (sweeps_next s granted)
 phase_ledto p s (Some c) said granted = if s.rests then writes_taken_up s granted else unless_flush_rests s granted (part_begun p s c said granted)
 
 unfoldable pub enter_ledto : KeeperState → Ask EnterAnswer → KeeperState
@@ -346,14 +374,34 @@ finality_of s c = record { number = c.number; begin = c.begin; points = s.seek.p
 unfoldable pub no_writes : CommitWriter
 no_writes = record { area = 0; triples = []; gate = record { place = 0; start = 0; slot = replicate 512 0; step = gate_start false }; step = commit_start [] }
 
--- What it has written isn't kept.
+-- a commit of this kind has made a checkpoint of its own
+abbrev pub is_full : CommitKind → Bool
+is_full Full = true
+is_full Log = false
+
+-- A full commit of a living store sets how far the next sweep goes: from where its log begins to its first address. A sweep that is under way goes on to its own
+-- end, and so it stays until the log of a finished commit begins there. No address is above what 48 bits hold.
+abbrev pub may_set : KeeperState → Commit → Bool
+may_set s c =
+    not (is_specified s.start.asked.class) && is_full c.kind && (s.sweep.at.0 == s.sweep.from.0 || s.sweep.to.0 == c.begin.0) && nat_le c.begin.0 c.first.0 && nat_le c.first.0 (2 ^ 48)
+
+abbrev pub sweep_set : KeeperState → Commit → Sweeper
+sweep_set s c = if may_set s c then sweep_begun s.sweep.shape s.sweep.places c.begin c.first else s.sweep
+
+-- What it has written isn't kept. From here on mailboxes are served by where its log begins.
 abbrev pub finished : KeeperState → Option Commit → KeeperState
 finished s None = turned s
-finished s (Some c) = ended (record s { writes = no_writes; commit = None; last = finality_of s c; lost = lost_left c.kind s.lost; has_finished = true }) (Turned true s.is_drain_full)
+finished s (Some c) =
+    ended (record s { maintain = maintain_from c.begin s.maintain; writes = no_writes; sweep = sweep_set s c; commit = None; last = finality_of s c; lost = lost_left c.kind s.lost; has_finished = true }) (Turned true s.is_drain_full)
 
 unfoldable pub finish_ledto : KeeperState → Ask FinishAnswer → KeeperState
 finish_ledto s (Done its) = finished s s.commit
 finish_ledto s ask = s
+
+-- a sweep's turn is over where its own is through
+unfoldable pub sweep_ledto : KeeperState → Ask SweepAnswer → KeeperState
+sweep_ledto s (Done sweep.Through) = turned s
+sweep_ledto s ask = s
 
 -- the copy after a reply
 abbrev pub copy_driven : Option Copier → ℕ → Option Copier
@@ -368,9 +416,13 @@ step_may_copy step commit has_entered rests = false
 abbrev pub may_copy : KeeperState → Bool
 may_copy s = step_may_copy s.step s.commit s.has_entered (is_copy_resting s.copy)
 
--- What a step is granted: where writes or a flush rest, that they go on, and elsewhere memory for a copy.
+-- A step goes by the caller's word where writes or a flush rest, or no commit is in hand: whether they or a sweep go on.
+abbrev pub goes_by_word : KeeperState → Bool
+goes_by_word s = is_resting s || not (is_some s.commit)
+
+-- What it is granted: there what the caller says, and elsewhere memory for a copy.
 abbrev pub granted_for : KeeperState → Bool → Bool → Bool
-granted_for s has_room goes_on = if is_resting s then goes_on else has_room
+granted_for s has_room goes_on = if goes_by_word s then goes_on else has_room
 
 -- Where the reply leads. Where a copy begins, or writes or a flush rest, it goes by what was granted.
 unfoldable pub keeping_next : Shape → Places → KeeperState → Keeping → ℕ → Bool → KeeperState
@@ -384,6 +436,7 @@ keeping_next shape p s Seeks reply granted = seek_ledto (record s { seek = seek_
 keeping_next shape p s Waits reply granted = wait_ledto shape (record s { wait = wait_next s.wait reply }) (wait_ask (wait_next s.wait reply))
 keeping_next shape p s Writes reply granted = s
 keeping_next shape p s Finishes reply granted = finish_ledto (record s { finish = finish_next s.finish reply }) (finish_ask s.seek.points (finish_next s.finish reply))
+keeping_next shape p s Sweeps reply granted = sweep_ledto (record s { sweep = sweep_next s.sweep reply }) (sweep_ask (sweep_next s.sweep reply))
 
 abbrev pub keeper_next : Shape → Places → KeeperState → ℕ → Bool → KeeperState
 keeper_next shape p s reply granted = keeping_next shape p s s.step reply granted
@@ -426,10 +479,16 @@ abbrev pub writes_called : KeeperState → Bool → KeeperState
 writes_called s true = write_ledto (record s { writes = commit_next s.writes true }) s.commit (commit_answer (commit_next s.writes true))
 writes_called s false = broken (record s { writes = commit_next s.writes false })
 
+-- where one leads that a sweep makes
+abbrev pub sweep_called : KeeperState → Bool → List ℕ → KeeperState
+sweep_called s true bytes = sweep_ledto (record s { sweep = sweep_read s.sweep bytes }) (sweep_ask (sweep_read s.sweep bytes))
+sweep_called s false bytes = broken (record s { sweep = sweep_failed s.sweep })
+
 -- where a call of the device leads, whether it succeeded, and what it read
 unfoldable pub keeping_called : Shape → Places → KeeperState → Keeping → Bool → List ℕ → KeeperState
 keeping_called shape p s Maintains done bytes = turn_called shape p s done bytes
 keeping_called shape p s Writes done bytes = writes_called s done
+keeping_called shape p s Sweeps done bytes = sweep_called s done bytes
 keeping_called shape p s step done bytes = s
 
 abbrev pub keeper_called : Shape → Places → KeeperState → Bool → List ℕ → KeeperState

@@ -10,4 +10,5 @@ pub mod NewKeepers
 pub mod PartLaws
 pub mod Running
 pub mod SlotLaws
+pub mod SweepLaws
 pub mod WholeCalls

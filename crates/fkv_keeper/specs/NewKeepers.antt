@@ -5,6 +5,7 @@ use Rattle.fkv_record.specs.declared.lost_ranges.LostRange.{LostRange}
 use Rattle.fkv_plane.specs.declared.places.Places.{Places}
 use Rattle.fkv_maintain.specs.declared.maintaining.Maintaining.TheVariants.{Through}
 use Rattle.fkv_maintain.specs.Maintaining.{is_flush_resting}
+use Rattle.fkv_sweep.specs.Sweeping.{sweep_begun}
 use Rattle.fkv_keeper.specs.declared.answers.KeeperTold.TheVariants.{Turned}
 use Rattle.fkv_keeper.specs.declared.keepers.Keeping.TheVariants.{Ended}
 use Rattle.fkv_keeper.specs.Keeping.{Finality, KeeperModel}
@@ -17,7 +18,7 @@ pub record ArePlacesOfStore (shape : Shape) (p : Places) : Type 0 where
   pub ring : p.ring ≡ shape.frames * shape.page
 
 -- The keeper of a store of this shape, which was opened at this newest finished commit with these lost ranges in hand. No call and no commit is in
--- hand, nothing is copied, nothing has failed, and nothing was done. Mailboxes are served of the log that begins where that commit's does.
+-- hand, nothing is copied, nothing has failed, and nothing was done. No sweep has records to go over. Mailboxes are served of the log that begins where that commit's does.
 pub record IsNewKeeper (shape : Shape) (last : Finality) (lost : List LostRange) (k : KeeperModel) : Type 0 where
   pub its_shape : k.shape ≡ shape
   pub its_places : ArePlacesOfStore shape k.places
@@ -40,3 +41,4 @@ pub record IsNewKeeper (shape : Shape) (last : Finality) (lost : List LostRange)
   pub granted : k.state.is_granted ≡ true
   pub none_rest : k.state.rests ≡ false
   pub none_flushed : is_flush_resting k.state.maintain ≡ false
+  pub none_swept : k.state.sweep ≡ sweep_begun k.shape k.places last.begin last.begin

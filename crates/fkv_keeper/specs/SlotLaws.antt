@@ -1,7 +1,6 @@
 -- What the slot of a commit names as its writes begin: all of its lost ranges, a point for each session, and where its log begins.
-use Rattle.std.specs.Prelude.{◌≡◌, ◌≤◌, ◌<◌, length, Some}
+use Rattle.std.specs.Prelude.{◌≡◌, ◌≤◌, ◌<◌, ◌⊎◌, length, true, None, Some}
 use Rattle.fkv_base.specs.Limits.{max_sessions, last_of}
-use Rattle.fkv_base.specs.declared.numbers.Addr.{Addr}
 use Rattle.fkv_base.specs.declared.shapes.Shape.{Shape}
 use Rattle.fkv_marks.specs.Window.{InWindow}
 use Rattle.fkv_record.specs.Manifest.{SlotSaid, newest_bytes}
@@ -10,7 +9,8 @@ use Rattle.fkv_base.specs.declared.commits.CommitKind.TheVariants.{Log}
 use Rattle.fkv_commit.specs.Starting.{max_lost}
 use Rattle.fkv_manifest.specs.Kept.{IsSlotOf}
 use Rattle.fkv_maintain.specs.Parts.{ReadsAbove}
-use Rattle.fkv_keeper.specs.Keeping.{KeeperState, lost_left}
+use Rattle.fkv_keeper.specs.declared.keepers.Keeping.TheVariants.{Sweeps}
+use Rattle.fkv_keeper.specs.Keeping.{KeeperState, is_swept, lost_left}
 
 -- A version follows that of the commit in hand. Where that is a log commit, its slot has room for all lost ranges in hand, and it lies in the window of the
 -- checkpoint in force.
@@ -36,9 +36,24 @@ pub record IsSlotWhole (shape : Shape) (s a : KeeperState) : Type 0 where
   pub few_lost : length said.lost ≤ max_lost
   pub named : IsSlotOf commit.number.0 a.writes.gate.slot
 
--- The log begins here: for the newest finished commit, for the one in hand, and where mailboxes are served. A read for one is at or above that.
-pub record BeginsAt (begin : Addr) (s : KeeperState) : Type 0 where
-  pub newest : s.last.begin ≡ begin
-  pub serves : s.maintain.begin ≡ begin
+-- A sweep is done. It began where the log of the newest finished commit does, and the log of this commit begins at its end. That is at or below the first
+-- address of the checkpoint in force, and of the commit itself.
+pub record HasMoved (s : KeeperState) (c : Commit) : Type 0 where
+  pub swept : is_swept s.sweep ≡ true
+  pub from : s.sweep.from ≡ s.last.begin
+  pub to : c.begin ≡ s.sweep.to
+  pub on : s.last.begin.0 ≤ c.begin.0
+  pub in_force : c.begin.0 ≤ s.last.checkpoint.first.0
+  pub before : c.begin.0 ≤ c.first.0
+
+-- Mailboxes are served of the log of the newest finished commit, and a read for one is at or above that log's begin. A sweep begins there too; or it is
+-- done, and that log begins at its end. While a sweep's turn is in hand no commit is. A commit's log begins where that of the newest finished one
+-- does, or it has moved on.
+pub record HasBegin (s : KeeperState) : Type 0 where
+  pub serves : s.maintain.begin ≡ s.last.begin
   pub reads : ReadsAbove s.maintain
-  pub commit : (c : Commit) → s.commit ≡ Some c → c.begin ≡ begin
+  pub on : s.sweep.from.0 ≤ s.sweep.to.0
+  pub sweeps : (s.sweep.from ≡ s.last.begin) ⊎ ((is_swept s.sweep ≡ true) × (s.sweep.to ≡ s.last.begin))
+  pub alone : s.step ≡ Sweeps → s.commit ≡ None
+  pub from : s.step ≡ Sweeps → s.sweep.from ≡ s.last.begin
+  pub commit : (c : Commit) → s.commit ≡ Some c → (c.begin ≡ s.last.begin) ⊎ HasMoved s c

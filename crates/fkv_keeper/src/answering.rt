@@ -22,7 +22,7 @@ impl Keeper {
     pub fn start_turn(&mut self) -> KeeperAsk
         ensures next { self.new ≡ record self.old { state = turn_asked self.old.state } }
         ensures ask { IsAsked self.new.state.last (keeper_ask self.old.shape self.old.places self.new.state) result }
-        ensures bounded { keeper_asks_left self.old.shape self.old.places self.new.state ≤ most_turn_asks self.old.shape }
+        ensures bounded { keeper_asks_left self.old.shape self.old.places self.new.state ≤ most_turn_asks self.old.shape self.old.places }
     {
         let ask = self.begin_turn();
         self.asked(ask)

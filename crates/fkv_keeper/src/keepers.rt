@@ -1,11 +1,12 @@
 //! The keeper: its turns and its commits.
-ghost use Rattle.std.specs.Prelude.{◌≡◌, ◌<◌, ◌≤◌, ◌↔◌, ℕ, Bool, List, [], is_ok, is_some, true, false, IfOk, OnErr, Err, None, Some};
+ghost use Rattle.std.specs.Prelude.{◌≡◌, ◌&&◌, ◌||◌, ◌<◌, ◌≤◌, ◌↔◌, ℕ, Bool, List, [], is_ok, is_some, true, false, IfOk, OnErr, Err, None, Some};
 ghost use Rattle.fkv_checkpoint.specs.Copying.{IsRoomFor};
-ghost use Rattle.fkv_disk.specs.Asks.{asked_call, first_asked, kinds_by};
+ghost use Rattle.fkv_disk.specs.Asks.{asked_call, count_by, first_asked, kinds_by};
 ghost use Rattle.fkv_manifest.specs.Committing.{commit_answer, commit_call};
 ghost use Rattle.fkv_manifest.specs.Devices.{calls_next};
 ghost use Rattle.fkv_manifest.specs.Made.{with_call};
-ghost use Rattle.fkv_maintain.specs.Maintaining.{maintain_asked, maintain_calls, maintain_made};
+ghost use Rattle.fkv_maintain.specs.Maintaining.{is_flush_resting, maintain_asked, maintain_calls, maintain_made};
+ghost use Rattle.fkv_sweep.specs.Sweeping.{is_sweeping, read_asked};
 ghost use Rattle.fkv_base.specs.declared.faults.Fault.TheVariants.{Memory, Device as Failed};
 ghost use Rattle.fkv_epoch.specs.Claiming.{takes_action};
 ghost use Rattle.fkv_plane.specs.declared.asks.Ask.TheVariants.{Done};
@@ -14,16 +15,18 @@ ghost use Rattle.fkv_keeper.specs.declared.answers.KeeperTold.TheVariants.{Devic
 ghost use Rattle.fkv_disk.specs.Device.{Elapses, HasCause, MakesCalls};
 ghost use Rattle.fkv_flush.specs.Devices.{Adds};
 ghost use Rattle.fkv_keeper.specs.KeeperAsks.{IsBusyWhereLeft, keeper_asks_left, most_begin_asks, most_turn_asks, keeper_calls, keeper_calls_asked, keeper_due, keeper_made, keeper_read};
-ghost use Rattle.fkv_keeper.specs.Keeping.{commit_asked, turn_asked, keeper_ask, keeper_next, keeper_given, keeper_called, granted_for, is_resting, serves_alone, may_copy, turn_called, writes_called, keeper_word_due};
+ghost use Rattle.fkv_keeper.specs.Keeping.{commit_asked, turn_asked, keeper_ask, keeper_next, keeper_given, keeper_called, granted_for, goes_by_word, is_resting, serves_alone, may_copy, turn_called, writes_called, sweep_called, keeper_word_due};
 ghost use Rattle.fkv_keeper.specs.KeeperRun.{IsOpened};
 ghost use Rattle.fkv_keeper.specs.NewKeepers.{IsNewKeeper};
-ghost use Rattle.fkv_keeper.specs.declared.keepers.Keeping.TheVariants.{Ended, Maintains};
+ghost use Rattle.fkv_keeper.specs.declared.keepers.Keeping.TheVariants.{Ended, Maintains, Sweeps};
 
 use crate::answers::KeeperTold;
 use crate::last_commits::{Checkpoint, LastCommit};
-use crate::leading::{copy_driven, device_passed, end_told, no_writes, write_asked, write_due};
+use crate::leading::{
+    copy_driven, device_passed, end_told, no_writes, sweep_passed, write_asked, write_due,
+};
 use arrayvec::ArrayVec;
-use fkv_base::{CommitKind, Fault, Shape};
+use fkv_base::{Addr, CommitKind, Fault, Key, Shape};
 use fkv_checkpoint::{CopyRoom, IndexCopy};
 use fkv_commit::{
     Commit, EnterWaitPending, FinishCommit, SeekPoints, StartAsked, StartCommit, WaitFlush,
@@ -33,6 +36,7 @@ use fkv_maintain::Maintain;
 use fkv_manifest::CommitWrites;
 use fkv_plane::{Action, Ask, Places, SharedWord, passed};
 use fkv_record::LostRange;
+use fkv_sweep::Sweep;
 use fkv_words::phase_said;
 use std::alloc::Global;
 use std::marker::Model;
@@ -62,6 +66,8 @@ pub(crate) enum Keeping {
     Writes,
     /// The durable words and rest are stored.
     Finishes,
+    /// The log's front is swept.
+    Sweeps,
 }
 
 /// The background actor: it makes turns, begins commits, and makes every call of the device that there is. In a turn it does
@@ -81,6 +87,7 @@ pub struct Keeper {
     pub(crate) wait: WaitFlush,
     pub(crate) writes: CommitWrites,
     pub(crate) finish: FinishCommit,
+    pub(crate) sweep: Sweep,
     pub(crate) commit: Option<Commit>,
     pub(crate) has_entered: bool,
     pub(crate) has_points: bool,
@@ -103,9 +110,9 @@ impl Model for Keeper {
 
     ghost Value = { KeeperModel };
 
-    ghost view = { λ m. record { shape = m.shape; places = m.places; state = record { maintain = m.maintain.state; start = m.start; enter = m.enter; copy = m.copy; seek = m.seek; wait = m.wait; writes = m.writes; finish = m.finish; commit = m.commit; has_entered = m.has_entered; has_points = m.has_points; is_granted = m.is_granted; is_broken = m.is_broken; is_drain_full = m.is_drain_full; has_finished = m.has_finished; rests = m.rests; used = m.used; last = record { number = m.last.number; begin = m.last.begin; points = m.last.points.items; checkpoint = m.last.checkpoint; gates = m.last.gates }; lost = m.lost.items; step = m.step } } };
+    ghost view = { λ m. record { shape = m.shape; places = m.places; state = record { maintain = m.maintain.state; start = m.start; enter = m.enter; copy = m.copy; seek = m.seek; wait = m.wait; writes = m.writes; finish = m.finish; sweep = m.sweep; commit = m.commit; has_entered = m.has_entered; has_points = m.has_points; is_granted = m.is_granted; is_broken = m.is_broken; is_drain_full = m.is_drain_full; has_finished = m.has_finished; rests = m.rests; used = m.used; last = record { number = m.last.number; begin = m.last.begin; points = m.last.points.items; checkpoint = m.last.checkpoint; gates = m.last.gates }; lost = m.lost.items; step = m.step } } };
 
-    ghost invariant = { λ m. (m.maintain.shape ≡ m.shape) × (m.maintain.places ≡ m.places) × (m.seek.sessions ≡ m.shape.sessions) × (m.finish.sessions ≡ m.shape.sessions) × IsRoomFor m.places m.room };
+    ghost invariant = { λ m. (m.maintain.shape ≡ m.shape) × (m.maintain.places ≡ m.places) × (m.seek.sessions ≡ m.shape.sessions) × (m.finish.sessions ≡ m.shape.sessions) × (m.sweep.shape ≡ m.shape) × (m.sweep.places ≡ m.places) × IsRoomFor m.places m.room };
 }
 
 impl Keeper {
@@ -137,6 +144,7 @@ impl Keeper {
             wait: WaitFlush::new(),
             writes: no_writes(alloc),
             finish: FinishCommit::new(shape.sessions as usize),
+            sweep: Sweep::new(shape, places, last.begin, last.begin),
             commit: None,
             has_entered: false,
             has_points: false,
@@ -183,7 +191,7 @@ impl Keeper {
         ensures next { self.new ≡ record self.old { state = turn_asked self.old.state } }
         ensures ask { result ≡ keeper_ask self.old.shape self.old.places self.new.state }
         ensures left { IsBusyWhereLeft (keeper_asks_left self.old.shape self.old.places self.new.state) result }
-        ensures bounded { keeper_asks_left self.old.shape self.old.places self.new.state ≤ most_turn_asks self.old.shape }
+        ensures bounded { keeper_asks_left self.old.shape self.old.places self.new.state ≤ most_turn_asks self.old.shape self.old.places }
     {
         if self.is_broken {
             self.step = Keeping::Ended(KeeperTold::TurnRefused(Fault::Broken));
@@ -196,16 +204,25 @@ impl Keeper {
     }
 
     /// Goes on with the reply to its ask. At a call's end, and where it needs the device, it stays where it is. Memory for a copy that
-    /// the step may begin is asked for first. What rests goes on.
-    #[tactic(auto, using(crate::proofs::Granted::is_granted_so))]
+    /// the step may begin is asked for first. What rests goes on, and no sweep does.
+    #[tactic(auto, using(crate::proofs::Granted::is_granted_so, crate::proofs::NoSweep::none_let))]
     pub fn go_on(&mut self, reply: u64) -> Ask<KeeperTold>
         ensures next { self.new ≡ record self.old { state = keeper_next self.old.shape self.old.places self.old.state reply self.new.state.is_granted } }
+        ensures no_sweep { self.new.state.step ≡ Sweeps → self.old.state.step ≡ Sweeps }
         ensures ask { result ≡ keeper_ask self.old.shape self.old.places self.new.state }
         ensures left { IsBusyWhereLeft (keeper_asks_left self.old.shape self.old.places self.new.state) result }
         ensures fewer { is_done (keeper_ask self.old.shape self.old.places self.old.state) ≡ false → takes_action (keeper_ask self.old.shape self.old.places self.old.state) ≡ false → keeper_asks_left self.old.shape self.old.places self.new.state < keeper_asks_left self.old.shape self.old.places self.old.state }
     {
         let room = self.room();
-        self.go_on_with(reply, room, true)
+        let goes_on = self.rests_on();
+        self.go_on_with(reply, room, goes_on)
+    }
+
+    /// Whether something rests that may go on: a flush, or the writes of the commit in hand.
+    fn rests_on(&self) -> bool
+        ensures { result ≡ (is_flush_resting self.now.state.maintain || (self.now.state.rests && is_some self.now.state.commit)) }
+    {
+        self.maintain.is_flush_resting() || (self.rests && self.commit.is_some())
     }
 
     /// Memory for the copy of the index that its next step may begin: where it loads the phase, wait-pending is deferred, the commit in
@@ -242,8 +259,8 @@ impl Keeper {
     }
 
     /// Goes on as `go_on` does, and a copy begins in this room, which `room` has given. Where none begins the room is kept; where one
-    /// is to begin and there is no room, the turn ends with `Memory`. A copy that rests takes none. Writes that rest go on where the caller
-    /// says so, and a flush that rests does in the next turn.
+    /// is to begin and there is no room, the turn ends with `Memory`. A copy that rests takes none. Where the caller says so writes that rest go
+    /// on, a flush that rests does in the next turn, and with no commit in hand a sweep does.
     #[tactic(auto, using(fkv_commit::proofs::Shown::seek_keeps), unfolding(crate::specs::Keeping::keeping_next))]
     pub fn go_on_with(
         &mut self,
@@ -285,6 +302,10 @@ impl Keeper {
                 let ask = self.finish.drive(self.seek.points(), reply);
                 self.after_finish(ask);
             }
+            Keeping::Sweeps => {
+                let ask = self.sweep.drive(reply);
+                self.after_sweep(ask);
+            }
         }
         self.ask()
     }
@@ -296,11 +317,40 @@ impl Keeper {
         self.rests || (self.maintain.is_flush_resting() && !self.is_granted)
     }
 
+    /// Whether a sweep of the log's front isn't done. It goes on in turns with no commit in hand, where a caller of `go_on_with` lets it.
+    pub fn is_sweeping(&self) -> bool
+        ensures { result ≡ is_sweeping self.now.state.sweep }
+    {
+        self.sweep.is_sweeping()
+    }
+
+    /// The keys that the sweep's last turn has found wanted, 16 at most: the log's front can't be given up before somebody has written them
+    /// anew, as by a merge of the kind `Keep`. Each is probed again in the sweep's next turn.
+    pub fn wanted(&self) -> &[Key]
+        ensures { result.now ≡ self.now.state.sweep.wanted }
+    {
+        self.sweep.wanted()
+    }
+
+    /// The address at which the log of the newest finished commit begins. No record below it counts any more, in memory or behind a crash.
+    pub fn begin(&self) -> Addr
+        ensures { result ≡ self.now.state.last.begin }
+    {
+        self.last.begin
+    }
+
     /// Whether the writes of the commit in hand rest, or a flush does. There a step is granted that they go on, and no memory.
     pub fn is_resting(&self) -> bool
         ensures { result ≡ is_resting self.now.state }
     {
         self.rests || self.maintain.is_flush_resting()
+    }
+
+    /// Whether a step goes by what the caller of `go_on_with` says: writes or a flush rest, or no commit is in hand. Elsewhere it goes by the room.
+    pub fn goes_by_word(&self) -> bool
+        ensures { result ≡ goes_by_word self.now.state }
+    {
+        self.is_resting() || self.commit.is_none()
     }
 
     /// Goes on with what every turn does. What that asks is passed on at once, and not asked for again.
@@ -318,25 +368,35 @@ impl Keeper {
         device_passed(ask, KeeperTold::Turned(false, self.is_drain_full))
     }
 
-    /// The place of the record's word that its flush loads, if it loads one.
+    /// The place of the word that its flush loads of a record, or that its sweep loads, if it loads one.
     #[inline(always)]
     pub fn word_due(&self) -> Option<usize>
         ensures { result ≡ keeper_word_due self.now.places self.now.state }
     {
         match self.step {
             Keeping::Maintains => self.maintain.word_due(),
+            Keeping::Sweeps => self.sweep.word_due(),
             _ => None,
         }
     }
 
-    /// Goes on with the record's word that its flush has loaded, as `go_on` does, and doesn't tell what it asks. A flush loads three words of each record.
+    /// Goes on with the word that was due, as `go_on` does, and doesn't tell what it asks. A flush loads three words of each record, and a sweep some more.
     #[inline(always)]
-    #[tactic(auto, using(crate::proofs::GoesOn::word_goes_on))]
+    #[tactic(auto, using(crate::proofs::GoesOn::word_goes_on, crate::proofs::GoesOn::led_through), unfolding(crate::specs::Keeping::keeping_next))]
     pub fn keep(&mut self, word: u64)
         requires due { (place : ℕ) × (keeper_word_due self.old.places self.old.state ≡ Some place) }
         ensures next { (granted : Bool) → self.new ≡ record self.old { state = keeper_next self.old.shape self.old.places self.old.state word granted } }
     {
-        self.maintain.keep(word);
+        match self.step {
+            Keeping::Maintains => self.maintain.keep(word),
+            Keeping::Sweeps => {
+                self.sweep.keep(word);
+                if self.sweep.is_through() {
+                    self.turns();
+                }
+            }
+            _ => {}
+        }
     }
 
     /// Gets the action of the slot that it claimed.
@@ -376,6 +436,7 @@ impl Keeper {
         match self.step {
             Keeping::Maintains => return self.call_for_turn(d),
             Keeping::Writes => return self.call_for_commit(d),
+            Keeping::Sweeps => return self.call_for_sweep(d),
             _ => {}
         }
         Ok(self.ask())
@@ -383,6 +444,7 @@ impl Keeper {
 
     /// The call of the device that a part of every turn makes.
     fn call_for_turn<D: Device>(&mut self, d: &mut D) -> Result<Ask<KeeperTold>, Fault>
+        requires { self.old.state.step ≡ Maintains }
         ensures next { (bytes : List ℕ) × (self.new ≡ record self.old { state = turn_called self.old.shape self.old.places self.old.state (is_ok result) bytes }) }
         ensures ask { IfOk result (λ ask. ask ≡ keeper_ask self.old.shape self.old.places self.new.state) }
         ensures refused { OnErr result (self.new.state.step ≡ Ended (TurnRefused Failed)) }
@@ -427,6 +489,32 @@ impl Keeper {
         }
     }
 
+    /// The read of the device that a sweep makes.
+    fn call_for_sweep<D: Device>(&mut self, d: &mut D) -> Result<Ask<KeeperTold>, Fault>
+        requires { self.old.state.step ≡ Sweeps }
+        ensures next { (bytes : List ℕ) × (self.new ≡ record self.old { state = sweep_called self.old.state (is_ok result) bytes }) }
+        ensures ask { IfOk result (λ ask. ask ≡ keeper_ask self.old.shape self.old.places self.new.state) }
+        ensures refused { OnErr result (self.new.state.step ≡ Ended (TurnRefused Failed)) }
+        ensures cause { HasCause (D.failed d.old) (D.failed d.new) result }
+        ensures counted { MakesCalls (count_by (read_asked self.old.state.sweep)) (D.refuses d.old) (D.refuses d.new) result }
+        ensures kind { D.expects d.new ≡ kinds_by (read_asked self.old.state.sweep) (is_ok result) (D.expects d.old) }
+        ensures honest { D.honest d.old ↔ D.honest d.new }
+        ensures read { D.honest d.old → self.new ≡ record self.old { state = sweep_called self.old.state (is_ok result) (keeper_read self.old (D.seen d.old)) } }
+        ensures calls { D.honest d.old → Adds [] (D.seen d.old) (D.seen d.new) (D.may_leave d.old) (D.may_leave d.new) }
+        ensures time { D.honest d.old → Elapses (D.moment d.old) (D.moment d.new) (D.left_since d.old) (D.left_since d.new) (D.may_leave d.new) }
+    {
+        match self.sweep.device_step(d) {
+            Ok(ask) => {
+                self.after_sweep(ask);
+                Ok(self.ask())
+            }
+            Err(fault) => {
+                self.breaks();
+                Err(fault)
+            }
+        }
+    }
+
     /// The call of the device that its next step makes, if it makes one. A caller that makes calls of the device himself makes this one,
     /// and then gives `call_device` or `device_step` a device that answers it with what came of that.
     #[tactic(auto, unfolding(crate::specs::KeeperAsks::keeping_due))]
@@ -436,6 +524,7 @@ impl Keeper {
         match self.step {
             Keeping::Maintains => self.maintain.device_ask(),
             Keeping::Writes => write_due(self.writes.next_call()),
+            Keeping::Sweeps => self.sweep.device_ask(),
             _ => None,
         }
     }
@@ -460,6 +549,7 @@ impl Keeper {
             Keeping::Waits => passed(self.wait.ask(), over),
             Keeping::Writes => write_asked(self.writes.answer(), over),
             Keeping::Finishes => passed(self.finish.ask(self.seek.points()), over),
+            Keeping::Sweeps => sweep_passed(self.sweep.ask(), over),
         }
     }
 }

@@ -11,7 +11,8 @@ ghost use Rattle.fkv_keeper.specs.Keeping.{KeeperState, come_to};
 ghost use Rattle.fkv_keeper.specs.KeeperLaws.{CopiesAgain, IsBrokenForGood, IsFinishOfBegun, IsMemoryRefused, IsResting, IsWritten};
 ghost use Rattle.fkv_keeper.specs.PartLaws.{HasFound, IsPartBegun, KnowsParts, points_found};
 ghost use Rattle.fkv_keeper.specs.DrainLaws.{HasSoughtAll, call_told};
-ghost use Rattle.fkv_keeper.specs.SlotLaws.{BeginsAt, CommitHasRoom, IsSlotWhole};
+ghost use Rattle.fkv_keeper.specs.SweepLaws.{IsBeginAfter, IsSweepAfter};
+ghost use Rattle.fkv_keeper.specs.SlotLaws.{CommitHasRoom, HasBegin, IsSlotWhole};
 ghost use Rattle.fkv_keeper.specs.KeeperRun.{IsOpened, KeeperEvent, has_failed, is_calling, is_in_hand, keeper_happens, keeper_run, number_open, writing};
 
 /// Whatever turns and commits are begun, and whatever the replies, the actions and the answers of the device are: once a call of the
@@ -90,14 +91,20 @@ pub fn law_of_parts()
 
 /// Whatever turns and commits are begun, and whatever the replies, the actions, the answers of the device and the grants of memory are:
 /// a log commit that is in hand has at most as many lost ranges as its slot has room for. So where the writes of a commit of either kind
-/// begin, its slot leaves no lost range out that it has to name, has a point for each session, and is read back as an open slot of the
-/// commit's number. The log begins where it did as the store was opened: so the slot says, and so mailboxes are served,
-/// for which no read is below that.
+/// begin, its slot leaves no lost range out that it has to name. It has a point for each session, and is read back as an open slot of the
+/// commit's number.
+///
+/// Mailboxes are served of the log of the newest finished commit, and no read for one is below that log's begin. A commit's log begins
+/// there too, or at the end of a sweep that is done and began there. That end is at or below the first addresses of the checkpoint in
+/// force and of the commit itself. No begin goes back. It is chosen as the commit begins, and stays until that is finished.
+/// A sweep goes on by its own replies and reads, with no commit in hand. A finished full commit sets how far the next one goes.
 pub fn law_of_slots()
     ensures room { (shape : Shape) (p : Places) (opening : KeeperState) (events : List KeeperEvent) → IsOpened opening
         → CommitHasRoom (keeper_run shape p opening events) }
     ensures begins { (shape : Shape) (p : Places) (opening : KeeperState) (events : List KeeperEvent) → IsOpened opening
-        → BeginsAt opening.last.begin (keeper_run shape p opening events) }
+        → HasBegin (keeper_run shape p opening events) }
+    ensures sweeps { (shape : Shape) (p : Places) (s : KeeperState) (event : KeeperEvent) → IsSweepAfter event s.step s (keeper_happens shape p s event) }
+    ensures chooses { (shape : Shape) (p : Places) (s : KeeperState) (event : KeeperEvent) → IsBeginAfter s.commit s (keeper_happens shape p s event) }
     ensures whole { (shape : Shape) (p : Places) (opening : KeeperState) (events : List KeeperEvent) (event : KeeperEvent) → IsOpened opening
         → (keeper_run shape p opening events).step ≡ Waits
         → (keeper_run shape p opening (event ∷ events)).step ≡ Writes

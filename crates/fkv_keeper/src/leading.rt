@@ -5,7 +5,7 @@ ghost use Rattle.fkv_disk.specs.Asks.{asked_call, first_asked};
 ghost use Rattle.fkv_manifest.specs.Committing.{commit_answer};
 ghost use Rattle.fkv_manifest.specs.Devices.{next_made};
 ghost use Rattle.fkv_manifest.specs.Made.{with_call};
-ghost use Rattle.fkv_keeper.specs.Keeping.{device_passed, end_told, write_asked, copy_asked, copy_driven, copy_told, is_copy_resting, points_known, ended, turned, turned_full, start_ledto, maintain_ledto, broken, granted_for, must_rest, parts_begun, serves_alone, phase_ledto, part_begun, rested, writes_taken_up, copies_next, copies, enter_ledto, copy_ledto, seek_ledto, wait_ledto, writes_begun, gate_writes_of, write_ledto, finish_ledto, finished, no_writes, checkpoint_used, triples_written, lost_left};
+ghost use Rattle.fkv_keeper.specs.Keeping.{device_passed, end_told, write_asked, copy_asked, copy_driven, copy_told, is_copy_resting, points_known, ended, turned, turned_full, start_ledto, maintain_ledto, broken, granted_for, must_rest, parts_begun, serves_alone, phase_ledto, part_begun, rested, writes_taken_up, sweeps_next, sweep_ledto, sweep_passed, sweep_set, may_set, begin_next, copies_next, copies, enter_ledto, copy_ledto, seek_ledto, wait_ledto, writes_begun, gate_writes_of, write_ledto, finish_ledto, finished, no_writes, checkpoint_used, triples_written, lost_left};
 
 use crate::answers::KeeperTold;
 use crate::keepers::{Keeper, Keeping};
@@ -19,6 +19,7 @@ use fkv_maintain::MaintainAnswer;
 use fkv_manifest::{CommitWrites, GateWrites, NextCall, WriteAnswer};
 use fkv_plane::{Ask, passed};
 use fkv_record::{LostRange, area_place};
+use fkv_sweep::SweepAnswer;
 use fkv_words::PhaseSaid;
 use std::alloc::Global;
 
@@ -51,6 +52,17 @@ pub(crate) fn device_passed(ask: Ask<MaintainAnswer>, told: KeeperTold) -> Ask<K
 {
     match ask {
         Ask::Done(MaintainAnswer::Device) => Ask::Done(KeeperTold::Device),
+        other => passed(other, told),
+    }
+}
+
+/// What a sweep asks, passed on; its read of the device is the keeper's.
+#[tactic(auto, unfolding(crate::specs::Keeping::sweep_passed))]
+pub(crate) fn sweep_passed(ask: Ask<SweepAnswer>, told: KeeperTold) -> Ask<KeeperTold>
+    ensures { result ≡ sweep_passed ask told }
+{
+    match ask {
+        Ask::Done(SweepAnswer::Device) => Ask::Done(KeeperTold::Device),
         other => passed(other, told),
     }
 }
@@ -114,7 +126,7 @@ impl Keeper {
     }
 
     /// The turn is over.
-    fn turns(&mut self)
+    pub(crate) fn turns(&mut self)
         ensures { self.new ≡ record self.old { state = turned self.old.state } }
     {
         self.ends(KeeperTold::Turned(false, self.is_drain_full));
@@ -147,7 +159,7 @@ impl Keeper {
                     self.commit = Some(Commit::begun(
                         number,
                         self.start.kind(),
-                        self.last.begin,
+                        self.begin_next(first),
                         first,
                     ));
                     self.copy = None;
@@ -159,6 +171,18 @@ impl Keeper {
                 StartAnswer::Refused(why) => self.ends(KeeperTold::CommitRefused(why)),
                 StartAnswer::Idle => self.ends(KeeperTold::CommitRefused(Fault::CommitRunning)),
             }
+        }
+    }
+
+    /// Where the log of a commit begins that starts with this first address.
+    fn begin_next(&self, first: Addr) -> Addr
+        ensures { result ≡ begin_next self.now.state first }
+    {
+        let to = self.sweep.to();
+        if self.sweep.at().0 == to.0 && to <= self.last.checkpoint.first && to <= first {
+            to
+        } else {
+            self.last.begin
         }
     }
 
@@ -190,8 +214,8 @@ impl Keeper {
         }
     }
 
-    /// Goes on by what the phase word says, or with the writes that rest. Where a flush rests the turn is over. A copy takes the room;
-    /// where none begins it is kept.
+    /// Goes on by what the phase word says, or with the writes that rest. Where a flush rests the turn is over, and with no commit in hand
+    /// a sweep may go on. A copy takes the room; where none begins it is kept.
     #[tactic(auto, unfolding(crate::specs::Keeping::phase_ledto))]
     pub(crate) fn after_phase(&mut self, said: PhaseSaid, room: Option<CopyRoom>, goes_on: bool)
         requires { IsRoomFor self.old.places room }
@@ -202,7 +226,7 @@ impl Keeper {
             Some(_) if self.rests => self.takes_up(goes_on),
             _ if self.maintain.is_flush_resting() => self.lets_flush(goes_on),
             Some(commit) => self.begins_part(commit, said, &mut room),
-            None => self.turns(),
+            None => self.sweeps(goes_on),
         }
         self.keeps(room);
     }
@@ -226,6 +250,29 @@ impl Keeper {
     {
         self.is_granted = goes_on;
         self.turns();
+    }
+
+    /// A sweep that isn't done goes on, if it is let. Else the turn is over.
+    fn sweeps(&mut self, goes_on: bool)
+        ensures { self.new ≡ record self.old { state = sweeps_next self.old.state goes_on } }
+    {
+        self.is_granted = goes_on;
+        if goes_on && self.sweep.is_sweeping() {
+            self.sweep.start();
+            self.step = Keeping::Sweeps;
+        } else {
+            self.turns();
+        }
+    }
+
+    /// The sweep's turn goes on, or is through.
+    #[tactic(auto, unfolding(crate::specs::Keeping::sweep_ledto))]
+    pub(crate) fn after_sweep(&mut self, ask: Ask<SweepAnswer>)
+        ensures { self.new ≡ record self.old { state = sweep_ledto self.old.state ask } }
+    {
+        if let Ask::Done(SweepAnswer::Through) = ask {
+            self.turns();
+        }
     }
 
     /// Keeps room for a later copy, if there is some.
@@ -486,6 +533,8 @@ impl Keeper {
     fn finishes(&mut self, commit: Commit)
         ensures { self.new ≡ record self.old { state = finished self.old.state (Some commit) } }
     {
+        self.sets_sweep(commit);
+        self.maintain.serve_from(commit.begin);
         self.commit = None;
         self.last.number = commit.number;
         self.last.begin = commit.begin;
@@ -499,5 +548,26 @@ impl Keeper {
         self.writes = no_writes(self.alloc);
         self.has_finished = true;
         self.ends(KeeperTold::Turned(true, self.is_drain_full));
+    }
+
+    /// Where a full commit of a living store is finished, the next sweep goes up to its first address, unless one is under way.
+    fn sets_sweep(&mut self, commit: Commit)
+        ensures { self.new ≡ record self.old { state = record self.old.state { sweep = sweep_set self.old.state commit } } }
+    {
+        if self.may_set(commit) {
+            self.sweep.restart(commit.begin, commit.first);
+        }
+    }
+
+    fn may_set(&self, commit: Commit) -> bool
+        ensures { result ≡ may_set self.now.state commit }
+    {
+        let is_free = self.sweep.at().0 == self.sweep.from().0
+            || self.sweep.to().0 == commit.begin.0;
+        self.start.class() != StoreClass::Specified
+            && commit.kind == CommitKind::Full
+            && is_free
+            && commit.begin.0 <= commit.first.0
+            && commit.first.0 <= 1 << 48
     }
 }

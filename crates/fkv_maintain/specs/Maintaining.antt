@@ -65,6 +65,10 @@ maintain_begun s = record s { scanning = scan.LoadsEpoch; is_drain_full = false;
 abbrev pub maintain_serving : MaintainState → MaintainState
 maintain_serving s = record s { serving = serving.LoadsState 0; is_drain_full = false; step = Serves }
 
+-- From the end of a turn on mailboxes are served of a log that begins at this address.
+abbrev pub maintain_from : Addr → MaintainState → MaintainState
+maintain_from begin s = record s { begin = begin; serving = serving.AtRest }
+
 -- what a flush and a serving ask for is passed on, and their calls of the device are the turn's
 unfoldable pub device_asked : Ask DeviceAnswer → Ask MaintainAnswer
 device_asked (Done device.Device) = Done answer.Device

@@ -13,7 +13,7 @@ ghost use Rattle.fkv_maintain.specs.declared.maintaining.MaintainAnswer.TheVaria
 ghost use Rattle.fkv_maintain.specs.declared.maintaining.Maintaining.TheVariants.{Through, Broken, Flushes};
 ghost use Rattle.fkv_plane.specs.Passing.{is_done};
 ghost use Rattle.fkv_plane.specs.declared.asks.Ask.TheVariants.{Done};
-ghost use Rattle.fkv_maintain.specs.Maintaining.{maintain_begun, maintain_serving, maintain_ask, maintain_next, maintain_given, maintain_called, maintain_asked, maintain_calls, maintain_calls_asked, maintain_made, device_asked, flush_told, is_flush_resting, is_sync_asked, scan_ledto, claim_ledto, flush_ledto, shift_ledto, turn_ledto, serve_begun, serve_ledto, turn_form, maintain_word_due};
+ghost use Rattle.fkv_maintain.specs.Maintaining.{maintain_begun, maintain_from, maintain_serving, maintain_ask, maintain_next, maintain_given, maintain_called, maintain_asked, maintain_calls, maintain_calls_asked, maintain_made, device_asked, flush_told, is_flush_resting, is_sync_asked, scan_ledto, claim_ledto, flush_ledto, shift_ledto, turn_ledto, serve_begun, serve_ledto, turn_form, maintain_word_due};
 
 use fkv_base::{Addr, Fault, Shape, StoreClass};
 use fkv_disk::{Device, DeviceAsk};
@@ -132,6 +132,14 @@ impl Maintain {
         self.is_drain_full = false;
         self.serves();
         self.ask()
+    }
+
+    /// From now on the mailboxes are served of a log that begins at this address. It is called between two turns: a serving that is under
+    /// way is given up.
+    pub fn serve_from(&mut self, begin: Addr)
+        ensures { self.new ≡ record self.old { state = maintain_from begin self.old.state } }
+    {
+        self.serve = Serve::new(self.shape, begin);
     }
 
     /// Goes on with the reply to its ask. At its end, and where it needs the device, it stays where it is.

@@ -10,11 +10,12 @@ use Rattle.fkv_posted.specs.Outcomes.{AlwaysBytes, MayRemain, Made, Outcome, Rem
 use Rattle.fkv_posted.specs.Posting.{shown_or, told_now, with_read, with_told}
 use Rattle.fkv_posted.specs.Remains.{reads_remain}
 use Rattle.fkv_posted.specs.declared.outcomes.Told.{Told}
-use Rattle.fkv_posted.specs.declared.outcomes.Told.TheVariants.{Read, Written, Synced, Failed}
+use Rattle.fkv_posted.specs.declared.outcomes.Told.TheVariants.{Piece, Read, Written, Synced, Failed}
 
 with_read_calls : (told : Option Told) (before : List Outcome) → calls_in (with_read told before) ≡ calls_in before
 with_read_calls None before = refl
 with_read_calls (Some (Read at bytes)) before = refl
+with_read_calls (Some (Piece at bytes)) before = refl
 with_read_calls (Some Written) before = refl
 with_read_calls (Some Synced) before = refl
 with_read_calls (Some Failed) before = refl

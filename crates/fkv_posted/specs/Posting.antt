@@ -4,7 +4,7 @@ use Rattle.std.specs.Borrow.{Bor}
 use Rattle.fkv_disk.specs.Kinds.{Foretold, Kind, Writing, nothing}
 use Rattle.fkv_posted.specs.Outcomes.{Outcome, Gave}
 use Rattle.fkv_posted.specs.declared.outcomes.Told.{Told}
-use Rattle.fkv_posted.specs.declared.outcomes.Told.TheVariants.{Read, Written, Synced}
+use Rattle.fkv_posted.specs.declared.outcomes.Told.TheVariants.{Piece, Read, Written, Synced}
 
 -- nothing counts any more once a call has failed
 abbrev pub told_now : ℕ → Option Told → Option Told
@@ -14,6 +14,7 @@ told_now failures told = None
 -- a read of so many bytes from this offset on was told, or a write or a sync that succeeded
 abbrev pub has_read : ℕ → ℕ → Option Told → Bool
 has_read at n (Some (Read place bytes)) = nat_eq place at && nat_eq n 24
+has_read at n (Some (Piece place bytes)) = nat_eq place at && nat_eq n 768
 has_read at n told = false
 
 abbrev pub has_written : Option Told → Bool
@@ -27,6 +28,7 @@ has_synced told = false
 -- with the read that was told, if one was
 abbrev pub with_read : Option Told → List Outcome → List Outcome
 with_read (Some (Read at bytes)) before = Gave at bytes ∷ before
+with_read (Some (Piece at bytes)) before = Gave at bytes ∷ before
 with_read told before = before
 
 abbrev pub with_told : ℕ → Option Told → List Outcome → List Outcome

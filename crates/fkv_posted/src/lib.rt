@@ -9,5 +9,5 @@ mod posted;
 
 pub use crossing::crosses;
 pub use laws::law_of_outcomes;
-pub use outcomes::{READ_BYTES, Told};
+pub use outcomes::{PIECE_BYTES, READ_BYTES, Told};
 pub use posted::Posted;

@@ -9,7 +9,7 @@ ghost use Rattle.fkv_posted.specs.Posting.{has_read, has_synced, has_written, sh
 ghost use Rattle.fkv_posted.specs.Remains.{counts_now, only_now, reads_remain, remains_bytes};
 
 use crate::log::{Log, Note, Shown};
-use crate::outcomes::{READ_BYTES, Told};
+use crate::outcomes::{PIECE_BYTES, READ_BYTES, Told};
 use fkv_base::Fault;
 use fkv_disk::Device;
 
@@ -101,8 +101,10 @@ fn take(failures: u64, told: &mut Option<Told>, log: &mut Log) -> Option<Told>
     if failures > 0 {
         return None;
     }
-    if let Some(Told::Read(at, bytes)) = &its {
-        *log = log.then(&Note::Gave(*at, bytes));
+    match &its {
+        Some(Told::Read(at, bytes)) => *log = log.then(&Note::Gave(*at, bytes)),
+        Some(Told::Piece(at, bytes)) => *log = log.then(&Note::Gave(*at, bytes)),
+        _ => {}
     }
     its
 }
@@ -190,6 +192,10 @@ impl<'a> Device for Posted<'a> {
         }
         match take(self.failures, &mut self.told, &mut self.log) {
             Some(Told::Read(place, bytes)) if place == at && into.len() == READ_BYTES => {
+                into.copy_from_slice(&bytes);
+                Ok(())
+            }
+            Some(Told::Piece(place, bytes)) if place == at && into.len() == PIECE_BYTES => {
                 into.copy_from_slice(&bytes);
                 Ok(())
             }

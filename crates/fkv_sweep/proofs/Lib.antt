@@ -1,3 +1,4 @@
+mod Actions
 pub mod AsksLeft
 mod Finds
 mod Loads

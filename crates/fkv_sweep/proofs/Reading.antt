@@ -1,5 +1,5 @@
 -- What a step needs of the device, and of the records that were read.
-use Rattle.std.proofs.Common.{◌≡◌, ℕ, ◌+◌, ◌^◌, ◌<◌, ◌≤◌, refl, subst, arith, Bool, true, false}
+use Rattle.std.proofs.Common.{◌≡◌, ℕ, ◌+◌, ◌^◌, ◌<◌, refl, subst, arith, Bool, true, false}
 use Rattle.std.specs.Prelude.{nat_lt, nat_le, if◌then◌else◌, List, Some, None}
 use Rattle.std.proofs.lemmas.Bool.Decides.{nat_tests}
 use Rattle.fkv_base.specs.declared.numbers.Addr.{Addr}
@@ -12,22 +12,23 @@ pub record IsRead (s : Sweeper) (addr : Addr) : Type 0 where
   pub way : IsUnderWay s
   pub fits : addr.0 < 2 ^ 48
 
-step_reads : (s : Sweeper) (step : Sweeping) (addr : Addr) → s.to.0 ≤ 2 ^ 48 → IsStepInRange s step → Some addr ≡ sweeping_addr s step → IsRead s addr
+step_reads : (s : Sweeper) (step : Sweeping) (addr : Addr) → IsStepInRange s step → Some addr ≡ sweeping_addr s step → IsRead s addr
 unfolding sweeping_addr
-step_reads s AtRest addr end range e = let never : ⊥ = cc in absurd never
-step_reads s LoadsHead addr end range e = let never : ⊥ = cc in absurd never
-step_reads s Takes addr end range e = let never : ⊥ = cc in absurd never
-step_reads s Meets addr end range e =
+step_reads s AtRest addr range e = let never : ⊥ = cc in absurd never
+step_reads s LoadsHead addr range e = let never : ⊥ = cc in absurd never
+step_reads s Takes addr range e = let never : ⊥ = cc in absurd never
+step_reads s Meets addr range e =
     let same : s.next ≡ addr = cc in
     let low = range.below in
+    let end = range.low in
     subst (IsRead s) same (record { way = range; fits = omega (arith, low, end) })
-step_reads s (Finds key) addr end range e = let never : ⊥ = cc in absurd never
-step_reads s (LoadsKey key at) addr end range e = let never : ⊥ = cc in absurd never
-step_reads s (LoadsHeader key at) addr end range e = let never : ⊥ = cc in absurd never
-step_reads s (Reads key at) addr end range e = let same : at ≡ addr = cc in subst (IsRead s) same (record { way = range.0; fits = range.1 })
+step_reads s (Finds key) addr range e = let never : ⊥ = cc in absurd never
+step_reads s (LoadsKey key at) addr range e = let never : ⊥ = cc in absurd never
+step_reads s (LoadsHeader key at) addr range e = let never : ⊥ = cc in absurd never
+step_reads s (Reads key at) addr range e = let same : at ≡ addr = cc in subst (IsRead s) same (record { way = range.0; fits = range.1 })
 
 pub reads : (s : Sweeper) (addr : Addr) → IsSweepInRange s → Some addr ≡ read_addr s → IsRead s addr
-reads s addr range e = step_reads s s.step addr range.its_end range.its_step e
+reads s addr range e = step_reads s s.step addr range.its_step e
 
 -- where it reads nothing it stays where it is
 step_stays : (s : Sweeper) (step : Sweeping) (bytes : List ℕ) → sweeping_addr s step ≡ None → sweeping_read s step bytes ≡ s

@@ -1,4 +1,5 @@
 -- What crates above may cite.
+pub use Rattle.fkv_sweep.proofs.Actions.{sweep_puts_none, sweep_takes_none}
 pub use Rattle.fkv_sweep.proofs.AsksLeft.{sweep_asked, sweep_fewer, sweep_read_fewer, sweep_turn_bounded, sweep_begun_none, sweep_failed_none, sweep_calls}
 pub use Rattle.fkv_sweep.proofs.Same.{IsSameSweep, sweep_turn_same, sweep_next_same, sweep_read_same, sweep_failed_same, sweep_event_same}
 pub use Rattle.fkv_sweep.proofs.Within.{IsWithin, GoesWithin, sweep_begun_within, sweep_turn_goes, sweep_next_goes, sweep_read_goes, sweep_failed_goes, sweep_event_goes, IsReadAt, sweep_read_at, sweep_done_on, sweep_done}

@@ -176,6 +176,14 @@ sweeping_ask s (Reads key addr) = Done answer.Device
 abbrev pub sweep_ask : Sweeper → Ask SweepAnswer
 sweep_ask s = sweeping_ask s s.step
 
+-- the place of the word that is loaded, if one is
+abbrev pub load_place : Ask SweepAnswer → Option ℕ
+load_place (Load place) = Some place
+load_place ask = None
+
+abbrev pub sweep_word_due : Sweeper → Option ℕ
+sweep_word_due s = load_place (sweep_ask s)
+
 -- the record that comes next has the words that the piece has of it
 abbrev pub next_met : Sweeper → Sweeper
 next_met s = record_met s (words_held s.piece s.next)
@@ -233,9 +241,10 @@ abbrev pub sweep_failed : Sweeper → Sweeper
 sweep_failed s = record s { step = AtRest }
 
 -- ---- what holds of the numbers
--- a record is met that there is, the turn may meet it, and one more key may be wanted
+-- a record is met that there is, at an address that 48 bits hold, the turn may meet it, and one more key may be wanted
 pub record IsUnderWay (s : Sweeper) : Type 0 where
   pub below : s.next.0 < s.to.0
+  pub low : s.to.0 ≤ 2 ^ 48
   pub some : 0 < s.left
   pub room : length s.wanted < most_wanted
 
@@ -250,6 +259,6 @@ IsStepInRange s (LoadsHeader key addr) = IsUnderWay s
 IsStepInRange s (Reads key addr) = IsUnderWay s × (addr.0 < 2 ^ 48)
 
 pub record IsSweepInRange (s : Sweeper) : Type 0 where
-  pub its_end : s.to.0 ≤ 2 ^ 48
+  pub its_end : s.at.0 < s.to.0 → s.to.0 ≤ 2 ^ 48
   pub few : s.piece.end.0 ≤ s.piece.first.0 + piece_records
   pub its_step : IsStepInRange s s.step

@@ -3,10 +3,10 @@ ghost use Rattle.std.specs.Prelude.{◌≡◌, ◌+◌, ◌-◌, ◌<◌, ◌≤
 ghost use Rattle.fkv_disk.specs.Asks.{asked_call, kinds_by, count_by};
 ghost use Rattle.fkv_disk.specs.Bytes.{bytes_at};
 ghost use Rattle.fkv_disk.specs.Device.{LeavesNoMore, Elapses, HasCause, MakesCalls};
-ghost use Rattle.fkv_sweep.specs.AsksLeft.{GoesOnWhereLeft, steps_asked, sweep_asks_left, most_sweep_asks};
+ghost use Rattle.fkv_sweep.specs.AsksLeft.{GoesOnWhereLeft, is_through, steps_asked, sweep_asks_left, most_sweep_asks};
 ghost use Rattle.fkv_sweep.specs.Sweeping.{IsUnderWay, sweep_begun, is_sweeping, turn_begun, coming, holds, next_met, gone_on, record_passed, key_wanted};
 ghost use Rattle.fkv_sweep.specs.Sweeping.{reached, led_down, slot_found, find_ledto, key_met, chain_met, record_met, sweep_ask, sweep_next, sweep_read};
-ghost use Rattle.fkv_sweep.specs.Sweeping.{sweep_failed, read_addr, read_asked, read_place, sweeping_read, piece_bytes};
+ghost use Rattle.fkv_sweep.specs.Sweeping.{sweep_failed, sweep_word_due, read_addr, read_asked, read_place, sweeping_read, piece_bytes};
 
 use crate::record_words::{PIECE_BYTES, Piece, RecordWords, is_counted, previous_in, words_at};
 use arrayvec::ArrayVec;
@@ -82,7 +82,7 @@ impl Sweep {
     /// A sweep from one address up to another, of a store with these places. It rests.
     pub fn new(shape: Shape, places: Places, from: Addr, to: Addr) -> Sweep
         requires buckets { places.buckets ≡ 2 ^ shape.bucket_bits }
-        requires end { to.0 ≤ 2 ^ 48 }
+        requires end { from.0 < to.0 → to.0 ≤ 2 ^ 48 }
         ensures { result ≡ sweep_begun shape places from to }
     {
         Sweep {
@@ -103,7 +103,7 @@ impl Sweep {
 
     /// Forgets what it has swept, and is the sweep from one address up to another. It rests.
     pub fn restart(&mut self, from: Addr, to: Addr)
-        requires end { to.0 ≤ 2 ^ 48 }
+        requires end { from.0 < to.0 → to.0 ≤ 2 ^ 48 }
         ensures { self.new ≡ sweep_begun self.old.shape self.old.places from to }
     {
         self.step = Sweeping::AtRest;
@@ -137,12 +137,21 @@ impl Sweep {
     }
 
     /// Goes on with the reply to its ask. Where it needs the device it stays where it is.
-    #[tactic(auto, unfolding(crate::specs::Sweeping::sweeping_next))]
     pub fn drive(&mut self, reply: u64) -> Ask<SweepAnswer>
         ensures next { self.new ≡ sweep_next self.old reply }
         ensures ask { result ≡ sweep_ask self.new }
         ensures left { GoesOnWhereLeft (sweep_asks_left self.new) result }
         ensures fewer { 0 < sweep_asks_left self.old → steps_asked (sweep_ask self.old) ≡ 0 → sweep_asks_left self.new < sweep_asks_left self.old }
+    {
+        self.keep(reply);
+        self.ask()
+    }
+
+    /// Goes on as `drive` does, and doesn't tell what it asks.
+    #[inline(always)]
+    #[tactic(auto, unfolding(crate::specs::Sweeping::sweeping_next))]
+    pub fn keep(&mut self, reply: u64)
+        ensures next { self.new ≡ sweep_next self.old reply }
     {
         match self.step {
             Sweeping::AtRest | Sweeping::Meets | Sweeping::Reads(_, _) => {}
@@ -158,7 +167,6 @@ impl Sweep {
             Sweeping::LoadsKey(key, addr) => self.meet_key(key, addr, reply),
             Sweeping::LoadsHeader(key, addr) => self.lead_down(key, addr, previous_in(reply)),
         }
-        self.ask()
     }
 
     /// Goes on by the device: it makes the one read that it needs, of the bytes of records in a row. Where it needs none it stays where it
@@ -202,6 +210,7 @@ impl Sweep {
     }
 
     /// What it asks now.
+    #[inline]
     #[tactic(auto, unfolding(crate::specs::Sweeping::sweeping_ask))]
     pub fn ask(&self) -> Ask<SweepAnswer>
         ensures ask { result ≡ sweep_ask self.now }
@@ -216,6 +225,25 @@ impl Sweep {
                 Ask::Load(self.places.record(addr, RecordWord::Header))
             }
         }
+    }
+
+    /// The place of the word that it loads, if it loads one.
+    #[inline(always)]
+    pub fn word_due(&self) -> Option<usize>
+        ensures { result ≡ sweep_word_due self.now }
+    {
+        match self.ask() {
+            Ask::Load(place) => Some(place),
+            _ => None,
+        }
+    }
+
+    /// Whether its turn is through, or it is at rest.
+    #[inline(always)]
+    pub fn is_through(&self) -> bool
+        ensures { result ≡ is_through (sweep_ask self.now) }
+    {
+        matches!(self.ask(), Ask::Done(SweepAnswer::Through))
     }
 
     /// The keys that are wanted: their records lie below the end, and none of a key at or above it was found.
@@ -408,6 +436,7 @@ impl Sweep {
     /// Goes on to the next record, where there is one for this turn.
     fn go_on(&mut self)
         requires below { self.old.next.0 < self.old.to.0 }
+        requires low { self.old.to.0 ≤ 2 ^ 48 }
         requires some { 0 < self.old.left }
         ensures { self.new ≡ gone_on self.old }
     {

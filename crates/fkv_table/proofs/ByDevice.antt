@@ -1,6 +1,6 @@
 -- The keeper ends a turn with `Device` at a call of the device that has failed, and nowhere else.
 use Rattle.std.proofs.Common.{◌≡◌, ℕ, ◌+◌, refl, sym, ap, subst, ◌∙◌, Bool, true, false, not, arith}
-use Rattle.std.specs.Prelude.{List, Option, Some, None, Result, Ok, Err, IsErr, ◌||◌, if◌then◌else◌}
+use Rattle.std.specs.Prelude.{List, Option, Some, None, Result, Ok, Err, IsErr, ◌&&◌, ◌||◌, if◌then◌else◌}
 use Rattle.atomic_table.specs.Table.{Me}
 use Rattle.fkv_base.specs.declared.faults.Fault.{Fault}
 use Rattle.fkv_base.specs.declared.faults.Fault.TheVariants as fault
@@ -59,13 +59,16 @@ use Rattle.fkv_keeper.specs.declared.answers.KeeperTold.{KeeperTold}
 use Rattle.fkv_keeper.specs.declared.answers.KeeperTold.TheVariants.{Begun, CommitRefused, Device, Turned, TurnRefused}
 use Rattle.fkv_keeper.specs.declared.answers.Turn.{Turn}
 use Rattle.fkv_keeper.specs.declared.keepers.Keeping.{Keeping}
-use Rattle.fkv_keeper.specs.declared.keepers.Keeping.TheVariants.{Copies, Ended, Enters, Finishes, LoadsPhase, Maintains, Seeks, Starts, Waits, Writes}
+use Rattle.fkv_keeper.specs.declared.keepers.Keeping.TheVariants.{Copies, Ended, Enters, Finishes, LoadsPhase, Maintains, Seeks, Starts, Sweeps, Waits, Writes}
 use Rattle.fkv_keeper.specs.KeeperAsks.{keeper_calls_asked}
 use Rattle.fkv_keeper.specs.KeeperRun.{is_in_hand}
-use Rattle.fkv_keeper.specs.Keeping.{Finality, KeeperModel, KeeperState, copies, copies_next, copy_driven, copy_ledto, copy_taken, copy_told, device_passed, ended, enter_ledto, finish_ledto, finished, is_copy_resting, keeper_ask, keeper_called, keeper_next, keeper_word_due, keeping_ask, keeping_called, keeping_given, keeping_next, maintain_ledto, must_rest, part_begun, phase_ledto, seek_ledto, start_ledto, turn_asked, turn_over, turned, wait_ledto, write_ledto, writes_begun, writes_taken_up, unless_flush_rests}
+use Rattle.fkv_keeper.specs.Keeping.{Finality, KeeperModel, KeeperState, copies, copies_next, copy_driven, copy_ledto, copy_taken, copy_told, device_passed, ended, enter_ledto, finish_ledto, finished, is_copy_resting, keeper_ask, keeper_called, keeper_next, keeper_word_due, keeping_ask, keeping_called, keeping_given, keeping_next, maintain_ledto, must_rest, part_begun, phase_ledto, seek_ledto, start_ledto, sweep_ledto, sweeps_next, turn_asked, turn_over, turned, wait_ledto, write_ledto, writes_begun, writes_taken_up, unless_flush_rests}
 use Rattle.fkv_keeper.proofs.Shown.{due_asks}
 use Rattle.fkv_keeper.specs.Running.{IsTurnTold}
 use Rattle.fkv_keeper.specs.WholeCalls.{calls_told}
+use Rattle.fkv_sweep.specs.declared.sweeping.SweepAnswer.{SweepAnswer}
+use Rattle.fkv_sweep.specs.declared.sweeping.SweepAnswer.TheVariants as sweep
+use Rattle.fkv_sweep.specs.Sweeping.{is_sweeping, sweep_ask, sweep_next, sweep_read, turn_begun}
 use Rattle.fkv_table.specs.Desks.{Slot, Knows}
 use Rattle.fkv_table.specs.Keeps.{KeeperReplied, KeeperSettled}
 use Rattle.fkv_table.specs.Turns.{IsCounted, ended_by_device, told_by_device}
@@ -224,9 +227,13 @@ part_begins p s c said granted = refl
 taken_up_led : (s : KeeperState) (granted : Bool) → ended_by_device (writes_taken_up s granted).step ≡ false
 taken_up_led s granted = either granted (record s { rests = false; is_granted = true; step = Writes }) (turned (record s { is_granted = false })) refl refl
 
+sweeps_led : (s : KeeperState) (granted : Bool) → ended_by_device (sweeps_next s granted).step ≡ false
+sweeps_led s granted =
+    either (granted && is_sweeping s.sweep) (record s { sweep = turn_begun s.sweep; is_granted = true; step = Sweeps }) (turned (record s { is_granted = granted })) refl refl
+
 phase_led : (p : Places) (s : KeeperState) (found : Option Commit) (said : PhaseSaid) (granted : Bool) → ended_by_device (phase_ledto p s found said granted).step ≡ false
 unfolding phase_ledto
-phase_led p s None said granted = either (is_flush_resting s.maintain) (turned (record s { is_granted = granted })) (turned s) refl refl
+phase_led p s None said granted = either (is_flush_resting s.maintain) (turned (record s { is_granted = granted })) (sweeps_next s granted) refl (sweeps_led s granted)
 phase_led p s (Some c) said granted = either s.rests (writes_taken_up s granted) (unless_flush_rests s granted (part_begun p s c said granted)) (taken_up_led s granted)
     (either (is_flush_resting s.maintain) (turned (record s { is_granted = granted })) (part_begun p s c said granted) refl (part_begins p s c said granted))
 
@@ -272,6 +279,11 @@ unfolding finish_ledto
 finish_led t (Done its) e = finished_led t t.commit
 finish_led t ask e = rests t Finishes e refl
 
+sweep_led : (t : KeeperState) (ask : Ask SweepAnswer) → t.step ≡ Sweeps → ended_by_device (sweep_ledto t ask).step ≡ false
+unfolding sweep_ledto
+sweep_led t (Done sweep.Through) e = refl
+sweep_led t ask e = rests t Sweeps e refl
+
 write_led : (t : KeeperState) (found : Option Commit) (its : WriteAnswer) → t.step ≡ Writes → ended_by_device (write_ledto t found its).step ≡ false
 unfolding write_ledto
 write_led t None its e = refl
@@ -296,6 +308,7 @@ module _ (shape : Shape) (p : Places) where
   next_at s Waits reply granted e on = wait_led shape (record s { wait = wait_next s.wait reply }) (wait_ask (wait_next s.wait reply)) e
   next_at s Writes reply granted e on = rests s Writes e refl
   next_at s Finishes reply granted e on = finish_led (record s { finish = finish_next s.finish reply }) (finish_ask s.seek.points (finish_next s.finish reply)) e
+  next_at s Sweeps reply granted e on = sweep_led (record s { sweep = sweep_next s.sweep reply }) (sweep_ask (sweep_next s.sweep reply)) e
 
   pub next_none : (s : KeeperState) (reply : ℕ) (granted : Bool) → is_done (keeper_ask shape p s) ≡ false → ended_by_device (keeper_next shape p s reply granted).step ≡ false
   next_none s reply granted on = next_at s s.step reply granted refl on
@@ -341,6 +354,7 @@ module _ (shape : Shape) (p : Places) where
       let next : MaintainState = maintain_called shape p s.maintain true bytes in
       part_led shape p (record s { maintain = next }) next next.step e (called_at shape p s.maintain s.maintain.step bytes refl (works_at shape p s.maintain s.maintain.step false s.is_drain_full asks))
   done_at s Writes bytes e asks = write_led (record s { writes = commit_next s.writes true }) s.commit (commit_answer (commit_next s.writes true)) e
+  done_at s Sweeps bytes e asks = sweep_led (record s { sweep = sweep_read s.sweep bytes }) (sweep_ask (sweep_read s.sweep bytes)) e
   done_at s step bytes e asks = rests s step e (device_at s step asks)
 
   pub done_none : (s : KeeperState) (bytes : List ℕ) → keeper_ask shape p s ≡ Done Device → ended_by_device (keeper_called shape p s true bytes).step ≡ false

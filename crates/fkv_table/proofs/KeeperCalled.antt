@@ -2,13 +2,11 @@
 use Rattle.std.proofs.Common.{◌≡◌, ◌≢◌, ℕ, refl, sym, ap, subst, ◌∙◌, Bool, true, false, true≢false, List, [], ◌∷◌, ◌++◌, append_assoc, eq-zero-or-pos, inl, inr, map}
 use Rattle.std.specs.Prelude.{Some, None}
 use Rattle.atomic_table.specs.Table.{Me}
-use Rattle.fkv_disk.specs.Bytes.{bytes_at}
 use Rattle.fkv_disk.specs.Calls.{AllDone, reads_as}
 use Rattle.fkv_disk.specs.Calls as device
 use Rattle.fkv_disk.specs.Device.{IsAfter}
 use Rattle.fkv_disk.proofs.Shown.{reads_all}
 use Rattle.fkv_flush.specs.Devices.{Adds}
-use Rattle.fkv_flush.specs.Serving.{mail_place}
 use Rattle.fkv_plane.specs.declared.asks.Ask.{Ask}
 use Rattle.fkv_plane.specs.declared.asks.Ask.TheVariants.{Load, Store, Swap, Cas, Add, Max, Put, Take, Done}
 use Rattle.fkv_plane.specs.Asked.{asked_place}
@@ -203,7 +201,11 @@ module _ {K : Type 0} (at : K → World) where
     read_is : keeper_read k shown ≡ read_by_keeper x
     read_is =
         let bytes : shown ≡ reads_as x.past.opened x.past.calls = reads_all p.opened p.calls shown all after.reads ∙ λ i. reads_as (sym opened_is i) (sym calls_is i) in
-        λ i. bytes_at (bytes i) (mail_place ((its.shape ∙ sym (shape_so at (at key) behind)) i) (sym (there at key me k guard its noted.others noted.quiet) i).maintain.serving) 24
+        λ i. keeper_read (record {
+          shape = (its.shape ∙ sym (shape_so at (at key) behind)) i;
+          places = (its.places ∙ sym (places_so at (at key) behind)) i;
+          state = sym (there at key me k guard its noted.others noted.quiet) i;
+        }) (bytes i)
 
     pub called_on : (k' : KeeperModel) → k' ≡ record k { state = keeper_called k.shape k.places k.state done (keeper_read k shown) } → IsKeeping at key me' k'
     unfolding led

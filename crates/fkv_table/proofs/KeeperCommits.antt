@@ -17,7 +17,7 @@ use Rattle.fkv_plane.specs.declared.places.Places.{Places}
 use Rattle.fkv_keeper.specs.declared.answers.KeeperTold.{KeeperTold}
 use Rattle.fkv_keeper.specs.declared.answers.KeeperTold.TheVariants.{Device, Turned, TurnRefused, Begun, CommitRefused}
 use Rattle.fkv_keeper.specs.declared.keepers.Keeping.{Keeping}
-use Rattle.fkv_keeper.specs.declared.keepers.Keeping.TheVariants.{Ended, Starts, Maintains, LoadsPhase, Enters, Copies, Seeks, Waits, Writes, Finishes}
+use Rattle.fkv_keeper.specs.declared.keepers.Keeping.TheVariants.{Ended, Starts, Maintains, LoadsPhase, Enters, Copies, Seeks, Waits, Writes, Finishes, Sweeps}
 use Rattle.fkv_keeper.specs.Answers.{is_busy}
 use Rattle.fkv_keeper.specs.Keeping.{KeeperModel, KeeperState, commit_asked, ended, keeper_ask, keeping_ask, keeping_given, keeping_next, start_ledto, asked_for}
 use Rattle.law_world.specs.Below.fkv_world.Moves.{keeper_gets}
@@ -55,6 +55,7 @@ next_stays shape p s Seeks reply granted e b = absurd b
 next_stays shape p s Waits reply granted e b = absurd b
 next_stays shape p s Writes reply granted e b = absurd b
 next_stays shape p s Finishes reply granted e b = absurd b
+next_stays shape p s Sweeps reply granted e b = absurd b
 
 given_stays : (shape : Shape) (p : Places) (s : KeeperState) (step : Keeping) (action : Action) → s.step ≡ step → IsBeginning step → IsBeginning (keeping_given shape p s step action).step
 unfolding keeping_given
@@ -93,6 +94,7 @@ not_device shape p s Seeks b e = absurd b
 not_device shape p s Waits b e = absurd b
 not_device shape p s Writes b e = absurd b
 not_device shape p s Finishes b e = absurd b
+not_device shape p s Sweeps b e = absurd b
 
 -- it is over where no word is asked for
 pub commit_over : (k : KeeperModel) (told : KeeperTold) → IsBeginning k.state.step → keeper_ask k.shape k.places k.state ≡ Done told → is_busy (keeper_ask k.shape k.places k.state) ≡ false

@@ -25,6 +25,7 @@ pub use Rattle.fkv_session.specs.SessionRun.{telling}
 pub use Rattle.fkv_session.specs.Sessions.{session_ask}
 pub use Rattle.fkv_session.specs.declared.answers.Told.{Told}
 pub use Rattle.fkv_straight.specs.Standing.{asked, begins, leads}
+pub use Rattle.fkv_sweep.specs.Sweeping.{is_sweeping}
 pub use Rattle.fkv_table.specs.Asks.{step_of}
 pub use Rattle.fkv_table.specs.Calls.{HasCalled, HasStepped, IsAnsweredLast, IsLastGiven, IsReady, IsToldLast, WasIdle}
 pub use Rattle.fkv_table.specs.Desks.{Slot, noted, noting, turned}

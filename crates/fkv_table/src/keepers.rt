@@ -5,8 +5,9 @@ ghost use Rattle.fkv_table.specs.Said as said;
 use crate::performing::perform;
 use crate::positions::Part;
 use crate::rule::{Knows, Place, Slot, Table, Words};
+use crate::turns::Leave;
 use atomic_table::Play;
-use fkv_base::{CommitKind, Fault, Version};
+use fkv_base::{Addr, CommitKind, Fault, Key, Version};
 use fkv_checkpoint::CopyRoom;
 use fkv_disk::Device;
 use fkv_keeper::{KeeperAsk, KeeperTold, Turn};
@@ -18,6 +19,8 @@ use std::marker::PhantomData;
 #[derive(Drop)]
 pub struct Keeper {
     pub(crate) machine: fkv_keeper::Keeper,
+    /// Its turns let a sweep of the log's front go on.
+    pub(crate) sweeps: bool,
 }
 
 /// The right of the keeper to step at the table. It has no bytes.
@@ -60,7 +63,7 @@ impl OfKeeper for LogCommit {
     ghost its = { said.Commits said.Log };
 }
 
-/// A step of the keeper's, with memory for a copy, or with which writes that rest go on. A call of the device that has succeeded is one too.
+/// A step of the keeper's, with memory for a copy, or with which what rests or a sweep goes on. A call of the device that has succeeded is one too.
 pub(crate) struct Granted;
 
 impl OfKeeper for Granted {
@@ -178,11 +181,11 @@ fn ask_word<D: Device, E: OfKeeper>(
     machine.go_on_with(reply, room, goes_on)
 }
 
-/// Whether the step is granted what it may need: that what rests goes on, and elsewhere memory for a copy.
+/// Whether the step is granted what it may need: that what rests or a sweep goes on, and elsewhere memory for a copy.
 fn is_granted(machine: &fkv_keeper::Keeper, room: &Option<CopyRoom>, goes_on: bool) -> bool
     ensures { result ≡ said.granted_for machine.now.state (is_some room.now) goes_on }
 {
-    if machine.is_resting() {
+    if machine.goes_by_word() {
         goes_on
     } else {
         room.is_some()
@@ -249,7 +252,7 @@ fn step<D: Device>(
     seat: &mut Place<D>,
     machine: &mut fkv_keeper::Keeper,
     ask: &Ask<KeeperTold>,
-    goes_on: bool,
+    leave: Leave,
 ) -> Ask<KeeperTold>
     requires table { (seat.old.table_id ≡ words.now.table_id) × said.IsTableOf (said.opening_of D.seen words.now.key) words.now.table_id }
     requires keeping { said.IsKeeping (said.opening_of D.seen) words.now.key seat.old.me machine.old }
@@ -267,6 +270,11 @@ fn step<D: Device>(
     ensures ask { result ≡ said.keeper_ask machine.new.shape machine.new.places machine.new.state }
 {
     let room = machine.room();
+    let goes_on = if machine.is_resting() {
+        leave.rests
+    } else {
+        leave.sweep
+    };
     let next = ask_by_grant(words, seat, machine, ask, room, goes_on);
     settle(words, seat, machine, next)
 }
@@ -357,7 +365,7 @@ pub(crate) fn word_steps<D: Device>(
     words: &Words<D>,
     seat: &mut Place<D>,
     machine: &mut fkv_keeper::Keeper,
-    goes_on: bool,
+    leave: Leave,
 ) -> KeeperTold
     requires table { (seat.old.table_id ≡ words.now.table_id) × said.IsTableOf (said.opening_of D.seen words.now.key) words.now.table_id }
     requires keeping { said.IsKeeping (said.opening_of D.seen) words.now.key seat.old.me machine.old }
@@ -377,7 +385,7 @@ pub(crate) fn word_steps<D: Device>(
         if let Ask::Done(told) = ask {
             return told;
         }
-        ask = step(words, seat, machine, &ask, goes_on);
+        ask = step(words, seat, machine, &ask, leave);
         if machine.word_due().is_some() {
             load_words(words, seat, machine);
             ask = machine.ask();
@@ -406,7 +414,7 @@ impl Keeper {
         (pass, answer)
     }
 
-    /// Begins a commit, as `ask_commit` does.
+    /// Begins a commit, as `ask_commit` does. A sweep that is done was let for the last time then: no later one goes on before `let_sweep` says so.
     pub fn start_commit<D: Device>(
         &mut self,
         table: &Table<D>,
@@ -422,9 +430,44 @@ impl Keeper {
         ensures told { said.IsBeginTold (said.keeper_ask self.new.machine.shape self.new.machine.places self.new.machine.state) result }
     {
         let words = &table.table.shared;
+        self.sweeps = self.sweeps && self.machine.is_sweeping();
         begin_commit(words, &mut pass.seat, &mut self.machine, kind);
-        word_steps(words, &mut pass.seat, &mut self.machine, false);
+        let leave = Leave {
+            rests: false,
+            sweep: false,
+        };
+        word_steps(words, &mut pass.seat, &mut self.machine, leave);
         begin_told(&mut self.machine)
+    }
+}
+
+impl Keeper {
+    /// From now on its turns let a sweep of the log's front go on, or no more.
+    pub fn let_sweep(&mut self, sweeps: bool)
+        ensures { self.new.machine ≡ self.old.machine }
+    {
+        self.sweeps = sweeps;
+    }
+
+    /// Whether a sweep of the log's front isn't done.
+    pub fn is_sweeping(&self) -> bool
+        ensures { result ≡ said.is_sweeping self.now.machine.state.sweep }
+    {
+        self.machine.is_sweeping()
+    }
+
+    /// The keys that the sweep's last turn has found wanted, 16 at most.
+    pub fn wanted(&self) -> &[Key]
+        ensures { result.now ≡ self.now.machine.state.sweep.wanted }
+    {
+        self.machine.wanted()
+    }
+
+    /// The address at which the log of the newest finished commit begins.
+    pub fn begin(&self) -> Addr
+        ensures { result ≡ self.now.machine.state.last.begin }
+    {
+        self.machine.begin()
     }
 }
 

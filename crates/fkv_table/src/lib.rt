@@ -32,7 +32,7 @@ pub use opening::OpenTable;
 pub use positions::law_positions;
 pub use rule::{Engine, Pass, Table};
 pub use sessions::Session;
-pub use turns::TurnAsk;
+pub use turns::{Leave, TurnAsk};
 
 // What crates above name of the engine: the world that a table was opened with.
 pub use fkv_core::World;

@@ -63,7 +63,10 @@ impl<D: Device + Drop> Table<D> {
         Ok(OpenTable {
             table: Table { table, places },
             sessions,
-            keeper: Keeper { machine },
+            keeper: Keeper {
+                machine,
+                sweeps: false,
+            },
             pass: KeeperPass { seat: rest },
             device,
         })

@@ -18,6 +18,15 @@ pub enum TurnAsk {
     Over(Result<Turn, Fault>),
 }
 
+/// What a turn lets go on that need not.
+#[derive(Clone, Copy, Debug, PartialEq, Eq, Drop)]
+pub struct Leave {
+    /// The writes of a commit, or a flush, that rest before a sync.
+    pub rests: bool,
+    /// A sweep of the log's front, if that was let (`Keeper::let_sweep`) and no commit is in hand.
+    pub sweep: bool,
+}
+
 impl Keeper {
     /// Begins a turn. `drive` and `device_step` carry it on, by turns, until `drive` tells that it is over. The device isn't called.
     pub fn start_turn<D: Device>(&mut self, table: &Table<D>, pass: &mut KeeperPass<D>)
@@ -33,12 +42,12 @@ impl Keeper {
     }
 
     /// Makes the turn's steps of words up to the next call of the device, or to the turn's end, and tells which. The device isn't called.
-    /// Where the writes of a commit rest, or a flush does, they go on only if the caller says so.
+    /// What rests, and a sweep, go on as the caller lets them.
     pub fn drive<D: Device>(
         &mut self,
         table: &Table<D>,
         pass: &mut KeeperPass<D>,
-        goes_on: bool,
+        leave: Leave,
     ) -> TurnAsk
         requires at_work { said.IsKeeperAtWork (said.opening_of D.seen) table.now.table.shared.key table.now.table.shared.table_id pass.old.seat.table_id
             pass.old.seat.me self.old.machine }
@@ -51,11 +60,15 @@ impl Keeper {
         ensures left { said.keeper_asks_left self.new.machine.shape self.new.machine.places self.new.machine.state ≤ said.keeper_asks_left
             self.old.machine.shape self.old.machine.places self.old.machine.state }
     {
+        let leave = Leave {
+            sweep: leave.sweep && self.sweeps,
+            ..leave
+        };
         match word_steps(
             &table.table.shared,
             &mut pass.seat,
             &mut self.machine,
-            goes_on,
+            leave,
         ) {
             KeeperTold::Device => TurnAsk::Device,
             _ => TurnAsk::Over(turn_told(&mut self.machine)),
@@ -167,9 +180,13 @@ impl Keeper {
         ensures told { said.IsTurnTold self.new.machine.state.last (said.keeper_ask self.new.machine.shape self.new.machine.places self.new.machine.state)
             result }
     {
+        let leave = Leave {
+            rests: true,
+            sweep: true,
+        };
         self.start_turn(table, pass);
         'pieces: loop {
-            match self.drive(table, pass, true) {
+            match self.drive(table, pass, leave) {
                 TurnAsk::Device => self.device_step(table, pass, d),
                 TurnAsk::Over(answer) => return answer,
             }

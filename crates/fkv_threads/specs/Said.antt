@@ -1,5 +1,6 @@
 -- What the clauses of `src` say: they take all of it under one name.
 pub use Rattle.fkv_base.specs.Limits.{max_pending}
+pub use Rattle.fkv_base.specs.declared.commits.CommitKind.TheVariants.{Full}
 pub use Rattle.fkv_base.specs.declared.faults.Fault.TheVariants.{Memory}
 pub use Rattle.fkv_disk.specs.Asks.{asked_call}
 pub use Rattle.fkv_disk.specs.Device.{LeavesOnly}

@@ -2,11 +2,11 @@
 ghost use Rattle.std.specs.Prelude.{◌≡◌, true, false};
 ghost use Rattle.fkv_threads.specs.Said as said;
 
-use fkv_base::{CommitKind, Fault, Version};
+use fkv_base::{Addr, CommitKind, Fault, Key, Version};
 use fkv_disk::{Device, DeviceAsk};
 use fkv_keeper::Turn;
 use fkv_posted::{Posted, Told};
-use law_threads::{Keeper, KeeperPass, Table, TurnAsk, World, law_threads};
+use law_threads::{Keeper, KeeperPass, Leave, Table, TurnAsk, World, law_threads};
 use std::alloc::Global;
 use std::marker::Model;
 use std::snapshot::Snapshot;
@@ -22,8 +22,8 @@ pub struct KeeperSeat<D: Device + Drop> {
     pass: KeeperPass<D>,
     device: D,
     in_turn: bool,
-    /// In this turn writes that rest go on, and behind it a flush that rests does.
-    goes_on: bool,
+    /// What this turn lets go on.
+    leave: Leave,
 }
 
 impl<D: Device + Drop> Model for KeeperSeat<D> {
@@ -57,7 +57,10 @@ impl<D: Device + Drop> KeeperSeat<D> {
             pass,
             device,
             in_turn: false,
-            goes_on: false,
+            leave: Leave {
+                rests: false,
+                sweep: false,
+            },
         }
     }
 
@@ -79,17 +82,18 @@ impl<D: Device + Drop> KeeperSeat<D> {
 
     /// Begins a turn, and carries it on up to its next call of the device, which isn't made, or to its end. So it ends with any of the turn's faults but
     /// `Device`. Where a call of the device is due nothing changes, and `Device` is answered again. While the writes of a commit rest, or a flush
-    /// does, a turn serves and does nothing else. If the caller says so, writes go on behind that, and a flush in the next turn.
-    pub fn drive(&mut self, goes_on: bool) -> TurnAsk
+    /// does, a turn serves and does nothing else. If the caller lets what rests go on, writes go on behind that, and a flush in the next turn. With no commit in hand a sweep
+    /// goes on if the caller lets it, behind a commit of `ask_trim`.
+    pub fn drive(&mut self, leave: Leave) -> TurnAsk
         ensures driven { said.IsDriven D.Device self.old result self.new }
     {
         if self.in_turn {
             return TurnAsk::Device;
         }
         law_threads::<Snapshot<World<D>>>();
-        self.goes_on = goes_on;
+        self.leave = leave;
         self.keeper.start_turn(&self.table, &mut self.pass);
-        let next = self.keeper.drive(&self.table, &mut self.pass, goes_on);
+        let next = self.keeper.drive(&self.table, &mut self.pass, leave);
         self.in_turn = is_due(&next);
         next
     }
@@ -116,7 +120,7 @@ impl<D: Device + Drop> KeeperSeat<D> {
         law_threads::<Snapshot<World<D>>>();
         self.keeper
             .device_step(&self.table, &mut self.pass, &mut self.device);
-        let next = self.keeper.drive(&self.table, &mut self.pass, self.goes_on);
+        let next = self.keeper.drive(&self.table, &mut self.pass, self.leave);
         self.in_turn = is_due(&next);
         next
     }
@@ -132,6 +136,33 @@ impl<D: Device + Drop> KeeperSeat<D> {
         }
         law_threads::<Snapshot<World<D>>>();
         self.keeper.start_commit(&self.table, &mut self.pass, kind)
+    }
+
+    /// Begins a full commit, as `ask_commit` does. Once it is finished turns sweep the records below its first address, as far as `drive` lets them go on: 256
+    /// at most in a turn, with no commit in hand. When all are passed, the log of the next commit begins there. Up to then a later full commit goes on with it.
+    pub fn ask_trim(&mut self) -> Result<Version, Fault>
+        ensures asked { said.IsAskedToCommit D.Device said.Full self.old result self.new }
+    {
+        let answer = self.ask_commit(CommitKind::Full);
+        if answer.is_ok() {
+            self.keeper.let_sweep(true);
+        }
+        answer
+    }
+
+    /// The keys that the sweep's last turn has found wanted, 16 at most. The log's front can't be given up before somebody has written them anew, as by a merge of
+    /// the kind `Keep`. The next turn probes each again.
+    pub fn wanted(&self) -> &[Key]
+        ensures { result.now ≡ self.now.machine.state.sweep.wanted }
+    {
+        self.keeper.wanted()
+    }
+
+    /// Where the log of the newest finished commit begins. No record below that counts any more, in memory or behind a crash.
+    pub fn begin(&self) -> Addr
+        ensures { result ≡ self.now.machine.state.last.begin }
+    {
+        self.keeper.begin()
     }
 
     /// The device. The share of the table is given up.
@@ -152,7 +183,8 @@ impl KeeperSeat<Posted<'static>> {
         ensures told { said.IsTold ⟦<Posted<'static> as Device>⟧ told self.old result self.new }
     {
         if !self.in_turn {
-            return self.drive(true);
+            let leave = self.leave;
+            return self.drive(leave);
         }
         self.device.tell(told);
         self.step()

@@ -14,5 +14,5 @@ pub use seated::Seated;
 
 // What crates above name of the table.
 pub use law_threads::{
-    Happening, Keeper, KeeperPass, Offsets, OpenTable, Pass, Session, Table, TurnAsk,
+    Happening, Keeper, KeeperPass, Leave, Offsets, OpenTable, Pass, Session, Table, TurnAsk,
 };

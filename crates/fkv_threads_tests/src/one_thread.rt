@@ -9,8 +9,8 @@ use fkv_map::{Call, Op, Reply};
 use fkv_opening::Opened;
 use fkv_session::{Answer, Told};
 use fkv_threads::{
-    KeeperSeat, OpenSeats, OpenTable, Pass, Seated, Session, Table, TurnAsk, close, join, open,
-    open_seats,
+    KeeperSeat, Leave, OpenSeats, OpenTable, Pass, Seated, Session, Table, TurnAsk, close, join,
+    open, open_seats,
 };
 use std::alloc::Global;
 use std::test::Fail;
@@ -45,7 +45,13 @@ fn write_and_read<D: Device + Drop>(mut sessions: Vec<Seated<D>>) -> Told
 fn begin_in_pieces<D: Device + Drop>(keeper: &mut KeeperSeat<D>) -> bool
     requires idle { keeper.old.in_turn ≡ false }
 {
-    let asks = matches!(keeper.drive(true), TurnAsk::Device);
+    let asks = matches!(
+        keeper.drive(Leave {
+            rests: true,
+            sweep: true,
+        }),
+        TurnAsk::Device
+    );
     let tells = keeper.posted().is_some();
     if asks {
         keeper.step();

@@ -21,7 +21,7 @@ use Rattle.law_refine.specs.Below.fkv_manifest.WriteAnswer.TheVariants as write
 use Rattle.law_refine.specs.Below.fkv_manifest.Gating.{gate_answer, gate_next, gate_start}
 use Rattle.law_refine.specs.Below.fkv_keeper.KeeperTold.{KeeperTold}
 use Rattle.law_refine.specs.Below.fkv_keeper.TheKeeping.{Keeping}
-use Rattle.law_refine.specs.Below.fkv_keeper.TheKeeping.TheVariants.{Ended, Starts, Maintains, LoadsPhase, Enters, Copies, Seeks, Waits, Writes, Finishes}
+use Rattle.law_refine.specs.Below.fkv_keeper.TheKeeping.TheVariants.{Ended, Starts, Maintains, LoadsPhase, Enters, Copies, Seeks, Waits, Writes, Finishes, Sweeps}
 use Rattle.law_refine.specs.Below.fkv_keeper.CheckpointLaws.{MayFollow, IsFinished}
 use Rattle.law_refine.specs.Below.fkv_keeper.Keeping.{Finality, KeeperState, come_to, finish_ledto, finished, keeping_called, keeping_given, keeping_next, lost_left, must_rest, rested, triples_written, turned, wait_ledto, write_ledto, writes_begun, writes_called}
 use Rattle.law_refine.specs.Below.fkv_keeper.KeeperLaws.{MayRest}
@@ -53,6 +53,7 @@ no_writes Maintains calm follows = follows
 no_writes LoadsPhase calm follows = follows
 no_writes Enters calm follows = follows
 no_writes Copies calm follows = follows
+no_writes Sweeps calm follows = follows
 no_writes Seeks calm follows = follows
 no_writes step calm follows = absurd calm
 
@@ -63,6 +64,7 @@ no_finish Maintains calm follows = follows
 no_finish LoadsPhase calm follows = follows
 no_finish Enters calm follows = follows
 no_finish Copies calm follows = follows
+no_finish Sweeps calm follows = follows
 no_finish Seeks calm follows = follows
 no_finish step calm follows = absurd calm
 
@@ -178,6 +180,7 @@ after_calm begun a step Maintains calm follows all = all
 after_calm begun a step LoadsPhase calm follows all = all
 after_calm begun a step Enters calm follows all = all
 after_calm begun a step Copies calm follows all = all
+after_calm begun a step Sweeps calm follows all = all
 after_calm begun a step Seeks calm follows all = all
 after_calm begun a step Waits calm follows all = all
 
@@ -427,6 +430,7 @@ awake_stands shape p begun s event Maintains awake e its = calm_stands shape p b
 awake_stands shape p begun s event LoadsPhase awake e its = calm_stands shape p begun s event LoadsPhase awake e tt its
 awake_stands shape p begun s event Enters awake e its = calm_stands shape p begun s event Enters awake e tt its
 awake_stands shape p begun s event Copies awake e its = calm_stands shape p begun s event Copies awake e tt its
+awake_stands shape p begun s event Sweeps awake e its = calm_stands shape p begun s event Sweeps awake e tt its
 awake_stands shape p begun s event Seeks awake e its = calm_stands shape p begun s event Seeks awake e tt its
 
 -- ---- and where they rest
@@ -481,5 +485,6 @@ said_so begun s Maintains its = its
 said_so begun s LoadsPhase its = its
 said_so begun s Enters its = its
 said_so begun s Copies its = its
+said_so begun s Sweeps its = its
 said_so begun s Seeks its = its
 said_so begun s Waits its = its

@@ -19,12 +19,13 @@ use Rattle.law_refine.specs.Below.fkv_keeper.KeeperTold.TheVariants.{CommitRefus
 use Rattle.law_refine.specs.Below.fkv_keeper.TheKeeping.{Keeping}
 use Rattle.law_refine.specs.Below.fkv_keeper.TheKeeping.TheVariants.{Ended, Starts, Maintains, LoadsPhase, Writes, Finishes}
 use Rattle.law_refine.specs.Below.fkv_keeper.CheckpointLaws.{MayFollow, MayStep}
-use Rattle.law_refine.specs.Below.fkv_keeper.Keeping.{KeeperState, asked_for, come_to, commit_asked, ended, keeping_called, keeping_given, keeping_next, maintain_ledto, part_begun, parts_begun, phase_ledto, serves_alone, turn_asked, turned, unless_flush_rests, writes_taken_up}
+use Rattle.law_refine.specs.Below.fkv_keeper.Keeping.{KeeperState, asked_for, come_to, commit_asked, ended, keeping_called, keeping_given, keeping_next, maintain_ledto, part_begun, parts_begun, phase_ledto, serves_alone, sweeps_next, turn_asked, turned, unless_flush_rests, writes_taken_up}
 use Rattle.law_refine.specs.Below.fkv_keeper.KeeperLaws.{MayRest}
 use Rattle.law_refine.specs.Below.fkv_keeper.KeeperRun.{BeginsCommit, BeginsTurn, Calls, Gets, IsOpened, KeeperEvent, Replies, keeper_happens, keeper_run}
 use Rattle.law_refine.proofs.Below.fkv_keeper.Shown.{BeginsRest, each_rests, run_rests}
 use Rattle.law_refine.proofs.Below.law_world.OfStanding.Runs.{happens_at, happens_so}
 use Rattle.law_commit.specs.BegunCommits.{BegunCommit, begun_by}
+use Rattle.law_commit.proofs.Sweeps.{sweep_begins}
 
 -- where no writes rest a keeper has come to its step
 pub come_awake : (s : KeeperState) (step : Keeping) → s.rests ≡ false → s.step ≡ step → come_to s ≡ step
@@ -110,9 +111,10 @@ either_after s false x y one other = other
 phase_after : (p : Places) (s : KeeperState) (found : Option Commit) (said : PhaseSaid) (granted : Bool) → s.rests ≡ true → AfterRest s (phase_ledto p s found said granted)
 unfolding phase_ledto
 phase_after p s None said granted rests =
-    either_after s (is_flush_resting s.maintain) (turned (record s { is_granted = granted })) (turned s)
+    either_after s (is_flush_resting s.maintain) (turned (record s { is_granted = granted })) (sweeps_next s granted)
     (record { kept = record { commit = refl; writes = refl; points = refl; taken = refl; used = refl; last = refl; lost = refl }; goes = inl rests })
-    (record { kept = record { commit = refl; writes = refl; points = refl; taken = refl; used = refl; last = refl; lost = refl }; goes = inl rests })
+    (sweep_begins (AfterRest s) s granted (record { kept = record { commit = refl; writes = refl; points = refl; taken = refl; used = refl; last = refl; lost = refl }; goes = inl rests })
+    (record { kept = record { commit = refl; writes = refl; points = refl; taken = refl; used = refl; last = refl; lost = refl }; goes = inl rests }))
 phase_after p s (Some c) said granted rests = by s.rests rests granted
   where
     by : (b : Bool) → b ≡ true → (granted : Bool) → AfterRest s (if b then writes_taken_up s granted else unless_flush_rests s granted (part_begun p s c said granted))

@@ -11,7 +11,7 @@ use Rattle.law_refine.specs.Below.fkv_manifest.TheGating.{Gating}
 use Rattle.law_refine.specs.Below.fkv_manifest.TheGating.TheVariants as gate
 use Rattle.law_refine.specs.Below.fkv_keeper.KeeperTold.TheVariants.{Turned, Begun}
 use Rattle.law_refine.specs.Below.fkv_keeper.TheKeeping.{Keeping}
-use Rattle.law_refine.specs.Below.fkv_keeper.TheKeeping.TheVariants.{Ended, Starts, Maintains, LoadsPhase, Enters, Copies, Seeks, Waits, Writes, Finishes}
+use Rattle.law_refine.specs.Below.fkv_keeper.TheKeeping.TheVariants.{Ended, Starts, Maintains, LoadsPhase, Enters, Copies, Seeks, Waits, Writes, Finishes, Sweeps}
 use Rattle.law_refine.specs.Below.fkv_keeper.CheckpointLaws.{GoesOn, IsBegun, IsCommitAfter, IsFinished}
 use Rattle.law_refine.specs.Below.fkv_keeper.Keeping.{KeeperState}
 use Rattle.law_refine.specs.Below.fkv_keeper.KeeperLaws.{MayRest}
@@ -24,7 +24,7 @@ use Rattle.law_commit.proofs.BegunStands.{AtGate, AtWrites, Stands, StandsAt, ru
 use Rattle.law_commit.proofs.InRest.{come_awake, rest_begun, rests_there}
 
 -- the commit in hand has the next number
-abbrev NextInHand : KeeperState → Type 0
+abbrev pub NextInHand : KeeperState → Type 0
 NextInHand s = (c : Commit) → s.commit ≡ Some c → c.number.0 ≡ s.last.number.0 + 1
 
 pub some_commit : (found : Option Commit) (c d : Commit) → found ≡ Some c → found ≡ Some d → c ≡ d
@@ -69,7 +69,7 @@ event_next shape p s event next turn =
     let move = each_move shape p s event in
     next_after s (keeper_happens shape p s event) s.commit refl next turn move.copies.commit move.lists.lists
 
-run_next : (shape : Shape) (p : Places) (opening : KeeperState) (events : List KeeperEvent) → IsOpened opening → AreNumbersInTurn shape p opening events → NextInHand (keeper_run shape p opening events)
+pub run_next : (shape : Shape) (p : Places) (opening : KeeperState) (events : List KeeperEvent) → IsOpened opening → AreNumbersInTurn shape p opening events → NextInHand (keeper_run shape p opening events)
 unfolding keeper_run AreNumbersInTurn
 run_next shape p opening [] opened turn = λ c e. absurd (not_none opening.commit c opened.no_commit e)
 run_next shape p opening (event ∷ before) opened turn = event_next shape p (keeper_run shape p opening before) event (run_next shape p opening before opened turn.1) turn.0
@@ -121,6 +121,7 @@ event_turn s begun Maintains event after next at its = its
 event_turn s begun LoadsPhase event after next at its = its
 event_turn s begun Enters event after next at its = its
 event_turn s begun Copies event after next at its = its
+event_turn s begun Sweeps event after next at its = its
 event_turn s begun Seeks event after next at its = its
 event_turn s begun Waits event after next at its = its
 

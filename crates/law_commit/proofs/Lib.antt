@@ -6,10 +6,12 @@ mod Counted
 mod Goes
 mod InRest
 mod InTurn
+mod Lasts
 mod LifeBegun
 mod Measured
 mod NewestWritten
 mod NextNumbers
+mod OldBegins
 pub mod OfCopied
 pub mod OfCuts
 pub mod OfDecided
@@ -28,9 +30,12 @@ mod Rising
 mod SessionSteps
 pub mod Shown
 mod Sights
+mod Specified
 mod Stamps
+mod Sweeps
 mod Telling
 mod ToldFinished
+mod Used
 mod WorkedPast
 mod WorkedRuns
 pub mod Below

@@ -14,7 +14,7 @@ use Rattle.law_refine.specs.Below.fkv_manifest.WriteAnswer.{WriteAnswer}
 use Rattle.law_refine.specs.Below.fkv_manifest.WriteAnswer.TheVariants as write
 use Rattle.law_refine.specs.Below.fkv_manifest.Committing.{CommitWriter, commit_next, commit_answer}
 use Rattle.law_refine.specs.Below.fkv_keeper.TheKeeping.{Keeping}
-use Rattle.law_refine.specs.Below.fkv_keeper.TheKeeping.TheVariants.{Ended, Starts, Maintains, LoadsPhase, Enters, Copies, Seeks, Waits, Writes, Finishes}
+use Rattle.law_refine.specs.Below.fkv_keeper.TheKeeping.TheVariants.{Ended, Starts, Maintains, LoadsPhase, Enters, Copies, Seeks, Waits, Writes, Finishes, Sweeps}
 use Rattle.law_refine.specs.Below.fkv_keeper.CheckpointLaws.{BegunWith, IsBeingWritten, IsBehindWait, MayFollow, UsesAs, begun_with, copy_replies}
 use Rattle.law_refine.specs.Below.fkv_keeper.Keeping.{KeeperState, come_to, finish_ledto, finished, keeping_called, keeping_given, keeping_next, lost_left, must_rest, turned, write_ledto}
 use Rattle.law_refine.specs.Below.fkv_keeper.KeeperLaws.{IsWritten, MayRest}
@@ -65,6 +65,7 @@ begins_same s Maintains = tt
 begins_same s LoadsPhase = tt
 begins_same s Enters = tt
 begins_same s Copies = tt
+begins_same s Sweeps = tt
 begins_same s Seeks = tt
 begins_same s Waits = tt
 
@@ -77,6 +78,7 @@ calm_same a w step Maintains calm follows = tt
 calm_same a w step LoadsPhase calm follows = tt
 calm_same a w step Enters calm follows = tt
 calm_same a w step Copies calm follows = tt
+calm_same a w step Sweeps calm follows = tt
 calm_same a w step Seeks calm follows = tt
 calm_same a w step Waits calm follows = tt
 
@@ -153,6 +155,7 @@ awake_same shape p s w event Maintains awake e its = calmly shape p s w event Ma
 awake_same shape p s w event LoadsPhase awake e its = calmly shape p s w event LoadsPhase awake e tt
 awake_same shape p s w event Enters awake e its = calmly shape p s w event Enters awake e tt
 awake_same shape p s w event Copies awake e its = calmly shape p s w event Copies awake e tt
+awake_same shape p s w event Sweeps awake e its = calmly shape p s w event Sweeps awake e tt
 awake_same shape p s w event Seeks awake e its = calmly shape p s w event Seeks awake e tt
 
 -- while they rest

@@ -32,7 +32,7 @@ use Rattle.law_refine.specs.Below.fkv_commit.Starting.{StartState, defer_led, is
 use Rattle.law_refine.specs.Below.fkv_keeper.KeeperTold.{KeeperTold}
 use Rattle.law_refine.specs.Below.fkv_keeper.KeeperTold.TheVariants.{Device}
 use Rattle.law_refine.specs.Below.fkv_keeper.TheKeeping.{Keeping}
-use Rattle.law_refine.specs.Below.fkv_keeper.TheKeeping.TheVariants.{Ended, Starts, Maintains, LoadsPhase, Enters, Copies, Seeks, Waits, Writes, Finishes}
+use Rattle.law_refine.specs.Below.fkv_keeper.TheKeeping.TheVariants.{Ended, Starts, Maintains, LoadsPhase, Enters, Copies, Seeks, Waits, Writes, Finishes, Sweeps}
 use Rattle.law_refine.specs.Below.fkv_keeper.CheckpointLaws.{MayFollow}
 use Rattle.law_refine.specs.Below.fkv_keeper.Keeping.{KeeperState, commit_asked, keeper_ask, keeper_next, keeping_ask, keeping_given, keeping_next, keeping_called, start_ledto, turn_asked}
 use Rattle.law_refine.specs.Below.fkv_keeper.KeeperRun.{KeeperEvent, BeginsTurn, BeginsCommit, Replies, Gets, Calls, IsOpened, begins, is_in_hand, keeper_happens, keeper_run}
@@ -162,6 +162,7 @@ none_starts a Maintains Starts none may = absurd may
 none_starts a LoadsPhase Starts none may = absurd may
 none_starts a Enters Starts none may = absurd may
 none_starts a Copies Starts none may = absurd may
+none_starts a Sweeps Starts none may = absurd may
 none_starts a Seeks Starts none may = absurd may
 none_starts a Waits Starts none may = absurd may
 none_starts a Writes Starts none may = absurd may
@@ -208,6 +209,7 @@ turn_by shape p s Maintains event e next says = other_turn shape p s Maintains e
 turn_by shape p s LoadsPhase event e next says = other_turn shape p s LoadsPhase event e tt
 turn_by shape p s Enters event e next says = other_turn shape p s Enters event e tt
 turn_by shape p s Copies event e next says = other_turn shape p s Copies event e tt
+turn_by shape p s Sweeps event e next says = other_turn shape p s Sweeps event e tt
 turn_by shape p s Seeks event e next says = other_turn shape p s Seeks event e tt
 turn_by shape p s Waits event e next says = other_turn shape p s Waits event e tt
 turn_by shape p s Writes event e next says = other_turn shape p s Writes event e tt
@@ -257,6 +259,7 @@ says_so shape p s Maintains reply granted right = tt
 says_so shape p s LoadsPhase reply granted right = tt
 says_so shape p s Enters reply granted right = tt
 says_so shape p s Copies reply granted right = tt
+says_so shape p s Sweeps reply granted right = tt
 says_so shape p s Seeks reply granted right = tt
 says_so shape p s Waits reply granted right = tt
 says_so shape p s Writes reply granted right = tt

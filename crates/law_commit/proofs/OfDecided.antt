@@ -8,6 +8,7 @@ pub mod EndsRise
 mod KeeperEnds
 pub mod Later
 pub mod Lives
+pub mod Scans
 pub mod Spelled
 pub mod Taken
 mod Tails

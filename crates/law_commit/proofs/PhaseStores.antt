@@ -10,7 +10,7 @@ use Rattle.fkv_plane.specs.Places.{Name, Shared, Drain, Session, Bucket, Overflo
 use Rattle.fkv_epoch.proofs.Shown.{same_or, word_spared}
 use Rattle.law_refine.specs.Below.fkv_keeper.KeeperTold.{KeeperTold}
 use Rattle.law_refine.specs.Below.fkv_keeper.TheKeeping.{Keeping}
-use Rattle.law_refine.specs.Below.fkv_keeper.TheKeeping.TheVariants.{Ended, Starts, Maintains, LoadsPhase, Enters, Copies, Seeks, Waits, Writes, Finishes}
+use Rattle.law_refine.specs.Below.fkv_keeper.TheKeeping.TheVariants.{Ended, Starts, Maintains, LoadsPhase, Enters, Copies, Seeks, Waits, Writes, Finishes, Sweeps}
 use Rattle.law_refine.specs.Below.fkv_keeper.CheckpointLaws.{ChangesItsWords, ChangesOnly, IsPlaceOf, MayChange, MayStore}
 use Rattle.law_refine.specs.Below.fkv_keeper.Keeping.{KeeperState, keeper_ask}
 use Rattle.law_refine.proofs.Below.fkv_keeper.Shown.{run_stores}
@@ -49,6 +49,7 @@ may_not Maintains may = may
 may_not LoadsPhase may = may
 may_not Enters may = may
 may_not Copies may = may
+may_not Sweeps may = may
 may_not Seeks may = may
 may_not Waits may = may
 may_not Writes may = may

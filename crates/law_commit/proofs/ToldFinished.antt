@@ -17,7 +17,7 @@ use Rattle.law_refine.specs.Below.fkv_manifest.TheGating.TheVariants as gate
 use Rattle.law_refine.specs.Below.fkv_keeper.KeeperTold.{KeeperTold}
 use Rattle.law_refine.specs.Below.fkv_keeper.KeeperTold.TheVariants.{Device, Turned}
 use Rattle.law_refine.specs.Below.fkv_keeper.TheKeeping.{Keeping}
-use Rattle.law_refine.specs.Below.fkv_keeper.TheKeeping.TheVariants.{Ended, Starts, Maintains, LoadsPhase, Enters, Copies, Seeks, Waits, Writes, Finishes}
+use Rattle.law_refine.specs.Below.fkv_keeper.TheKeeping.TheVariants.{Ended, Starts, Maintains, LoadsPhase, Enters, Copies, Seeks, Waits, Writes, Finishes, Sweeps}
 use Rattle.law_refine.specs.Below.fkv_keeper.Keeping.{Finality, KeeperState, keeper_ask, keeper_next, keeping_ask}
 use Rattle.law_refine.specs.Below.fkv_keeper.KeeperRun.{KeeperEvent, BeginsTurn, BeginsCommit, Replies, Gets, Calls, IsOpened, is_calling, is_in_hand, keeper_happens, keeper_run}
 use Rattle.law_refine.proofs.Below.fkv_keeper.Shown.{run_number}
@@ -135,6 +135,7 @@ event_commits begun s a Maintains event after e so = sym (not_more after Maintai
 event_commits begun s a LoadsPhase event after e so = sym (not_more after LoadsPhase a.last (commits_finished begun) tt)
 event_commits begun s a Enters event after e so = sym (not_more after Enters a.last (commits_finished begun) tt)
 event_commits begun s a Copies event after e so = sym (not_more after Copies a.last (commits_finished begun) tt)
+event_commits begun s a Sweeps event after e so = sym (not_more after Sweeps a.last (commits_finished begun) tt)
 event_commits begun s a Seeks event after e so = sym (not_more after Seeks a.last (commits_finished begun) tt)
 event_commits begun s a Waits event after e so = sym (not_more after Waits a.last (commits_finished begun) tt)
 

@@ -71,7 +71,7 @@ world_opened its one other = record {
   no_trace = refl;
   no_calls = refl;
   seats = refl;
-  keeper = record { none_in_hand = refl; no_commit = refl; none_rest = refl; none_flushed = refl; works = refl; turns_rest = refl; serves_from = refl };
+  keeper = record { none_in_hand = refl; no_commit = refl; none_rest = refl; none_flushed = refl; works = refl; turns_rest = refl; serves_from = refl; none_swept = (its.sweep.shape, its.sweep.places, refl) };
   sessions = each_opened one other;
 }
 

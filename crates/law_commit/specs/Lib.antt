@@ -1,4 +1,5 @@
 pub mod Accepted
+pub mod Begins
 pub mod BegunCommits
 pub mod Below
 pub mod CommitParts

@@ -1,4 +1,5 @@
 -- What the clauses of `src` say: they take all of it under one name.
+pub use Rattle.law_commit.specs.Begins.{BegunBeginBelow, BegunBeginOn, BegunBeginThen, BeginsNeverFall, OldBeginAsOpened, SpecifiedBeginsStay}
 pub use Rattle.law_commit.specs.Decided.Below.{ButOpenings, EndsRise, FullCommitsSpellChains, IsLaterFromEnd, IsOldBelowFirst, IsRecentFromFirst, IsSettledBelowEnd, IsYoungBelowEnd, OfEachBegun}
 pub use Rattle.law_commit.specs.Decided.Ended.{CommitsHaveEnded}
 pub use Rattle.law_commit.specs.Decided.Later.{AttemptsLaterButPolls, GoesByLater, MakesLaterFrom}
@@ -6,7 +7,7 @@ pub use Rattle.law_commit.specs.Decided.Laws.{ChainsKeepTheOld, ChainsLieBelowTa
 pub use Rattle.law_commit.specs.Floor.OnPaper.{LivesAreOnPaper}
 pub use Rattle.law_commit.specs.Floor.Stands.{FloorAlwaysStands, ViewsAreNear}
 pub use Rattle.law_commit.specs.Laws.Linked.{LinkersHaveMetEmptyChains, LinksMeetEmptyChains}
-pub use Rattle.law_commit.specs.Laws.Pasts.{BegunAreAsKept, BegunAreInTurn, BegunBeginAsOpened, FinishedAreTold, GoesByItsView, ItsVersionIsNotAhead, ItsVersionNeverFalls, KeeperStoresItsPhase, NewestIsAsWritten, NumbersAreInTurn, PastIsWorked, SerialIsThePoint, SerialsCountUpdates, SessionsStoreClaimedPhases, TakesUpWhatIsComing, VersionsNeverFall, ViewsAreStamped}
+pub use Rattle.law_commit.specs.Laws.Pasts.{BegunAreAsKept, BegunAreInTurn, FinishedAreTold, GoesByItsView, ItsVersionIsNotAhead, ItsVersionNeverFalls, KeeperStoresItsPhase, NewestIsAsWritten, NumbersAreInTurn, PastIsWorked, SerialIsThePoint, SerialsCountUpdates, SessionsStoreClaimedPhases, TakesUpWhatIsComing, VersionsNeverFall, ViewsAreStamped}
 pub use Rattle.law_commit.specs.Laws.Phases.{ComingIsAboveSafe, CommitsGoByStages, LiveIsAwake, OpeningShowsSessions, PhaseVersionNeverFalls, RestIsOfTheNextVersion, SafeIsBelowComing, SafeIsBelowViews, StampsAreLoads, ViewsAreAboveSafe}
 pub use Rattle.law_commit.specs.Phases.Projected.{EventsAreShown, OpeningsAreSound, QuietEventsAreShown, RepliesAreShown, SafeIsEnabled}
 pub use Rattle.law_commit.specs.Phases.Running.{KeeperRunsSafely, SessionsRunSafely}

@@ -12,6 +12,7 @@ use Rattle.fkv_plane.specs.Places.{shared_place}
 use Rattle.fkv_epoch.specs.declared.arming.Arming.TheVariants as arm
 use Rattle.fkv_epoch.specs.declared.raising.Raising.TheVariants as raise
 use Rattle.fkv_base.specs.declared.commits.CommitKind.TheVariants.{Full}
+use Rattle.fkv_sweep.specs.Sweeping.{sweep_begun}
 use Rattle.law_refine.specs.Below.fkv_commit.Deferred.{Deferred}
 use Rattle.law_refine.specs.Below.fkv_commit.Deferred.TheVariants.{EntersPhase, ShowsReadOnly}
 use Rattle.law_refine.specs.Below.fkv_commit.TheDeferring.TheVariants.{Raises as RaisesFor}
@@ -45,6 +46,7 @@ resting_keeper s = record s {
   rests = false;
   lost = [];
   maintain = record s.maintain { begin = s.last.begin; flushing = AtRest; step = Through };
+  sweep = sweep_begun s.sweep.shape s.sweep.places s.last.begin s.last.begin;
   step = Ended (Turned false false);
 }
 

@@ -64,10 +64,12 @@ pub fn law_commits_ended()
     ensures { said.CommitsHaveEnded }
 {}
 
-/// So the commit cuts the log at its version, from then on and for good. Each record from its end on is of a later version: by then no update of its version was
-/// left. Below its end none is of a version past the next one, and each from the first tail on stands or was given up. Below its first address none is of a
-/// later version than its own, and from there on none of an earlier one. A newer commit ends no lower. What a full commit writes are triples, no two of one home, each of a bucket of the index. Each leads into its home's chain, below
-/// the commit's end. They cover the chains as these were when the copy began, and since then the chains have got nothing below the commit's first address.
+/// So the commit cuts the log at its version, from then on and for good. Each record from its end on is of a later version: by then no update of its version
+/// was left. Below its end none is of a version past the next one, and each from the first tail on stands or was given up. Below its first address none is of a
+/// later version than its own, and from there on none of an earlier one. A newer commit ends no lower. If the opening's log began at or below the first address
+/// of its checkpoint, so does the log of each, and at or below its own first address. One that uses the opening's checkpoint begins where the opening's does.
+/// What a full commit writes are triples, no two of one home, each of a bucket of the index. Each leads into its home's chain, below the commit's end. They
+/// cover the chains as these were when the copy began, and since then the chains have got nothing below the commit's first address.
 pub fn law_commits_cut()
     ensures later { said.OfEachBegun said.IsLaterFromEnd }
     ensures young { said.OfEachBegun said.IsYoungBelowEnd }
@@ -75,6 +77,8 @@ pub fn law_commits_cut()
     ensures old { said.OfEachBegun (said.ButOpenings said.IsOldBelowFirst) }
     ensures recent { said.OfEachBegun (said.ButOpenings said.IsRecentFromFirst) }
     ensures ends { said.EndsRise }
+    ensures begins { said.BegunBeginBelow }
+    ensures as_opened { said.OldBeginAsOpened }
     ensures triples { said.FullCommitsSpellChains }
 {
     law_copied();

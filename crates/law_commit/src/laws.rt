@@ -27,13 +27,18 @@ pub fn law_view_is_seen()
 /// open only while a commit is written, also where its writes rest, or its words are stored, and for good where a call of the device has failed. It isn't
 /// sealed before its words are stored. Where a commit's words are stored it is the commit in hand, and sealed: it is of the kind that was asked for, with the
 /// number and the first address that its start has told; its triples were written, and its slot, which names its number, begin, end, points, checkpoint and
-/// lost ranges. The log of each begins where that of the opening's does. If the store opened at rest, as each does, each commit that begins has the number
-/// behind the newest finished one's. So their numbers come one behind the other, from the opening's on. Those that are finished are the opening's and those
-/// that callers were told as finished, in their order, each with its number and points.
+/// lost ranges. At a moment of the life the log of each began where that of the newest finished commit did then; or at the end of a sweep that was done then,
+/// and had begun there. It begins nowhere below that of the opening's, nor below that of the commit before it, and in a specified store just where the
+/// opening's does. If the store opened at rest, as each does, each commit that begins has the number behind the newest finished one's. So their numbers come
+/// one behind the other, from the opening's on. Those that are finished are the opening's and those that callers were told as finished, in their order, each
+/// with its number and points.
 pub fn law_begun()
     ensures begun { said.BegunAreAsKept }
     ensures written { said.NewestIsAsWritten }
-    ensures begins { said.BegunBeginAsOpened }
+    ensures begins { said.BegunBeginThen }
+    ensures on { said.BegunBeginOn }
+    ensures rise { said.BeginsNeverFall }
+    ensures stay { said.SpecifiedBeginsStay }
     ensures in_turn { said.BegunAreInTurn }
     ensures numbers { said.NumbersAreInTurn }
     ensures finished { said.FinishedAreTold }

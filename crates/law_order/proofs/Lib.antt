@@ -15,6 +15,7 @@ mod OfRows
 pub mod OfRules
 mod OfServed
 mod OfShifts
+mod OfSwept
 pub mod OfTickets
 mod OfTold
 mod OfTruth

@@ -1,6 +1,7 @@
 pub mod AreaFits
 pub mod Areas
 pub mod AtRest
+pub mod BeginsFit
 pub mod Begun
 pub mod BegunRun
 pub mod Block

@@ -16,5 +16,6 @@ pub mod Rules
 pub mod Said
 pub mod Served
 pub mod Shares
+pub mod Swept
 pub mod Tickets
 pub mod Versions

@@ -7,7 +7,7 @@ pub use Rattle.law_order.specs.Decided.Old.{IsLaterAbove, KeepsWhatCounted, Lose
 pub use Rattle.law_order.specs.InTurn.Laws.{HasFloorInItsLife, KeepsItsViewsNear, KeepsSafeBelowItsComing, KeepsSafeBelowItsViews, NumbersItsCommitsInTurn, OneCommitAlwaysStands, OpensItsStoreAtRest, TellsOfItsLife}
 pub use Rattle.law_order.specs.OneHistory.Beside.{HasItsHistory}
 pub use Rattle.law_order.specs.OneHistory.Committed.{CommittedLife, CrashedLife}
-pub use Rattle.law_order.specs.OneHistory.EachLife.{InEachLife, IsLive, StaysLive}
+pub use Rattle.law_order.specs.OneHistory.EachLife.{CommitsAreLive, InEachLife, IsLive, StaysLive}
 pub use Rattle.law_order.specs.OneHistory.NewLives.{ShapesHaveLives, StoresHaveLives, WorkedLife}
 pub use Rattle.law_order.specs.Opened.{OfItsLives, OfItsSessions}
 pub use Rattle.law_order.specs.Ordered.Keeps.{KeepsItsOrder}
@@ -24,7 +24,7 @@ pub use Rattle.law_order.specs.Recovered.Shows.{StandsOpened}
 pub use Rattle.law_order.specs.Rules.InTime.{ReadsInTime}
 pub use Rattle.law_order.specs.Rules.Openings.{BeginsItsLife, OpensItsCuts, OpensItsDurables, OpensItsEnds, OpensItsPoints, OpensItsVersions, OpensWithItsWords}
 pub use Rattle.law_order.specs.Rules.Ordered.{HasLegalHistory, IsGuarded, OfEachKept, OrdersItsCalls, ReadsFreshly, RunsActionsOnce}
-pub use Rattle.law_order.specs.Rules.Waiting.{WaitingReadsInTime}
+pub use Rattle.law_order.specs.Rules.Waiting.{UntoldReadsInTime, WaitingReadsInTime}
 pub use Rattle.law_order.specs.Shares.{AllShareJustInItsLife, AllShareSinceInItsLife, CountsItsShares, HasNotShifted, HoldsAloneBetweenInItsLife, HoldsApart, HoldsBesideNone, KeepsLatchesApart, LeavesFromPrepareInItsLife, MeetsNoneAloneInItsLife, OfEachSession, OlderComeSharingInItsLife, OlderComesSharing, ShareJustSincePrepare, ShareOnlySinceInItsLife, ShareSincePrepare, SharesInPrepare, SharesInPrepareInItsLife, SharesInTriesOfItsLife, SharesWithTries, ShowsItsLatches}
 pub use Rattle.law_order.specs.Versions.{AsksFromFirst, BegunFlush, BegunHaveItsPoints, CutsShowItsPoint, EffectsOfVersions, GetsNoneBack, HasNoneAtZero, HasNoneLeft, ItsCutsGoOn, LastHasItsPoints, LatchesForSaid, LeftPointSplits, LiveIsLater, NewestIsAsTaken, PointSplitsThen, PointStays, PointsRiseFromLast, PointsSinceAsked, PointsUpToGiven, RankGoesOn, RecordsFromFirst, RecordsKeepVersions, RecordsSeenOlder, RecordsUptoBetween, RecordsUptoNow, TakesForAttempted, TakesFromFirst, TakesItsPoints, UpdatesOwnOrBefore}
 pub use Rattle.law_commit.specs.Below.law_refine.Latches.Shows.{ArePermitted}

@@ -45,7 +45,7 @@ pub use looks::law_looks_true;
 pub use new_lives::law_life_exists;
 pub use one_history::{
     law_history_beside, law_live, law_lives_keep_order, law_lives_keep_rules, law_order,
-    law_waiting_reads,
+    law_untold_reads, law_waiting_reads,
 };
 pub use opened::{
     law_copies_open, law_links_open, law_marks_open, law_serials_open, law_stages_open,

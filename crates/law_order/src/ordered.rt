@@ -23,12 +23,16 @@ pub fn law_rules_kept()
     law_world_ordered();
 }
 
-/// In each such life no try of a read is turned away. At its end it tells its key's value, or that there is none, or it seeks a record of the device: it never ends
-/// as contended, as a shift, or because the index or the log is full.
-/// So each read that waits seeks a record of the device, but for the one that is polled just then. For none is told that its record is gone.
-/// No poll tries it again: it waits for the mailbox alone.
+/// In each such life no try of a read is turned away, be it the first one or a later one. At its end it tells its key's value, or that there is none, or it seeks a
+/// record of the device: it never ends as contended, as a shift, or because the index or the log is full.
+/// Each read that waits seeks a record of the device, or it was told that its record is gone. Then it goes by the begin that was told, above where the log began
+/// at first, and isn't tried yet. So it is of all but the one that is polled just then. A poll tries a read only where it was told so: else it waits for the
+/// mailbox alone.
+/// While the log begins where it did at first none is told so. So each that waits seeks a record, and no poll tries one.
 pub fn law_reads_met()
     ensures met { orders.MeetsReadsInLives }
+    ensures seeking_or_told { orders.SeeksOrWasToldInLives }
+    ensures tried_if_gone { orders.PollsTryWhatIsGoneInLives }
     ensures seeking { orders.SeeksInLives }
     ensures untried { orders.PollsTryNoReadInLives }
 {

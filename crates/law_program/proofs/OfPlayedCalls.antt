@@ -27,4 +27,5 @@ pub mod Scripts
 pub mod Steps
 mod Tickets
 mod ToldToWait
+mod Unswept
 mod Waiting

@@ -2,6 +2,7 @@
 ghost use Rattle.law_program.specs.Said as said;
 
 use crate::whole_calls::law_whole_calls;
+use fkv_core::law_unswept;
 use fkv_runs::Breaks;
 use law_order::{law_finished_is_told, law_order, law_waiting_reads};
 
@@ -15,6 +16,7 @@ pub fn law_each_line<D: Breaks>()
 {
     law_order();
     law_waiting_reads();
+    law_unswept();
     law_finished_is_told();
     law_whole_calls();
 }

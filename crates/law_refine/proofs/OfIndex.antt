@@ -2,7 +2,7 @@ mod Actors
 mod AppendParts
 pub mod AttemptParts
 pub mod Permitted
-mod FindingFacts
+pub mod FindingFacts
 pub mod Goes
 mod Leaves
 pub mod LifeFacts
@@ -10,6 +10,7 @@ pub mod LifeMoves
 pub mod Moved
 mod Openings
 mod OwnAsks
+pub mod Readers
 pub mod SessionAsks
 pub mod SessionParts
 pub mod TryParts

@@ -30,7 +30,8 @@ pub fn law_world_mailbox()
 
 /// In every such life, whatever its events: the record that a session takes from its mailbox is what the keeper read from the device for it,
 /// at the place of the address that the session has asked for last, and at a moment since it asked; and it takes that record once. Or that address lay
-/// below the log's begin at that moment, and the session is told that the record is gone, with that begin, which is the opening's. What was read is the
+/// below the log's begin at that moment, and the session is told that the record is gone, with that begin. This is no lower than the opening's, and no
+/// higher than that of the commit which is the newest finished one now. What was read is the
 /// record whose words stood there then, where each step of a session is permitted, the store was just opened, and the address is one since then and was
 /// flushed by that moment.
 pub fn law_world_taken()

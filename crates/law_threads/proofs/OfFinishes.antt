@@ -6,7 +6,7 @@ use Rattle.law_order.specs.Below.fkv_keeper.CheckpointLaws.{MayFollow, MayStep}
 use Rattle.law_order.specs.Below.fkv_keeper.KeeperTold.{KeeperTold}
 use Rattle.law_order.specs.Below.fkv_keeper.KeeperTold.TheVariants.{Device, Turned}
 use Rattle.law_order.specs.Below.fkv_keeper.TheKeeping.{Keeping}
-use Rattle.law_order.specs.Below.fkv_keeper.TheKeeping.TheVariants.{Ended, Starts, Maintains, LoadsPhase, Enters, Copies, Seeks, Waits, Writes, Finishes}
+use Rattle.law_order.specs.Below.fkv_keeper.TheKeeping.TheVariants.{Ended, Starts, Maintains, LoadsPhase, Enters, Copies, Seeks, Waits, Writes, Finishes, Sweeps}
 use Rattle.law_order.specs.Below.fkv_keeper.Keeping.{KeeperState, come_to, keeper_ask, keeper_next, keeping_called, keeping_given, keeping_next}
 use Rattle.law_order.specs.Below.fkv_keeper.KeeperRun.{KeeperEvent, BeginsTurn, BeginsCommit, Replies, Gets, Calls, IsOpened, is_calling, keeper_happens, keeper_run}
 use Rattle.law_order.specs.Below.fkv_keeper.KeeperLaws.{MayRest}
@@ -116,6 +116,7 @@ follows_what Enters follows = absurd follows
 follows_what Copies follows = absurd follows
 follows_what Seeks follows = absurd follows
 follows_what Waits follows = absurd follows
+follows_what Sweeps follows = absurd follows
 
 not_writing : Writes ≡ Finishes → ⊥
 not_writing e = cc

@@ -12,7 +12,8 @@ use law_order::{
 
 // What crates above name of the table, beside what `specs/Below.antt` shows.
 pub use fkv_table::{
-    Happening, Keeper, KeeperPass, Offsets, OpenTable, Pass, Session, Table, TurnAsk, World, join,
+    Happening, Keeper, KeeperPass, Leave, Offsets, OpenTable, Pass, Session, Table, TurnAsk, World,
+    join,
 };
 
 /// Sessions make their calls at one table, each in any thread. `Session::run` says how a call stands in the list of events. In all lives, with commits too, more

@@ -11,7 +11,7 @@ mod CatchesOuter
 mod Epochs
 pub mod Permitted
 pub mod Finds
-mod FindsOuter
+pub mod FindsOuter
 pub mod Followed
 mod Kept
 pub mod Movers

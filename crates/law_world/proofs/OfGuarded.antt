@@ -22,5 +22,6 @@ pub mod Sleepers
 pub mod Slots
 pub mod SlotsApart
 mod SlotsHeld
+pub mod SweepPlaces
 pub mod WordsWithin
 pub mod Worlds

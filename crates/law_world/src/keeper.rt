@@ -1,5 +1,5 @@
 //! What holds of the keeper, and of what a crash leaves, in every life of a store that was opened: what their own crates prove of every run of it.
-ghost use Rattle.std.specs.Prelude.{◌≡◌, ◌∷◌, ◌++◌, ℕ, Bool, List, false, true};
+ghost use Rattle.std.specs.Prelude.{◌≡◌, ◌≤◌, ◌∷◌, ◌++◌, ℕ, Bool, List, false, true};
 ghost use Rattle.fkv_base.specs.declared.faults.Fault.TheVariants.{Memory};
 ghost use Rattle.fkv_disk.specs.Calls.{MayLeave};
 ghost use Rattle.fkv_keeper.specs.CheckpointLaws.{AreWritesBegun, ChangesItsWords, CopiesOnce, DoesOneThing, HoldsCopy, IsBehindWait, IsBeingWritten, KeepsLists, SparesDurable};
@@ -7,7 +7,8 @@ ghost use Rattle.fkv_keeper.specs.KeeperLaws.{CopiesAgain, IsBrokenForGood, IsFi
 ghost use Rattle.fkv_keeper.specs.KeeperRun.{KeeperEvent, has_failed, is_calling, number_open};
 ghost use Rattle.fkv_keeper.specs.Keeping.{come_to};
 ghost use Rattle.fkv_keeper.specs.LastCommits.{slot_place};
-ghost use Rattle.fkv_keeper.specs.SlotLaws.{BeginsAt};
+ghost use Rattle.fkv_keeper.specs.SlotLaws.{HasBegin};
+ghost use Rattle.fkv_keeper.specs.SweepLaws.{IsBeginAfter, IsSweepAfter};
 ghost use Rattle.fkv_keeper.specs.declared.answers.KeeperTold.TheVariants.{TurnRefused, Turned};
 ghost use Rattle.fkv_keeper.specs.declared.keepers.Keeping.TheVariants.{Ended, Finishes, Waits, Writes};
 ghost use Rattle.fkv_manifest.specs.Kept.{Begins, NewStands};
@@ -72,10 +73,18 @@ pub fn law_world_checkpoints()
         → SparesDurable opening.now.shape opening.now.places (run opening events).now.keeper }
 {}
 
-/// Nothing moves the log's begin. At each moment of a life it is the opening's: for the newest finished commit, for the one in hand, and where mailboxes
-/// are served. No read for a mailbox is below it.
+/// At each moment of a life mailboxes are served of the log of the newest finished commit, and no read for one is below that log's begin. The log of a
+/// commit in hand begins there too, or at the end of a sweep that is done and began there. That is chosen as the commit begins, and stays until it is
+/// finished. So the newest finished commit's log never begins further back. A sweep goes on by its own replies and reads, with no commit in hand. A full
+/// commit that is finished sets how far the next one goes.
 pub fn law_world_begin()
-    ensures { (opening : World) (events : List Event) → IsOpenedWorld opening → BeginsAt opening.now.keeper.last.begin (run opening events).now.keeper }
+    ensures begins { (opening : World) (events : List Event) → IsOpenedWorld opening → HasBegin (run opening events).now.keeper }
+    ensures goes_on { (opening : World) (later before : List Event) → IsOpenedWorld opening
+        → (run opening before).now.keeper.last.begin.0 ≤ (run opening (later ++ before)).now.keeper.last.begin.0 }
+    ensures sweeps { (opening : World) (events : List Event) (event : KeeperEvent) (later before : List KeeperEvent) → keeper_events opening events ≡ later ++ event ∷ before
+        → IsSweepAfter event (keeper_after opening before).step (keeper_after opening before) (keeper_after opening (event ∷ before)) }
+    ensures chooses { (opening : World) (events : List Event) (event : KeeperEvent) (later before : List KeeperEvent) → keeper_events opening events ≡ later ++ event ∷ before
+        → IsBeginAfter (keeper_after opening before).commit (keeper_after opening before) (keeper_after opening (event ∷ before)) }
 {}
 
 /// Over every life of a store of which the keeper was told the truth, as long as each commit that begins has the number behind the newest finished

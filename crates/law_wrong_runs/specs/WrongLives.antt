@@ -20,6 +20,7 @@ use Rattle.fkv_map.specs.History.{IsLegal}
 use Rattle.law_log.specs.Trace.{OrdersCalls, ReadsAreFresh, history_of}
 use Rattle.law_log.specs.Worked.{adds_5, gives_70, no_map}
 use Rattle.fkv_plane.specs.declared.places.Places.{Places}
+use Rattle.fkv_sweep.specs.Sweeping.{sweep_begun}
 use Rattle.law_order.specs.Below.fkv_session.Kinds.{IsOfKind}
 use Rattle.law_order.specs.Below.fkv_session.SessionRun.{Telling}
 use Rattle.law_order.specs.Below.fkv_session.Sessions.{SessionState}
@@ -56,21 +57,22 @@ abbrev pub LeavesOfKind : Call → World → Type 0
 LeavesOfKind its w = IsNewestOfKind its (answers_of 1 w.past.trace)
 
 -- ---- the beginning: a specified store of two sessions that was just opened, whose log begins at 1
--- its keeper has no call, no commit and no part of a turn in hand, and finishes commits for both sessions
-abbrev pub idle : KeeperState → KeeperState
-idle k = record k {
+-- its keeper has no call, no commit and no part of a turn in hand, and nothing to sweep, and finishes commits for both sessions
+abbrev pub idle : Shape → Places → KeeperState → KeeperState
+idle shape places k = record k {
   start = record k.start { asked = record k.start.asked { class = Specified } };
   commit = None;
   is_broken = false;
   rests = false;
-  last = record k.last { begin = record { 0 = 1 } };
+  last = record k.last { begin = record { 0 = 1 }; checkpoint = record k.last.checkpoint { first = record { 0 = 1 } } };
+  sweep = sweep_begun shape places (record { 0 = 1 }) (record { 0 = 1 });
   maintain = record k.maintain { begin = record { 0 = 1 }; flushing = AtRest; step = Through };
   finish = record k.finish { sessions = 2 };
   step = keeping.Ended (Turned false false);
 }
 
 abbrev pub opened_world : Shape → Places → KeeperState → SessionState → SessionState → World
-opened_world shape places keeper one other = first_world shape places (idle keeper) one other
+opened_world shape places keeper one other = first_world shape places (idle shape places keeper) one other
 
 -- session 0 gives key 5 the value 70, by the record at address 1
 abbrev pub gives_events : List Event

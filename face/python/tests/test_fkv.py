@@ -270,6 +270,20 @@ class Stores(OverFile):
         with open(self.path, "rb") as file:
             return file.read(8)
 
+    def test_the_front_of_the_log(self):
+        made, until = 0, time.monotonic() + 60
+        with self.open(fkv.Keeping(commit_ms=5, log_bytes=1 << 14)) as store, store.join() as session:
+            while store.stats.begin == 1 and time.monotonic() < until:
+                for key in range(100):
+                    session.increment(key)
+                made += 1
+            its = store.stats
+            self.assertGreater(its.begin, 1)
+            self.assertGreater(its.swept, 0)
+        with self.open(fkv.Keeping(log_bytes=fkv.LOG_KEEPS)) as store, store.join() as session:
+            self.assertGreaterEqual(store.stats.begin, its.begin)
+            self.assertEqual([session[key] for key in range(100)], [made] * 100)
+
     def test_both_classes(self):
         fkv.make_file(self.path, SMALL)
         self.assertEqual(self.text(), b"FKVSTOR2")

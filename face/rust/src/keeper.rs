@@ -3,7 +3,8 @@ use crate::errors::{Error, answer};
 use crate::raw;
 use crate::session::Session;
 use crate::store::{OpenFile, Progress};
-use std::ffi::c_void;
+use std::ffi::{c_int, c_void};
+use std::io;
 use std::sync::Arc;
 use std::time::Duration;
 use std::{mem, ptr, slice};
@@ -12,6 +13,7 @@ type TellCommitted = Box<dyn FnMut(u64, &[u64]) + Send>;
 type TellProgress = Box<dyn FnMut(Progress) + Send>;
 type TellStopped = Box<dyn FnMut(Error) + Send>;
 type TellUnwarmed = Box<dyn FnMut() + Send>;
+type TellUntrimmed = Box<dyn FnMut(Option<io::Error>) + Send>;
 
 /// How the keeper's thread goes. By default it commits on request alone.
 ///
@@ -23,6 +25,7 @@ pub struct Keeping {
     turn_each: Duration,
     log_commits: u32,
     lets_cool: bool,
+    log_bytes: u64,
     hooks: Hooks,
 }
 
@@ -33,6 +36,7 @@ struct Hooks {
     progress: Option<TellProgress>,
     stopped: Option<TellStopped>,
     unwarmed: Option<TellUnwarmed>,
+    untrimmed: Option<TellUntrimmed>,
 }
 
 impl Keeping {
@@ -82,6 +86,26 @@ impl Keeping {
         self
     }
 
+    /// Gives the log's front back if the log is longer than so many bytes; by default, than twice the records of all keys. That takes commits, a part of
+    /// the thread's time, and a record for each key that stands in the front alone (fkv_start of fkv_posix.h).
+    pub fn log_bytes(mut self, bytes: u64) -> Keeping {
+        self.log_bytes = bytes.max(1);
+        self
+    }
+
+    /// Never gives the log's front back: the file grows as long as keys are updated.
+    pub fn keep_log(mut self) -> Keeping {
+        self.log_bytes = u64::MAX;
+        self
+    }
+
+    /// This is called once, in the keeper's thread, if the log's front can't be given back: with the system's error, or none where the store has no session for it.
+    /// And once with `WouldBlock` if the log is four times as long as it may be, since it grows faster than it is swept.
+    pub fn untrimmed(mut self, tell: impl FnMut(Option<io::Error>) + Send + 'static) -> Keeping {
+        self.hooks.untrimmed = Some(Box::new(tell));
+        self
+    }
+
     /// This is called once, in the keeper's thread, as commits end for good or the log is found full: with what [`Session::tick`] is refused
     /// by from then on.
     pub fn stopped(mut self, tell: impl FnMut(Error) + Send + 'static) -> Keeping {
@@ -119,6 +143,12 @@ extern "C" fn tell_stopped(user: *mut c_void, fault: i32) {
 extern "C" fn tell_unwarmed(user: *mut c_void) {
     if let Some(tell) = &mut unsafe { hooks_of(user) }.unwarmed {
         tell();
+    }
+}
+
+extern "C" fn tell_untrimmed(user: *mut c_void, why: c_int) {
+    if let Some(tell) = &mut unsafe { hooks_of(user) }.untrimmed {
+        tell((why != 0).then(|| io::Error::from_raw_os_error(why)));
     }
 }
 
@@ -163,6 +193,8 @@ impl Keeper {
             stopped: Some(tell_stopped),
             unwarmed: Some(tell_unwarmed),
             no_warmer: u32::from(keeping.lets_cool),
+            log_bytes: keeping.log_bytes,
+            untrimmed: Some(tell_untrimmed),
         };
         let result = answer(unsafe { raw::fkv_start(file.at, &its) });
         if let Err(why) = result {

@@ -1,5 +1,5 @@
 //! The calls of fkv.h and fkv_posix.h, as C declares them.
-use std::ffi::{c_char, c_void};
+use std::ffi::{c_char, c_int, c_void};
 
 #[repr(C)]
 #[derive(Clone, Copy, Default)]
@@ -104,6 +104,7 @@ pub type TellCommitted = extern "C" fn(*mut c_void, u64, *const u64, usize);
 pub type TellFinished = extern "C" fn(*mut c_void, *const Finished);
 pub type TellStopped = extern "C" fn(*mut c_void, i32);
 pub type TellUnwarmed = extern "C" fn(*mut c_void);
+pub type TellUntrimmed = extern "C" fn(*mut c_void, c_int);
 pub type TellPair = extern "C" fn(*mut c_void, u64, u64) -> i32;
 
 #[repr(C)]
@@ -142,6 +143,8 @@ pub struct Stats {
     pub fetched: u64,
     pub kept: u64,
     pub file_bytes: u64,
+    pub disk_bytes: u64,
+    pub swept: u64,
     pub begin: u64,
     pub head: u64,
     pub flushed: u64,
@@ -175,6 +178,8 @@ pub struct Keeping {
     pub stopped: Option<TellStopped>,
     pub unwarmed: Option<TellUnwarmed>,
     pub no_warmer: u32,
+    pub log_bytes: u64,
+    pub untrimmed: Option<TellUntrimmed>,
 }
 
 pub const REASONS: usize = 6;

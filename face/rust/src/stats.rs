@@ -36,7 +36,11 @@ pub struct Stats {
     pub kept: u64,
     /// Bytes of the file.
     pub file_bytes: u64,
-    /// The address of the log's first record, which is 1. Records have addresses in the order in which they were made.
+    /// Bytes that it takes on the disk: what was given back of the log's front takes none.
+    pub disk_bytes: u64,
+    /// Records that sweeps of the log's front have read.
+    pub swept: u64,
+    /// The address at which the log begins: no record below it counts any more. Records have addresses in the order in which they were made.
     pub begin: u64,
     /// Records below this address are read from the file.
     pub head: u64,
@@ -79,6 +83,8 @@ impl Store {
             fetched: its.fetched,
             kept: its.kept,
             file_bytes: its.file_bytes,
+            disk_bytes: its.disk_bytes,
+            swept: its.swept,
             begin: its.begin,
             head: its.head,
             flushed: its.flushed,

@@ -258,6 +258,37 @@ fn what_is_done_is_kept_as_the_keeper_is_dropped() {
 }
 
 #[test]
+fn the_front_of_the_log_is_given_back() {
+    const KEYS: u64 = 100;
+    let path = Path::new("front");
+    let store = path.store(1000);
+    let keeping = Keeping::default()
+        .commit_each(Duration::from_millis(5))
+        .log_bytes(1 << 14);
+    let keeper = store.start(keeping).unwrap();
+    let mut session = store.join_any().unwrap();
+    let (begun, mut made) = (Instant::now(), 0);
+    while store.stats().unwrap().begin == 1 {
+        for key in 0..KEYS {
+            session.increment(key, 1).unwrap();
+            session.tick().unwrap();
+        }
+        made += 1;
+        assert!(begun.elapsed() < Duration::from_secs(60));
+    }
+    let stats = store.stats().unwrap();
+    assert!(stats.swept > 0 && stats.begin <= stats.tail && stats.disk_bytes > 0);
+    drop((session, keeper, store));
+    let store = path.store(1000);
+    assert!(store.stats().unwrap().begin >= stats.begin);
+    let _keeper = store.start(Keeping::default().keep_log()).unwrap();
+    let mut session = store.join_any().unwrap();
+    for key in 0..KEYS {
+        assert_eq!(session.read(key).unwrap(), Some(made));
+    }
+}
+
+#[test]
 fn a_backup_is_a_store() {
     const KEYS: u64 = 200;
     let (path, copy) = (Path::new("saved"), Path::new("copy"));

@@ -1,6 +1,6 @@
 -- A call ends as its kind does: a turn is turned or refused, and a commit has begun or is refused. So each refusal that is told has its cause.
-use Rattle.std.proofs.Common.{◌≡◌, refl, ap, sym, subst, ◌∙◌, List, [], ◌∷◌, ◌++◌, Bool, true, false}
-use Rattle.std.specs.Prelude.{⊤, Option, Some, None, Result, Ok, Err, if◌then◌else◌, ◌||◌}
+use Rattle.std.proofs.Common.{◌≡◌, ℕ, refl, ap, sym, subst, ◌∙◌, List, [], ◌∷◌, ◌++◌, Bool, true, false}
+use Rattle.std.specs.Prelude.{⊤, Option, Some, None, Result, Ok, Err, if◌then◌else◌, ◌||◌, ◌&&◌}
 use Rattle.fkv_base.specs.declared.commits.CommitKind.{CommitKind}
 use Rattle.fkv_base.specs.declared.faults.Fault.{Fault}
 use Rattle.fkv_base.specs.declared.faults.Fault.TheVariants as fault
@@ -28,6 +28,9 @@ use Rattle.fkv_commit.specs.Finishing.{finish_ask, finish_next}
 use Rattle.fkv_commit.specs.Seeking.{seek_ask, seek_next}
 use Rattle.fkv_commit.specs.Starting.{start_ask, start_next}
 use Rattle.fkv_commit.specs.Waiting.{wait_ask, wait_next}
+use Rattle.fkv_sweep.specs.declared.sweeping.SweepAnswer.{SweepAnswer}
+use Rattle.fkv_sweep.specs.declared.sweeping.SweepAnswer.TheVariants as swept
+use Rattle.fkv_sweep.specs.Sweeping.{is_sweeping, sweep_ask, sweep_next, sweep_read}
 use Rattle.fkv_manifest.specs.declared.answers.WriteAnswer.{WriteAnswer}
 use Rattle.fkv_manifest.specs.declared.answers.WriteAnswer.TheVariants as write
 use Rattle.fkv_manifest.specs.Committing.{commit_answer, commit_next}
@@ -37,9 +40,9 @@ use Rattle.fkv_maintain.specs.Maintaining.{maintain_ask, maintain_called, mainta
 use Rattle.fkv_keeper.specs.declared.answers.KeeperTold.TheVariants.{Begun, CommitRefused, Device, Turned, TurnRefused}
 use Rattle.fkv_keeper.specs.declared.answers.Turn.{Turn}
 use Rattle.fkv_keeper.specs.declared.keepers.Keeping.{Keeping}
-use Rattle.fkv_keeper.specs.declared.keepers.Keeping.TheVariants.{Copies, Ended, Enters, Finishes, LoadsPhase, Maintains, Seeks, Starts, Waits, Writes}
+use Rattle.fkv_keeper.specs.declared.keepers.Keeping.TheVariants.{Copies, Ended, Enters, Finishes, LoadsPhase, Maintains, Seeks, Starts, Sweeps, Waits, Writes}
 use Rattle.fkv_keeper.specs.DrainLaws.{call_told}
-use Rattle.fkv_keeper.specs.Keeping.{must_rest, KeeperState, copies, copies_next, copy_driven, copy_ledto, copy_taken, copy_told, ended, enter_ledto, finish_ledto, finished, is_copy_resting, keeping_ask, keeping_called, keeping_given, keeping_next, maintain_ledto, part_begun, phase_ledto, seek_ledto, start_ledto, turned, wait_ledto, write_ledto, writes_begun, writes_called}
+use Rattle.fkv_keeper.specs.Keeping.{must_rest, KeeperState, copies, copies_next, copy_driven, copy_ledto, copy_taken, copy_told, ended, enter_ledto, finish_ledto, finished, is_copy_resting, keeping_ask, keeping_called, keeping_given, keeping_next, maintain_ledto, part_begun, phase_ledto, seek_ledto, start_ledto, sweep_called, sweep_ledto, turned, wait_ledto, write_ledto, writes_begun, writes_called}
 use Rattle.fkv_keeper.specs.KeeperRun.{BeginsCommit, BeginsTurn, Calls, Gets, IsOpened, KeeperEvent, Replies, is_calling, is_in_hand, keeper_run}
 use Rattle.fkv_keeper.specs.Running.{IsBeginTold, IsTurnTold}
 use Rattle.law_causes.specs.Causes.{HasCommitCause, kind_after, kind_asked}
@@ -101,7 +104,7 @@ part_on p s c said granted = tt
 
 phase_on : (p : Places) (s : KeeperState) (found : Option Commit) (said : PhaseSaid) (granted : Bool) → OnTurn (phase_ledto p s found said granted).step
 unfolding phase_ledto
-phase_on p s None said granted = either (is_flush_resting s.maintain) _ _ tt tt
+phase_on p s None said granted = either (is_flush_resting s.maintain) _ _ tt (either (granted && is_sweeping s.sweep) _ _ tt tt)
 phase_on p s (Some c) said granted = either s.rests _ _ (either granted _ _ tt tt) (either (is_flush_resting s.maintain) _ _ tt (part_on p s c said granted))
 
 enter_on : (t : KeeperState) (ask : Ask EnterAnswer) → t.step ≡ Enters → OnTurn (enter_ledto t ask).step
@@ -146,6 +149,15 @@ unfolding finish_ledto
 finish_on t (Done its) e = finished_on t t.commit
 finish_on t ask e = still t Finishes e tt
 
+sweep_on : (t : KeeperState) (ask : Ask SweepAnswer) → t.step ≡ Sweeps → OnTurn (sweep_ledto t ask).step
+unfolding sweep_ledto
+sweep_on t (Done swept.Through) e = tt
+sweep_on t ask e = still t Sweeps e tt
+
+swept_on : (s : KeeperState) (done : Bool) (bytes : List ℕ) → s.step ≡ Sweeps → OnTurn (sweep_called s done bytes).step
+swept_on s true bytes e = sweep_on (record s { sweep = sweep_read s.sweep bytes }) (sweep_ask (sweep_read s.sweep bytes)) e
+swept_on s false bytes e = tt
+
 write_on : (t : KeeperState) (found : Option Commit) (its : WriteAnswer) → t.step ≡ Writes → OnTurn (write_ledto t found its).step
 unfolding write_ledto
 write_on t None its e = tt
@@ -181,9 +193,11 @@ module _ (shape : Shape) (p : Places) where
   turn_at s Seeks (Replies reply granted) e busy on = seek_on (record s { seek = seek_next s.seek reply }) (seek_ask (seek_next s.seek reply)) e
   turn_at s Waits (Replies reply granted) e busy on = wait_on shape (record s { wait = wait_next s.wait reply }) (wait_ask (wait_next s.wait reply)) e
   turn_at s Finishes (Replies reply granted) e busy on = finish_on (record s { finish = finish_next s.finish reply }) (finish_ask s.seek.points (finish_next s.finish reply)) e
+  turn_at s Sweeps (Replies reply granted) e busy on = sweep_on (record s { sweep = sweep_next s.sweep reply }) (sweep_ask (sweep_next s.sweep reply)) e
   turn_at s Maintains (Gets action) e busy on = maintain_on (record s { maintain = maintain_given s.maintain action }) (maintain_ask shape p (maintain_given s.maintain action)) e
   turn_at s Maintains (Calls done bytes) e busy on = maintain_on (record s { maintain = maintain_called shape p s.maintain done bytes }) (maintain_ask shape p (maintain_called shape p s.maintain done bytes)) e
   turn_at s Writes (Calls done bytes) e busy on = written_on s done e
+  turn_at s Sweeps (Calls done bytes) e busy on = swept_on s done bytes e
   turn_at s step event e busy on = still s step e on
 
   commit_at : (s : KeeperState) (step : Keeping) (event : KeeperEvent) → s.step ≡ step → is_in_hand step ≡ true → OnCommit step → OnCommit (happens_at shape p s step event).step

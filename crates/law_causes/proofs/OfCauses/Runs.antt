@@ -1,6 +1,6 @@
 -- What holds of a keeper while a call is in hand, and how the call ends.
 use Rattle.std.proofs.Common.{◌≡◌, ℕ, refl, inl, inr, ap, sym, subst, ◌∙◌, List, Bool, true, false}
-use Rattle.std.specs.Prelude.{⊤, [], ◌∷◌, ◌++◌, length, Option, Some, None, if◌then◌else◌, ◌||◌}
+use Rattle.std.specs.Prelude.{⊤, [], ◌∷◌, ◌++◌, length, Option, Some, None, if◌then◌else◌, ◌||◌, ◌&&◌}
 use Rattle.fkv_base.specs.declared.commits.CommitKind.{CommitKind}
 use Rattle.fkv_base.specs.declared.faults.Fault.{Fault}
 use Rattle.fkv_base.specs.declared.faults.Fault.TheVariants as fault
@@ -45,6 +45,9 @@ use Rattle.fkv_commit.specs.Points.{seek_told, sought}
 use Rattle.fkv_commit.specs.Seeking.{SeekState, seek_ask, seek_begun, seek_next, seeking_ask}
 use Rattle.fkv_commit.specs.Starting.{start_ask, start_begun, start_next}
 use Rattle.fkv_commit.specs.Waiting.{wait_ask, wait_next}
+use Rattle.fkv_sweep.specs.declared.sweeping.SweepAnswer.{SweepAnswer}
+use Rattle.fkv_sweep.specs.declared.sweeping.SweepAnswer.TheVariants as swept
+use Rattle.fkv_sweep.specs.Sweeping.{is_sweeping, sweep_ask, sweep_next, sweep_read}
 use Rattle.fkv_manifest.specs.declared.answers.WriteAnswer.{WriteAnswer}
 use Rattle.fkv_manifest.specs.declared.answers.WriteAnswer.TheVariants as write
 use Rattle.fkv_manifest.specs.Committing.{commit_answer, commit_next}
@@ -54,9 +57,9 @@ use Rattle.fkv_maintain.specs.Maintaining.{MaintainState, maintain_ask, maintain
 use Rattle.fkv_keeper.specs.declared.answers.KeeperTold.{KeeperTold}
 use Rattle.fkv_keeper.specs.declared.answers.KeeperTold.TheVariants.{CommitRefused, TurnRefused}
 use Rattle.fkv_keeper.specs.declared.keepers.Keeping.{Keeping}
-use Rattle.fkv_keeper.specs.declared.keepers.Keeping.TheVariants.{Copies, Ended, Enters, Finishes, LoadsPhase, Maintains, Seeks, Starts, Waits, Writes}
+use Rattle.fkv_keeper.specs.declared.keepers.Keeping.TheVariants.{Copies, Ended, Enters, Finishes, LoadsPhase, Maintains, Seeks, Starts, Sweeps, Waits, Writes}
 use Rattle.fkv_keeper.specs.DrainLaws.{call_told, told_after, told_anew}
-use Rattle.fkv_keeper.specs.Keeping.{must_rest, parts_begun, asked_for, KeeperState, commit_asked, copies, copies_next, copy_driven, copy_ledto, device_passed, ended, enter_ledto, finish_ledto, finished, keeping_ask, keeping_called, keeping_given, keeping_next, maintain_ledto, part_begun, phase_ledto, seek_ledto, start_ledto, turn_asked, turn_over, turned, wait_ledto, write_ledto, writes_begun, writes_called, is_copy_resting, copy_taken, copy_told, serves_alone}
+use Rattle.fkv_keeper.specs.Keeping.{must_rest, parts_begun, asked_for, KeeperState, commit_asked, copies, copies_next, copy_driven, copy_ledto, device_passed, ended, enter_ledto, finish_ledto, finished, keeping_ask, keeping_called, keeping_given, keeping_next, maintain_ledto, part_begun, phase_ledto, seek_ledto, start_ledto, sweep_called, sweep_ledto, turn_asked, turn_over, turned, wait_ledto, write_ledto, writes_begun, writes_called, is_copy_resting, copy_taken, copy_told, serves_alone}
 use Rattle.fkv_keeper.specs.KeeperRun.{BeginsCommit, BeginsTurn, Calls, Gets, IsOpened, KeeperEvent, Replies, begins, is_calling, is_in_hand, keeper_happens, keeper_run}
 use Rattle.fkv_keeper.proofs.Shown.{run_rests}
 use Rattle.law_causes.specs.Causes.{HasCommitCause, HasFailed, HasRestingWrites, HasTurnCause, IsFailure, IsMemoryRefusal, IsShown, kind_after, kind_asked}
@@ -255,6 +258,11 @@ module _ (before : List KeeperEvent) (was : KeeperState) (event : KeeperEvent) (
   finish_led t (Done its) e works = finished_led t t.commit works
   finish_led t ask e works = at t Finishes e works tt
 
+  sweep_led : (t : KeeperState) (ask : Ask SweepAnswer) → t.step ≡ Sweeps → Works t → Outcome (sweep_ledto t ask)
+  unfolding sweep_ledto
+  sweep_led t (Done swept.Through) e works = over t works
+  sweep_led t ask e works = at t Sweeps e works tt
+
   write_led : (t : KeeperState) (found : Option Commit) (its : WriteAnswer) → t.step ≡ Writes → Works t → Outcome (write_ledto t found its)
   unfolding write_ledto
   write_led t None its e works = over t works
@@ -280,7 +288,8 @@ module _ (before : List KeeperEvent) (was : KeeperState) (event : KeeperEvent) (
   phase_led : (p : Places) (s : KeeperState) (found : Option Commit) (said : PhaseSaid) (granted : Bool) → Works s → ((c : Commit) → found ≡ Some c → c.is_copied ≡ false → granted ≡ false → is_copy_resting s.copy ≡ false → IsMemoryRefusal was event)
       → Outcome (phase_ledto p s found said granted)
   unfolding phase_ledto
-  phase_led p s None said granted works refused = either (is_flush_resting s.maintain) _ _ (over (record s { is_granted = granted }) works) (over s works)
+  phase_led p s None said granted works refused = either (is_flush_resting s.maintain) _ _ (over (record s { is_granted = granted }) works)
+      (either (granted && is_sweeping s.sweep) _ _ (record { broken = works; comes = tt }) (over (record s { is_granted = granted }) works))
   phase_led p s (Some c) said granted works refused =
       either s.rests _ _ (either granted _ _ (record { broken = works; comes = tt }) (over (record s { is_granted = false }) works))
       (either (is_flush_resting s.maintain) _ _ (over (record s { is_granted = granted }) works) (part_led p s c said granted works (refused c refl)))
@@ -341,6 +350,9 @@ module _ (shape : Shape) (p : Places) (before : List KeeperEvent) (asked : Optio
   reply_at s Finishes reply granted told e in_hand works knows =
       let t : KeeperState = record s { finish = finish_next s.finish reply } in
       finish_led before s (Replies reply granted) asked _ t (finish_ask s.seek.points t.finish) e (sooner (Replies reply granted) s works)
+  reply_at s Sweeps reply granted told e in_hand works knows =
+      let t : KeeperState = record s { sweep = sweep_next s.sweep reply } in
+      sweep_led before s (Replies reply granted) asked _ t (sweep_ask t.sweep) e (sooner (Replies reply granted) s works)
 
   still_at : (s : KeeperState) (event : KeeperEvent) (step : Keeping) (told : List Exchange) → s.step ≡ step → is_in_hand step ≡ true → Broken s → During asked s step told → Outcome before s event asked told s
   still_at s event (Ended its) told e in_hand works knows = absurd (let clash : true ≡ false = sym in_hand in cc)
@@ -360,6 +372,12 @@ module _ (shape : Shape) (p : Places) (before : List KeeperEvent) (asked : Optio
       write_led before s (Calls true bytes) asked told t s.commit (commit_answer t.writes) e (sooner (Calls true bytes) s works)
   written_at s false bytes told e works = record { broken = λ is. (bytes, inl refl); comes = (bytes, refl) }
 
+  swept_at : (s : KeeperState) (done : Bool) (bytes : List ℕ) (told : List Exchange) → s.step ≡ Sweeps → Broken s → Outcome before s (Calls done bytes) asked told (sweep_called s done bytes)
+  swept_at s true bytes told e works =
+      let t : KeeperState = record s { sweep = sweep_read s.sweep bytes } in
+      sweep_led before s (Calls true bytes) asked told t (sweep_ask t.sweep) e (sooner (Calls true bytes) s works)
+  swept_at s false bytes told e works = record { broken = λ is. (bytes, inl refl); comes = (bytes, refl) }
+
   called_at : (s : KeeperState) (step : Keeping) (done : Bool) (bytes : List ℕ) (told : List Exchange) → s.step ≡ step → is_in_hand step ≡ true → Broken s → During asked s step told
       → Outcome before s (Calls done bytes) asked told (keeping_called shape p s step done bytes)
   unfolding keeping_called
@@ -368,6 +386,7 @@ module _ (shape : Shape) (p : Places) (before : List KeeperEvent) (asked : Optio
       maintain_led before s (Calls done bytes) asked told shape p t (maintain_ask shape p t.maintain) e refl (sooner (Calls done bytes) s works)
       (maintain_made_call (WasEpochLast told) (IsFailure (Calls done bytes)) shape p s.maintain done bytes knows (λ failed. (bytes, ap (λ (d : Bool). Calls d bytes) failed)))
   called_at s Writes done bytes told e in_hand works knows = written_at s done bytes told e works
+  called_at s Sweeps done bytes told e in_hand works knows = swept_at s done bytes told e works
   called_at s step done bytes told e in_hand works knows = still_at s (Calls done bytes) step told e in_hand works knows
 
 -- ---- an event that begins a call or goes on with one

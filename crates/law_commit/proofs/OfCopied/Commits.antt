@@ -36,9 +36,10 @@ use Rattle.law_refine.specs.Below.fkv_maintain.MaintainAnswer.{MaintainAnswer}
 use Rattle.law_refine.specs.Below.fkv_maintain.MaintainAnswer.TheVariants as maintain
 use Rattle.law_refine.specs.Below.fkv_maintain.Maintaining.{is_flush_resting, maintain_ask, maintain_called, maintain_given, maintain_next}
 use Rattle.law_refine.specs.Below.fkv_keeper.TheKeeping.{Keeping}
-use Rattle.law_refine.specs.Below.fkv_keeper.TheKeeping.TheVariants.{Ended, Starts, Maintains, LoadsPhase, Enters, Copies, Seeks, Waits, Writes, Finishes}
-use Rattle.law_refine.specs.Below.fkv_keeper.Keeping.{KeeperState, commit_asked, copied, copies, copy_driven, copy_ledto, enter_ledto, finish_ledto, finished, keeping_called, keeping_given, keeping_next, maintain_ledto, must_rest, part_begun, phase_ledto, points_known, seek_ledto, start_ledto, turn_asked, wait_ledto, write_ledto, writes_begun, is_copy_resting, copy_told}
+use Rattle.law_refine.specs.Below.fkv_keeper.TheKeeping.TheVariants.{Ended, Starts, Maintains, LoadsPhase, Enters, Copies, Seeks, Waits, Writes, Finishes, Sweeps}
+use Rattle.law_refine.specs.Below.fkv_keeper.Keeping.{KeeperState, begin_next, commit_asked, copied, copies, copy_driven, copy_ledto, enter_ledto, finish_ledto, finished, keeping_called, keeping_given, keeping_next, maintain_ledto, must_rest, part_begun, phase_ledto, points_known, seek_ledto, start_ledto, turn_asked, wait_ledto, write_ledto, writes_begun, is_copy_resting, copy_told}
 use Rattle.law_refine.specs.Below.fkv_keeper.KeeperRun.{KeeperEvent, BeginsTurn, BeginsCommit, Replies, Gets, Calls, begins, is_in_hand, keeper_happens}
+use Rattle.law_commit.proofs.Sweeps.{sweep_begins, sweep_moves, sweep_reads}
 
 -- a commit that was in hand before, as it was begun, and was copied then or is being copied
 pub record WasInHand (s : KeeperState) (c : Commit) : Type 0 where
@@ -69,7 +70,7 @@ not_log Log e log = cc
 started : (s t : KeeperState) (ask : Ask StartAnswer) → t.commit ≡ s.commit → IsCopiedFrom s (start_ledto t ask).commit
 unfolding start_ledto
 started s t (Done (start.Begun number first)) same = λ c is full is_copied.
-    let its : commit_begun number t.start.asked.kind t.last.begin first ≡ c = some_same (commit_begun number t.start.asked.kind t.last.begin first) c is in
+    let its : commit_begun number t.start.asked.kind (begin_next t first) first ≡ c = some_same (commit_begun number t.start.asked.kind (begin_next t first) first) c is in
     absurd (not_log t.start.asked.kind (ap (λ (x : Commit). x.kind) its ∙ full) (ap (λ (x : Commit). x.is_copied) its ∙ is_copied))
 started s t (Done (start.Refused why)) same = stays s t.commit same
 started s t (Done start.Idle) same = stays s t.commit same
@@ -97,7 +98,7 @@ part_same p s c said granted = refl
 
 phase_same : (p : Places) (s : KeeperState) (found : Option Commit) (said : PhaseSaid) (granted : Bool) → (phase_ledto p s found said granted).commit ≡ s.commit
 unfolding phase_ledto
-phase_same p s None said granted = either (is_flush_resting s.maintain) _ _ s.commit refl refl
+phase_same p s None said granted = either (is_flush_resting s.maintain) _ _ s.commit refl (sweep_begins (λ (x : KeeperState). x.commit ≡ s.commit) s granted refl refl)
 phase_same p s (Some c) said granted = either s.rests _ _ s.commit (either granted _ _ s.commit refl refl) (either (is_flush_resting s.maintain) _ _ s.commit refl (part_same p s c said granted))
 
 entered_same : (t : KeeperState) (ask : Ask EnterAnswer) → (enter_ledto t ask).commit ≡ t.commit
@@ -174,6 +175,7 @@ replied shape p s Seeks reply granted at = sought s (record s { seek = seek_next
 replied shape p s Waits reply granted at = stays s _ (waited_same shape (record s { wait = wait_next s.wait reply }) (wait_ask (wait_next s.wait reply)))
 replied shape p s Writes reply granted at = stays s s.commit refl
 replied shape p s Finishes reply granted at = finishes s (record s { finish = finish_next s.finish reply }) (finish_ask s.seek.points (finish_next s.finish reply)) refl
+replied shape p s Sweeps reply granted at = sweep_moves (λ (x : KeeperState). IsCopiedFrom s x.commit) s reply (λ w. stays s s.commit refl) (λ w. stays s s.commit refl)
 
 given_same : (shape : Shape) (p : Places) (s : KeeperState) (step : Keeping) (action : Action) → (keeping_given shape p s step action).commit ≡ s.commit
 unfolding keeping_given
@@ -185,6 +187,7 @@ unfolding keeping_called
 called_same shape p s Maintains done bytes = maintained (record s { maintain = maintain_called shape p s.maintain done bytes }) (maintain_ask shape p (maintain_called shape p s.maintain done bytes))
 called_same shape p s Writes true bytes = written_same (record s { writes = commit_next s.writes true }) s.commit (commit_answer (commit_next s.writes true))
 called_same shape p s Writes false bytes = refl
+called_same shape p s Sweeps done bytes = sweep_reads (λ (x : KeeperState). x.commit ≡ s.commit) s done bytes (λ w. refl) (λ w. refl) (λ w. refl)
 called_same shape p s step done bytes = refl
 
 begins_same : (s begun : KeeperState) (busy : Bool) → begun.commit ≡ s.commit → (begins s busy begun).commit ≡ s.commit

@@ -19,7 +19,7 @@ use Rattle.law_refine.specs.Below.fkv_commit.Finishing.{finishing_ask, point_of}
 use Rattle.law_refine.specs.Below.fkv_keeper.KeeperTold.{KeeperTold}
 use Rattle.law_refine.specs.Below.fkv_keeper.KeeperTold.TheVariants.{Device}
 use Rattle.law_refine.specs.Below.fkv_keeper.TheKeeping.{Keeping}
-use Rattle.law_refine.specs.Below.fkv_keeper.TheKeeping.TheVariants.{Ended, Starts, Maintains, LoadsPhase, Enters, Copies, Seeks, Waits, Writes, Finishes}
+use Rattle.law_refine.specs.Below.fkv_keeper.TheKeeping.TheVariants.{Ended, Starts, Maintains, LoadsPhase, Enters, Copies, Seeks, Waits, Writes, Finishes, Sweeps}
 use Rattle.law_refine.specs.Below.fkv_keeper.Keeping.{KeeperState, keeper_ask, keeper_next, keeping_ask}
 use Rattle.law_refine.specs.Below.fkv_keeper.KeeperRun.{KeeperEvent, BeginsCommit, BeginsTurn, Calls as CallsDevice, Replies, keeper_happens, keeper_run}
 use Rattle.law_refine.specs.Below.fkv_session.Sessions.{SessionState, Seat, session_ask}
@@ -161,6 +161,7 @@ is_storing number s Maintains e = StoringNone (λ finishes. let clash : Maintain
 is_storing number s LoadsPhase e = StoringNone (λ finishes. let clash : LoadsPhase ≡ Finishes = sym e ∙ finishes in cc)
 is_storing number s Enters e = StoringNone (λ finishes. let clash : Enters ≡ Finishes = sym e ∙ finishes in cc)
 is_storing number s Copies e = StoringNone (λ finishes. let clash : Copies ≡ Finishes = sym e ∙ finishes in cc)
+is_storing number s Sweeps e = StoringNone (λ finishes. let clash : Sweeps ≡ Finishes = sym e ∙ finishes in cc)
 is_storing number s Seeks e = StoringNone (λ finishes. let clash : Seeks ≡ Finishes = sym e ∙ finishes in cc)
 is_storing number s Waits e = StoringNone (λ finishes. let clash : Waits ≡ Finishes = sym e ∙ finishes in cc)
 is_storing number s Writes e = StoringNone (λ finishes. let clash : Writes ≡ Finishes = sym e ∙ finishes in cc)

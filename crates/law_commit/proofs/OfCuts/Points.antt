@@ -20,7 +20,7 @@ use Rattle.law_refine.specs.Below.fkv_manifest.WriteAnswer.TheVariants as write
 use Rattle.law_refine.specs.Below.fkv_manifest.Committing.{commit_answer, commit_next}
 use Rattle.law_refine.specs.Below.fkv_keeper.KeeperTold.TheVariants.{Turned}
 use Rattle.law_refine.specs.Below.fkv_keeper.TheKeeping.{Keeping}
-use Rattle.law_refine.specs.Below.fkv_keeper.TheKeeping.TheVariants.{Ended, Starts, Maintains, LoadsPhase, Enters, Copies, Seeks, Waits, Writes, Finishes}
+use Rattle.law_refine.specs.Below.fkv_keeper.TheKeeping.TheVariants.{Ended, Starts, Maintains, LoadsPhase, Enters, Copies, Seeks, Waits, Writes, Finishes, Sweeps}
 use Rattle.law_refine.specs.Below.fkv_keeper.CheckpointLaws.{IsFinished, MayFollow, SparesDurable, SparesWord}
 use Rattle.law_refine.specs.Below.fkv_keeper.Keeping.{KeeperState, finish_ledto, finished, keeper_ask, keeping_ask, keeping_called, keeping_given, keeping_next, must_rest, turned, write_ledto, come_to}
 use Rattle.law_refine.specs.Below.fkv_keeper.KeeperLaws.{MayRest}
@@ -44,6 +44,7 @@ plain s Maintains number other = refl
 plain s LoadsPhase number other = refl
 plain s Enters number other = refl
 plain s Copies number other = refl
+plain s Sweeps number other = refl
 plain s Seeks number other = refl
 plain s Waits number other = refl
 plain s Writes number other = refl
@@ -66,6 +67,7 @@ goes_not Maintains finishes writes follows = follows
 goes_not LoadsPhase finishes writes follows = follows
 goes_not Enters finishes writes follows = follows
 goes_not Copies finishes writes follows = follows
+goes_not Sweeps finishes writes follows = follows
 goes_not Seeks finishes writes follows = follows
 goes_not Waits finishes writes follows = follows
 
@@ -210,6 +212,7 @@ module _ (shape : Shape) (p : Places) (number : ℕ) where
     event_on LoadsPhase e inside in_hand = calm_on (λ ends. let clash : LoadsPhase ≡ Finishes = sym e ∙ ends in cc) (λ writes. let clash : LoadsPhase ≡ Writes = sym e ∙ writes in cc)
     event_on Enters e inside in_hand = calm_on (λ ends. let clash : Enters ≡ Finishes = sym e ∙ ends in cc) (λ writes. let clash : Enters ≡ Writes = sym e ∙ writes in cc)
     event_on Copies e inside in_hand = calm_on (λ ends. let clash : Copies ≡ Finishes = sym e ∙ ends in cc) (λ writes. let clash : Copies ≡ Writes = sym e ∙ writes in cc)
+    event_on Sweeps e inside in_hand = calm_on (λ ends. let clash : Sweeps ≡ Finishes = sym e ∙ ends in cc) (λ writes. let clash : Sweeps ≡ Writes = sym e ∙ writes in cc)
     event_on Seeks e inside in_hand = calm_on (λ ends. let clash : Seeks ≡ Finishes = sym e ∙ ends in cc) (λ writes. let clash : Seeks ≡ Writes = sym e ∙ writes in cc)
     event_on Waits e inside in_hand = calm_on (λ ends. let clash : Waits ≡ Finishes = sym e ∙ ends in cc) (λ writes. let clash : Waits ≡ Writes = sym e ∙ writes in cc)
 

@@ -35,10 +35,10 @@ use Rattle.law_commit.proofs.OfPhases.LifeStages.{event_on, life_staged}
 use Rattle.law_commit.proofs.OfPhases.StageMoves.{LedOn, Quietly, QuietKeeper, RunBySession}
 
 -- ---- moments
-had_on : (P : Now → Type 0) (opening : World) (before : List Event) (event : Event) → HadMoment P opening before → HadMoment P opening (event ∷ before)
+pub had_on : (P : Now → Type 0) (opening : World) (before : List Event) (event : Event) → HadMoment P opening before → HadMoment P opening (event ∷ before)
 had_on P opening before event its = record { moment = its.moment; later = event ∷ its.later; split = ap (λ (x : List Event). event ∷ x) its.split; was = its.was }
 
-had_then : (P : Now → Type 0) (opening : World) (before : List Event) (event : Event) → P (run opening before).now → HadMoment P opening (event ∷ before)
+pub had_then : (P : Now → Type 0) (opening : World) (before : List Event) (event : Event) → P (run opening before).now → HadMoment P opening (event ∷ before)
 had_then P opening before event was = record { moment = before; later = event ∷ []; split = refl; was = was }
 
 -- a moment of the life up to a moment

@@ -3,7 +3,7 @@ use Rattle.std.proofs.Common.{◌≡◌, ◌⊎◌, ℕ, ◌<◌, ◌≤◌, inl
 use Rattle.std.specs.Prelude.{Some, if◌then◌else◌}
 use Rattle.law_refine.specs.Below.fkv_commit.Commit.{Commit}
 use Rattle.law_refine.specs.Below.fkv_keeper.TheKeeping.{Keeping}
-use Rattle.law_refine.specs.Below.fkv_keeper.TheKeeping.TheVariants.{Ended, Starts, Maintains, LoadsPhase, Enters, Copies, Seeks, Waits, Writes, Finishes}
+use Rattle.law_refine.specs.Below.fkv_keeper.TheKeeping.TheVariants.{Ended, Starts, Maintains, LoadsPhase, Enters, Copies, Seeks, Waits, Writes, Finishes, Sweeps}
 use Rattle.law_refine.specs.Below.fkv_keeper.Keeping.{KeeperState, come_to}
 use Rattle.fkv_words.specs.PhaseWords.{phase_said}
 use Rattle.law_refine.specs.Below.fkv_world.Runs.{World, run}
@@ -50,6 +50,7 @@ has_points g s Maintains at fits written = absurd written
 has_points g s LoadsPhase at fits written = absurd written
 has_points g s Enters at fits written = absurd written
 has_points g s Copies at fits written = absurd written
+has_points g s Sweeps at fits written = absurd written
 has_points g s Seeks at fits written = absurd written
 has_points g s Waits at fits written = absurd written
 

@@ -48,11 +48,12 @@ use Rattle.law_refine.specs.Below.fkv_maintain.MaintainAnswer.TheVariants as mai
 use Rattle.law_refine.specs.Below.fkv_maintain.Maintaining.{is_flush_resting, maintain_ask, maintain_called, maintain_given, maintain_next}
 use Rattle.law_refine.specs.Below.fkv_keeper.KeeperTold.TheVariants.{CommitRefused, TurnRefused}
 use Rattle.law_refine.specs.Below.fkv_keeper.TheKeeping.{Keeping}
-use Rattle.law_refine.specs.Below.fkv_keeper.TheKeeping.TheVariants.{Ended, Starts, Maintains, LoadsPhase, Enters, Copies, Seeks, Waits, Writes, Finishes}
+use Rattle.law_refine.specs.Below.fkv_keeper.TheKeeping.TheVariants.{Ended, Starts, Maintains, LoadsPhase, Enters, Copies, Seeks, Waits, Writes, Finishes, Sweeps}
 use Rattle.law_refine.specs.Below.fkv_keeper.KeeperRun.{is_in_hand}
-use Rattle.law_refine.specs.Below.fkv_keeper.Keeping.{KeeperState, commit_asked, copied, copies, copies_next, copy_driven, copy_ledto, ended, enter_ledto, finish_ledto, finished, keeping_called, keeping_given, keeping_next, maintain_ledto, must_rest, part_begun, parts_begun, phase_ledto, points_known, seek_ledto, serves_alone, start_ledto, triples_written, turn_asked, turned, unless_flush_rests, wait_ledto, write_ledto, writes_begun, writes_called, writes_taken_up, copy_taken, is_copy_resting, copy_told, asked_for}
+use Rattle.law_refine.specs.Below.fkv_keeper.Keeping.{KeeperState, commit_asked, copied, copies, copies_next, copy_driven, copy_ledto, ended, enter_ledto, finish_ledto, finished, keeping_called, keeping_given, keeping_next, maintain_ledto, must_rest, part_begun, parts_begun, phase_ledto, points_known, seek_ledto, serves_alone, start_ledto, sweeps_next, triples_written, turn_asked, turned, unless_flush_rests, wait_ledto, write_ledto, writes_begun, writes_called, writes_taken_up, copy_taken, is_copy_resting, copy_told, asked_for}
 use Rattle.law_refine.specs.Below.fkv_world.World.{keeper_asked}
 use Rattle.law_commit.specs.Decided.Ended.{Span, span_in}
+use Rattle.law_commit.proofs.Sweeps.{sweep_begins, sweep_moves, sweep_reads}
 
 some_same : {X : Type 0} {x y : X} → ◌≡◌ {A = Option X} (Some x) (Some y) → x ≡ y
 some_same e = cc
@@ -129,6 +130,7 @@ module _ (F : Version → Addr → Type 0) (E : Span → Type 0) where
   KeepingEnds s Starts = IsHeld s × StartEnds s.start.step
   KeepingEnds s Maintains = (s.is_broken ≡ false) × IsHeld s
   KeepingEnds s LoadsPhase = (s.is_broken ≡ false) × IsHeld s
+  KeepingEnds s Sweeps = (s.is_broken ≡ false) × IsHeld s
   KeepingEnds s Copies = HandFirst s.commit × (s.has_points ≡ true → ⊥) × (s.rests ≡ false)
   KeepingEnds s Seeks = SeeksSo s s.seek.step
   KeepingEnds s Waits = (s.has_points ≡ true) × Hand s × (s.rests ≡ false)
@@ -288,7 +290,7 @@ module _ (F : Version → Addr → Type 0) (E : Span → Type 0) where
 
   phase_ends : (p : Places) (s : KeeperState) (found : Option Commit) (said : PhaseSaid) (granted : Bool) → s.commit ≡ found → (s.is_broken ≡ false) × IsHeld s → KeeperEnds (phase_ledto p s found said granted)
   unfolding phase_ledto
-  phase_ends p s None said granted is its = lets_ends s granted (turned s) its.1 (λ works. its.1)
+  phase_ends p s None said granted is its = lets_ends s granted (sweeps_next s granted) its.1 (sweep_begins KeeperEnds s granted its (λ works. its.1))
   phase_ends p s (Some c) said granted is its =
       either_ends s.rests (writes_taken_up s granted) (unless_flush_rests s granted (part_begun p s c said granted)) (λ rests. taken_up_ends s granted its.1 (held_at s true rests its.1))
       (λ awake. lets_ends s granted (part_begun p s c said granted) its.1 (part_ends p s c said granted awake is its.0 (held_at s false awake its.1)))
@@ -458,6 +460,7 @@ module _ (F : Version → Addr → Type 0) (E : Span → Type 0) where
   replied_ends shape p s Waits reply granted at its first end = waited_ends shape (record s { wait = wait_next s.wait reply }) (wait_ask (wait_next s.wait reply)) at its
   replied_ends shape p s Writes reply granted at its first end = stays s Writes at its
   replied_ends shape p s Finishes reply granted at its first end = finish_ends (record s { finish = finish_next s.finish reply }) (finish_ask s.seek.points (finish_next s.finish reply)) at its
+  replied_ends shape p s Sweeps reply granted at its first end = sweep_moves KeeperEnds s reply (λ w. stays (record s { sweep = w }) Sweeps at its) (λ w works. its.1)
 
   pub given_ends : (shape : Shape) (p : Places) (s : KeeperState) (step : Keeping) (action : Action) → s.step ≡ step → KeepingEnds s step → KeeperEnds (keeping_given shape p s step action)
   unfolding keeping_given
@@ -468,6 +471,7 @@ module _ (F : Version → Addr → Type 0) (E : Span → Type 0) where
   unfolding keeping_called
   called_ends shape p s Maintains done bytes at its = maintained_ends (record s { maintain = maintain_called shape p s.maintain done bytes }) (maintain_ask shape p (maintain_called shape p s.maintain done bytes)) at its
   called_ends shape p s Writes done bytes at its = writes_ends s done at its
+  called_ends shape p s Sweeps done bytes at its = sweep_reads KeeperEnds s done bytes (λ w. stays (record s { sweep = w }) Sweeps at its) (λ w works. its.1) (λ w works. cc)
   called_ends shape p s step done bytes at its = stays s step at its
 
   -- what is begun where no call is in hand
@@ -555,6 +559,7 @@ module _ (F G : Version → Addr → Type 0) (E H : Span → Type 0) (firsts : (
   keeping_map s Starts its = (held_map s its.0, start_map s.start.step its.1)
   keeping_map s Maintains its = (its.0, held_map s its.1)
   keeping_map s LoadsPhase its = (its.0, held_map s its.1)
+  keeping_map s Sweeps its = (its.0, held_map s its.1)
   keeping_map s Copies its = (first_map s.commit its.0, its.1, its.2)
   keeping_map s Seeks its = record { works = its.works; awake = its.awake; none_yet = its.none_yet; first = first_map s.commit its.first; copied = its.copied; ends = seek_map s.commit s.copy s.seek.step its.ends }
   keeping_map s Waits its = (its.0, hand_map s.commit s.has_points s.copy its.1, its.2)

@@ -48,15 +48,16 @@ use Rattle.law_refine.specs.Below.fkv_maintain.Maintaining.{is_flush_resting, ma
 use Rattle.law_refine.specs.Below.fkv_keeper.KeeperTold.{KeeperTold}
 use Rattle.law_refine.specs.Below.fkv_keeper.KeeperTold.TheVariants.{CommitRefused, TurnRefused}
 use Rattle.law_refine.specs.Below.fkv_keeper.TheKeeping.{Keeping}
-use Rattle.law_refine.specs.Below.fkv_keeper.TheKeeping.TheVariants.{Ended, Starts, Maintains, LoadsPhase, Enters, Copies, Seeks, Waits, Writes, Finishes}
+use Rattle.law_refine.specs.Below.fkv_keeper.TheKeeping.TheVariants.{Ended, Starts, Maintains, LoadsPhase, Enters, Copies, Seeks, Waits, Writes, Finishes, Sweeps}
 use Rattle.law_refine.specs.Below.fkv_keeper.KeeperRun.{is_in_hand}
-use Rattle.law_refine.specs.Below.fkv_keeper.Keeping.{KeeperState, commit_asked, copied, copies, copies_next, copy_driven, copy_ledto, ended, enter_ledto, finish_ledto, finished, keeping_called, keeping_given, keeping_next, maintain_ledto, must_rest, part_begun, parts_begun, phase_ledto, points_known, seek_ledto, serves_alone, start_ledto, turn_asked, turned, unless_flush_rests, wait_ledto, write_ledto, writes_begun, writes_called, writes_taken_up, copy_taken, is_copy_resting, copy_told, asked_for}
+use Rattle.law_refine.specs.Below.fkv_keeper.Keeping.{KeeperState, commit_asked, copied, copies, copies_next, copy_driven, copy_ledto, ended, enter_ledto, finish_ledto, finished, keeping_called, keeping_given, keeping_next, maintain_ledto, must_rest, part_begun, parts_begun, phase_ledto, points_known, seek_ledto, serves_alone, start_ledto, turn_asked, turned, unless_flush_rests, wait_ledto, write_ledto, writes_begun, writes_called, writes_taken_up, copy_taken, is_copy_resting, copy_told, asked_for, sweeps_next}
 use Rattle.law_refine.specs.Below.fkv_world.World.{keeper_asked}
 use Rattle.law_refine.specs.Below.law_world.GuardKeeper.KeeperShown.{KeepingKnows}
 use Rattle.law_refine.proofs.Footprint.Commits.{finish_stores, seek_stores, start_stores}
 use Rattle.law_commit.specs.Phases.Staged.{Stage, StepAt}
 use Rattle.law_commit.proofs.OfFloor.KeeperFits.{EnterFits, Ground, HandFits, IsEnding, IsSafeEnding, KeeperFits, KeepingFits, SeekFits, StartFits, WaitFits}
 use Rattle.law_commit.proofs.OfFloor.PartsFit.{EnterReply, SeekReply, SeekTells, StartReply, StartTells, WaitReply, enter_goes_fits, enter_put_fits, owing_fits, seek_goes_fits, seek_put_fits, seek_tells_fits, start_goes_fits, start_put_fits, start_tells_fits, wait_goes_fits}
+use Rattle.law_commit.proofs.Sweeps.{sweep_begins, sweep_moves, sweep_reads}
 
 -- ---- where the hand stays
 some_same : {X : Type 0} {x y : X} → ◌≡◌ {A = Option X} (Some x) (Some y) → x ≡ y
@@ -120,7 +121,7 @@ lets_fits g s granted its hand led = either_fits g (is_flush_resting s.maintain)
 
 phase_fits : (g : Ground) (p : Places) (s : KeeperState) (found : Option Commit) (said : PhaseSaid) (granted : Bool) → s.commit ≡ found → HandFits g s.commit s.has_points s.rests → KeeperFits g (phase_ledto p s found said granted)
 unfolding phase_ledto
-phase_fits g p s None said granted is hand = lets_fits g s granted (turned s) hand (ended_fits g s _ hand)
+phase_fits g p s None said granted is hand = lets_fits g s granted (sweeps_next s granted) hand (sweep_begins (KeeperFits g) s granted (record { hand = hand; step = tt }) (record { hand = hand; step = tt }))
 phase_fits g p s (Some c) said granted is hand =
     either_fits g s.rests (writes_taken_up s granted) (unless_flush_rests s granted (part_begun p s c said granted)) (λ rests. taken_up_fits g s granted hand rests)
     (λ awake. lets_fits g s granted (part_begun p s c said granted) hand (part_fits g p s c said granted awake is hand))
@@ -232,6 +233,8 @@ keeper_goes_fits g l number stage shape p s Waits reply granted at is knows read
 keeper_goes_fits g l number stage shape p s Writes reply granted at is knows ready says hand fits = stays_fits g s Writes at hand fits
 keeper_goes_fits g l number stage shape p s Finishes reply granted at is knows ready says hand fits =
     finish_fits g (record s { finish = record s.finish { step = finishing_next s.finish s.finish.step } }) (finish_ask s.seek.points (record s.finish { step = finishing_next s.finish s.finish.step })) at hand fits.0 fits.1
+keeper_goes_fits g l number stage shape p s Sweeps reply granted at is knows ready says hand fits =
+    sweep_moves (KeeperFits g) s reply (λ w. stays_fits g (record s { sweep = w }) Sweeps at hand tt) (λ w. record { hand = hand; step = tt })
 
 -- behind rest no commit is in hand
 rest_fits_at : (g : Ground) (shape : Shape) (p : Places) (s : KeeperState) (c : Commit) (step : Finishing) (reply : ℕ) (granted : Bool) → finish_stores step ≡ true → s.commit ≡ Some c → s.rests ≡ false
@@ -299,6 +302,9 @@ pub called_fits : (g : Ground) (shape : Shape) (p : Places) (s : KeeperState) (s
 unfolding keeping_called
 called_fits g shape p s Maintains done bytes at hand fits its = maintained_fits g (record s { maintain = maintain_called shape p s.maintain done bytes }) (maintain_ask shape p (maintain_called shape p s.maintain done bytes)) at hand
 called_fits g shape p s Writes done bytes at hand fits its = writes_fit g s done at hand fits.0 fits.1
+called_fits g shape p s Sweeps done bytes at hand fits its =
+    sweep_reads (KeeperFits g) s done bytes (λ w. stays_fits g (record s { sweep = w }) Sweeps at hand tt) (λ w. record { hand = hand; step = tt })
+    (λ w. record { hand = record { first = hand.first; points = hand.points; rests = λ e. cc }; step = tt })
 called_fits g shape p s step done bytes at hand fits its = its
 
 -- ---- what is begun where no call is in hand

@@ -38,7 +38,7 @@ use Rattle.law_refine.specs.Below.fkv_commit.Waiting.{WaitState, waiting_ask}
 use Rattle.law_refine.specs.Below.fkv_flush.GuardLevels.{Levels}
 use Rattle.law_refine.specs.Below.fkv_keeper.KeeperTold.{KeeperTold}
 use Rattle.law_refine.specs.Below.fkv_keeper.TheKeeping.{Keeping}
-use Rattle.law_refine.specs.Below.fkv_keeper.TheKeeping.TheVariants.{Ended, Starts, Maintains, LoadsPhase, Enters, Copies, Seeks, Waits, Writes, Finishes}
+use Rattle.law_refine.specs.Below.fkv_keeper.TheKeeping.TheVariants.{Ended, Starts, Maintains, LoadsPhase, Enters, Copies, Seeks, Waits, Writes, Finishes, Sweeps}
 use Rattle.law_refine.specs.Below.fkv_keeper.Keeping.{KeeperState, keeping_ask}
 use Rattle.law_refine.specs.Below.law_world.GuardKeeper.CommitShown.{EnterKnows, IsDeferring, SeekKnows, StartKnows}
 use Rattle.law_refine.specs.Below.law_world.GuardKeeper.KeeperShown.{KeepingKnows}
@@ -126,6 +126,7 @@ module _ (g h : Ground) (over : IsOver g h) where
   keeping_over l s Maintains knows fits = tt
   keeping_over l s LoadsPhase knows fits = tt
   keeping_over l s Copies knows fits = tt
+  keeping_over l s Sweeps knows fits = tt
 
   pub hand_over : (commit : Option Commit) (has_points resting : Bool) → HandFits g commit has_points resting → HandFits h commit has_points resting
   hand_over commit has_points resting hand = record {
@@ -213,5 +214,6 @@ module _ (g : Ground) (words : List ℕ) (tail : word_at words (shared_place one
     keeper_reply shape p s Maintains knows is = tt
     keeper_reply shape p s LoadsPhase knows is = tt
     keeper_reply shape p s Copies knows is = tt
+    keeper_reply shape p s Sweeps knows is = tt
     keeper_reply shape p s Writes knows is = tt
     keeper_reply shape p s Finishes knows is = tt

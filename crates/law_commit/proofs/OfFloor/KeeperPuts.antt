@@ -5,13 +5,25 @@ use Rattle.fkv_base.specs.declared.numbers.Addr.{Addr}
 use Rattle.fkv_base.specs.declared.numbers.Serial.{Serial}
 use Rattle.fkv_base.specs.declared.numbers.Version.{Version}
 use Rattle.fkv_base.specs.declared.shapes.Shape.{Shape}
+use Rattle.fkv_plane.specs.declared.asks.Ask.{Ask}
+use Rattle.fkv_plane.specs.declared.asks.Ask.TheVariants.{Done}
 use Rattle.fkv_plane.specs.declared.places.Places.{Places}
+use Rattle.fkv_plane.specs.Passing.{passed}
 use Rattle.fkv_epoch.specs.declared.arming.Arming.{Arming}
 use Rattle.fkv_epoch.specs.declared.arming.Arming.TheVariants as arm
 use Rattle.fkv_epoch.specs.declared.raising.Raising.{Raising}
 use Rattle.fkv_epoch.specs.declared.raising.Raising.TheVariants as raise
 use Rattle.fkv_epoch.specs.Arming.{arm_ask}
 use Rattle.fkv_epoch.specs.Raising.{raise_ask}
+use Rattle.fkv_index.specs.declared.finding.FindStep.{FindStep}
+use Rattle.fkv_index.specs.declared.finding.FindStep.TheVariants as find
+use Rattle.fkv_index.specs.declared.finding.Finding.{Finding}
+use Rattle.fkv_index.specs.Finding.{find_ask, find_step_ask}
+use Rattle.fkv_sweep.specs.declared.sweeping.SweepAnswer.{SweepAnswer}
+use Rattle.fkv_sweep.specs.declared.sweeping.SweepAnswer.TheVariants as sweep
+use Rattle.fkv_sweep.specs.declared.sweeping.Sweeping.{Sweeping}
+use Rattle.fkv_sweep.specs.declared.sweeping.Sweeping.TheVariants as sweeping
+use Rattle.fkv_sweep.specs.Sweeping.{Sweeper, sweep_ask, sweeping_ask}
 use Rattle.law_refine.specs.Below.fkv_checkpoint.CopyStep.{CopyStep}
 use Rattle.law_refine.specs.Below.fkv_checkpoint.CopyStep.TheVariants as copy
 use Rattle.law_refine.specs.Below.fkv_checkpoint.Copying.{Copier, copy_step_ask}
@@ -39,8 +51,8 @@ use Rattle.law_refine.specs.Below.fkv_manifest.WriteAnswer.TheVariants as write
 use Rattle.law_refine.specs.Below.fkv_manifest.Committing.{commit_answer}
 use Rattle.law_refine.specs.Below.fkv_keeper.KeeperTold.{KeeperTold}
 use Rattle.law_refine.specs.Below.fkv_keeper.TheKeeping.{Keeping}
-use Rattle.law_refine.specs.Below.fkv_keeper.TheKeeping.TheVariants.{Ended, Starts, Maintains, LoadsPhase, Enters, Copies, Seeks, Waits, Writes, Finishes}
-use Rattle.law_refine.specs.Below.fkv_keeper.Keeping.{KeeperState, copy_asked, keeping_ask, write_asked}
+use Rattle.law_refine.specs.Below.fkv_keeper.TheKeeping.TheVariants.{Ended, Starts, Maintains, LoadsPhase, Enters, Copies, Seeks, Waits, Writes, Finishes, Sweeps}
+use Rattle.law_refine.specs.Below.fkv_keeper.Keeping.{KeeperState, copy_asked, keeping_ask, sweep_passed, write_asked}
 use Rattle.law_refine.proofs.OfRecords.Puts.{is_put, put_passed}
 use Rattle.law_commit.specs.Phases.Staged.{EnterAt, SeekAt, Stage, StartAt, StepAt}
 
@@ -137,6 +149,32 @@ copy_put : (its : Option Copier) → is_put (copy_asked its) ≡ false
 copy_put None = refl
 copy_put (Some m) = copy_step_put m.copying.base m.copying.step
 
+find_put : (its : Finding) (step : FindStep) → is_put (find_step_ask its step) ≡ false
+unfolding find_step_ask
+find_put its find.AtRest = refl
+find_put its (find.LoadsSlot slot) = refl
+find_put its find.LoadsLink = refl
+find_put its (find.LoadsTaken word) = refl
+find_put its (find.TakesBucket word taken) = refl
+find_put its (find.LinksBucket word) = refl
+
+sweep_put : (w : Sweeper) (step : Sweeping) → is_put (sweeping_ask w step) ≡ false
+unfolding sweeping_ask
+sweep_put w sweeping.AtRest = refl
+sweep_put w sweeping.LoadsHead = refl
+sweep_put w sweeping.Takes = refl
+sweep_put w sweeping.Meets = refl
+sweep_put w (sweeping.Finds key) = put_passed (find_ask w.finding) sweep.Through ∙ find_put w.finding w.finding.step
+sweep_put w (sweeping.LoadsKey key addr) = refl
+sweep_put w (sweeping.LoadsHeader key addr) = refl
+sweep_put w (sweeping.Reads key addr) = refl
+
+swept_put : (ask : Ask SweepAnswer) (told : KeeperTold) → is_put (sweep_passed ask told) ≡ is_put ask
+unfolding sweep_passed passed
+swept_put (Done sweep.Device) told = refl
+swept_put (Done sweep.Through) told = refl
+swept_put ask told = refl
+
 wait_put : (step : Waiting) → is_put (waiting_ask step) ≡ false
 unfolding waiting_ask
 wait_put (waiting.Ended told) = refl
@@ -171,6 +209,7 @@ keeper_puts number stage shape p s Maintains is so = tt
 keeper_puts number stage shape p s (Ended told) is so = cc
 keeper_puts number stage shape p s LoadsPhase is so = cc
 keeper_puts number stage shape p s Copies is so = clash _ (put_passed (copy_asked s.copy) _ ∙ copy_put s.copy) so
+keeper_puts number stage shape p s Sweeps is so = clash _ (swept_put (sweep_ask s.sweep) _ ∙ sweep_put s.sweep s.sweep.step) so
 keeper_puts number stage shape p s Waits is so = clash _ (put_passed (waiting_ask s.wait.step) _ ∙ wait_put s.wait.step) so
 keeper_puts number stage shape p s Writes is so = clash _ (write_put (commit_answer s.writes) _) so
 keeper_puts number stage shape p s Finishes is so = clash _ (put_passed (finishing_ask s.seek.points s.finish s.finish.step) _ ∙ finish_put s.seek.points s.finish s.finish.step) so

@@ -29,7 +29,7 @@ use Rattle.law_refine.specs.Below.fkv_commit.Starting.{StartState}
 use Rattle.law_refine.specs.Below.fkv_flush.GuardLevels.{levels_of}
 use Rattle.law_refine.specs.Below.fkv_flush.GuardWorld.{GuardWorld, epoch_world, guard_run}
 use Rattle.law_refine.specs.Below.fkv_keeper.TheKeeping.{Keeping}
-use Rattle.law_refine.specs.Below.fkv_keeper.TheKeeping.TheVariants.{Ended, Starts, Maintains, LoadsPhase, Enters, Copies, Seeks, Waits, Writes, Finishes}
+use Rattle.law_refine.specs.Below.fkv_keeper.TheKeeping.TheVariants.{Ended, Starts, Maintains, LoadsPhase, Enters, Copies, Seeks, Waits, Writes, Finishes, Sweeps}
 use Rattle.law_refine.specs.Below.fkv_keeper.Keeping.{KeeperState, commit_asked, keeper_ask, keeper_next, keeping_next, turn_asked}
 use Rattle.law_refine.specs.Below.fkv_maintain.TheMaintaining.{Maintaining}
 use Rattle.law_refine.specs.Below.fkv_maintain.TheMaintaining.TheVariants as maintain
@@ -115,6 +115,7 @@ kept_ready g s Maintains none = tt
 kept_ready g s LoadsPhase none = tt
 kept_ready g s Enters none = tt
 kept_ready g s Copies none = tt
+kept_ready g s Sweeps none = tt
 kept_ready g s Waits none = tt
 kept_ready g s Writes none = tt
 kept_ready g s Finishes none = tt
@@ -505,6 +506,7 @@ module _ (opening : World) (start : ℕ) (guarded : guard.IsOpened opening.now s
     stored_by LoadsPhase is own_store at_step version moves = absurd own_store
     stored_by Enters is own_store at_step version moves = absurd own_store
     stored_by Copies is own_store at_step version moves = absurd own_store
+    stored_by Sweeps is own_store at_step version moves = absurd own_store
     stored_by Waits is own_store at_step version moves = absurd own_store
     stored_by Writes is own_store at_step version moves = absurd own_store
 
@@ -649,6 +651,7 @@ module _ (opening : World) (start : ℕ) (guarded : guard.IsOpened opening.now s
     puts_by (Ended told) is puts = absurd puts
     puts_by LoadsPhase is puts = absurd puts
     puts_by Copies is puts = absurd puts
+    puts_by Sweeps is puts = absurd puts
     puts_by Waits is puts = absurd puts
     puts_by Writes is puts = absurd puts
     puts_by Finishes is puts = absurd puts

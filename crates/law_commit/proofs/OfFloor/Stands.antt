@@ -5,7 +5,7 @@ use Rattle.fkv_base.specs.declared.numbers.Version.{Version}
 use Rattle.law_refine.specs.Below.fkv_commit.Commit.{Commit}
 use Rattle.law_refine.specs.Below.fkv_flush.GuardWorld.{guard_run}
 use Rattle.law_refine.specs.Below.fkv_keeper.TheKeeping.{Keeping}
-use Rattle.law_refine.specs.Below.fkv_keeper.TheKeeping.TheVariants.{Ended, Starts, Maintains, LoadsPhase, Enters, Copies, Seeks, Waits, Writes, Finishes}
+use Rattle.law_refine.specs.Below.fkv_keeper.TheKeeping.TheVariants.{Ended, Starts, Maintains, LoadsPhase, Enters, Copies, Seeks, Waits, Writes, Finishes, Sweeps}
 use Rattle.law_refine.specs.Below.fkv_keeper.KeeperRun.{is_in_hand}
 use Rattle.law_refine.specs.Below.fkv_keeper.Keeping.{KeeperState, come_to}
 use Rattle.law_refine.specs.Below.fkv_session.Sessions.{SessionState}
@@ -143,6 +143,7 @@ module _ (opening : World) (start : ℕ) (events : List Event) (number : Version
   written_end s LoadsPhase c at fits is written = absurd written
   written_end s Enters c at fits is written = absurd written
   written_end s Copies c at fits is written = absurd written
+  written_end s Sweeps c at fits is written = absurd written
   written_end s Seeks c at fits is written = absurd written
   written_end s Waits c at fits is written = absurd written
 

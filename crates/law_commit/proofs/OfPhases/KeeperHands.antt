@@ -18,6 +18,15 @@ use Rattle.fkv_epoch.specs.Claiming.{claim_ask, claim_given, claim_next}
 use Rattle.fkv_epoch.specs.Raising.{raise_ask}
 use Rattle.fkv_epoch.specs.Arming.{arm_ask}
 use Rattle.fkv_epoch.specs.Scanning.{scan_ask, scan_next}
+use Rattle.fkv_index.specs.declared.finding.FindStep.{FindStep}
+use Rattle.fkv_index.specs.declared.finding.FindStep.TheVariants as find
+use Rattle.fkv_index.specs.declared.finding.Finding.{Finding}
+use Rattle.fkv_index.specs.Finding.{find_ask, find_step_ask}
+use Rattle.fkv_sweep.specs.declared.sweeping.SweepAnswer.{SweepAnswer}
+use Rattle.fkv_sweep.specs.declared.sweeping.SweepAnswer.TheVariants as sweep
+use Rattle.fkv_sweep.specs.declared.sweeping.Sweeping.{Sweeping}
+use Rattle.fkv_sweep.specs.declared.sweeping.Sweeping.TheVariants as sweeping
+use Rattle.fkv_sweep.specs.Sweeping.{Sweeper, sweep_ask, sweeping_ask}
 use Rattle.law_refine.specs.Below.fkv_log.MoveAnswer.{MoveAnswer}
 use Rattle.law_refine.specs.Below.fkv_log.MoveAnswer.TheVariants as moved
 use Rattle.law_refine.specs.Below.fkv_log.ShiftAnswer.{ShiftAnswer}
@@ -79,10 +88,11 @@ use Rattle.law_refine.specs.Below.fkv_maintain.Maintaining.{MaintainState, claim
 use Rattle.law_refine.specs.Below.fkv_keeper.KeeperTold.{KeeperTold}
 use Rattle.law_refine.specs.Below.fkv_keeper.KeeperTold.TheVariants.{TurnRefused, CommitRefused}
 use Rattle.law_refine.specs.Below.fkv_keeper.TheKeeping.{Keeping}
-use Rattle.law_refine.specs.Below.fkv_keeper.TheKeeping.TheVariants.{Ended, Starts, Maintains, LoadsPhase, Enters, Copies, Seeks, Waits, Writes, Finishes}
-use Rattle.law_refine.specs.Below.fkv_keeper.Keeping.{KeeperState, commit_asked, copies, copies_next, copy_asked, copy_driven, copy_ledto, device_passed, ended, enter_ledto, finish_ledto, finished, keeper_next, keeping_ask, keeping_called, keeping_given, keeping_next, maintain_ledto, part_begun, phase_ledto, seek_ledto, start_ledto, turn_asked, turned, wait_ledto, write_asked, write_ledto, writes_begun, writes_called, copy_taken, is_copy_resting, must_rest, parts_begun, serves_alone, unless_flush_rests, writes_taken_up, asked_for}
+use Rattle.law_refine.specs.Below.fkv_keeper.TheKeeping.TheVariants.{Ended, Starts, Maintains, LoadsPhase, Enters, Copies, Seeks, Waits, Writes, Finishes, Sweeps}
+use Rattle.law_refine.specs.Below.fkv_keeper.Keeping.{KeeperState, commit_asked, copies, copies_next, copy_asked, copy_driven, copy_ledto, device_passed, ended, enter_ledto, finish_ledto, finished, keeper_next, keeping_ask, keeping_called, keeping_given, keeping_next, maintain_ledto, part_begun, phase_ledto, seek_ledto, start_ledto, sweep_passed, sweeps_next, turn_asked, turned, wait_ledto, write_asked, write_ledto, writes_begun, writes_called, copy_taken, is_copy_resting, must_rest, parts_begun, serves_alone, unless_flush_rests, writes_taken_up, asked_for}
 use Rattle.law_commit.specs.Phases.Staged.{DefersAt, DefersReadOnly, EnterAt, SeekAt, Stage, StartAt, StepAt, Prepares, DefersProgress, Progresses, DefersPending, Pends, claim_hand, defer_moves, enter_moves, keeper_hand, keeping_hand, keeping_moves, maintain_hand, is_resting, phase_in, seek_moves, stage_out, stage_phase, stage_version, start_moves}
 use Rattle.law_commit.proofs.OfPhases.SessionHands.{PutsNone, claim_given_hand, claim_next_none, claim_puts, passed_puts, raise_puts, arm_puts, scan_puts, shift_puts, turn_puts}
+use Rattle.law_commit.proofs.Sweeps.{sweep_begins, sweep_moves, sweep_reads}
 
 -- ---- a turn's parts
 abbrev TurnHasNone : MaintainState → Type 0
@@ -228,7 +238,7 @@ lets_none s granted its none = either_none (is_flush_resting s.maintain) (turned
 
 phase_none : (p : Places) (s : KeeperState) (found : Option Commit) (said : PhaseSaid) (granted : Bool) → HasNone (phase_ledto p s found said granted)
 unfolding phase_ledto
-phase_none p s None said granted = lets_none s granted (turned s) refl
+phase_none p s None said granted = lets_none s granted (sweeps_next s granted) (sweep_begins HasNone s granted refl refl)
 phase_none p s (Some c) said granted =
     either_none s.rests (writes_taken_up s granted) (unless_flush_rests s granted (part_begun p s c said granted))
     (either_none granted (record s { rests = false; is_granted = true; step = Writes }) (turned (record s { is_granted = false })) refl refl) (lets_none s granted (part_begun p s c said granted) (part_none p s c said granted))
@@ -281,6 +291,7 @@ next_none shape p s Seeks reply granted at = sought_none (record s { seek = seek
 next_none shape p s Waits reply granted at = waited_none shape (record s { wait = wait_next s.wait reply }) _ at
 next_none shape p s Writes reply granted at = stays_none s Writes at refl
 next_none shape p s Finishes reply granted at = finish_none (record s { finish = finish_next s.finish reply }) _ at
+next_none shape p s Sweeps reply granted at = sweep_moves HasNone s reply (λ w. stays_none (record s { sweep = w }) Sweeps at refl) (λ w. refl)
 
 pub keeper_next_none : (shape : Shape) (p : Places) (s : KeeperState) (reply : ℕ) (granted : Bool) → HasNone (keeper_next shape p s reply granted)
 keeper_next_none shape p s reply granted = next_none shape p s s.step reply granted refl
@@ -320,6 +331,7 @@ called_hand shape p s Maintains done bytes its at is =
     let inner = maintained_hand (record s { maintain = maintain_called shape p s.maintain done bytes }) (maintain_ask shape p (maintain_called shape p s.maintain done bytes)) its at is in
     subst (λ x. keeping_hand s x ≡ Some its) (sym at) (maintain_called_hand shape p s.maintain s.maintain.step done bytes its refl inner)
 called_hand shape p s Writes done bytes its at is = some_none _ its (writes_called_none s done at) is
+called_hand shape p s Sweeps done bytes its at is = some_none _ its (sweep_reads HasNone s done bytes (λ w. stays_none (record s { sweep = w }) Sweeps at refl) (λ w. refl) (λ w. refl)) is
 called_hand shape p s step done bytes its at is = is
 
 pub keeper_called_hand : (shape : Shape) (p : Places) (s : KeeperState) (done : Bool) (bytes : List ℕ) (its : Action) → keeper_hand (keeping_called shape p s s.step done bytes) ≡ Some its → keeper_hand s ≡ Some its
@@ -463,6 +475,33 @@ copy_puts : (its : Option Copier) → PutsNone (copy_asked its)
 copy_puts None = tt
 copy_puts (Some m) = copy_step_puts m.copying.base m.copying.step
 
+find_puts : (its : Finding) (step : FindStep) → PutsNone (find_step_ask its step)
+unfolding find_step_ask
+find_puts its find.AtRest = tt
+find_puts its (find.LoadsSlot slot) = tt
+find_puts its find.LoadsLink = tt
+find_puts its (find.LoadsTaken word) = tt
+find_puts its (find.TakesBucket word taken) = tt
+find_puts its (find.LinksBucket word) = tt
+
+sweep_puts : (w : Sweeper) (step : Sweeping) → PutsNone (sweeping_ask w step)
+unfolding sweeping_ask
+sweep_puts w sweeping.AtRest = tt
+sweep_puts w sweeping.LoadsHead = tt
+sweep_puts w sweeping.Takes = tt
+sweep_puts w sweeping.Meets = tt
+sweep_puts w (sweeping.Finds key) = passed_puts (find_ask w.finding) sweep.Through (find_puts w.finding w.finding.step)
+sweep_puts w (sweeping.LoadsKey key addr) = tt
+sweep_puts w (sweeping.LoadsHeader key addr) = tt
+sweep_puts w (sweeping.Reads key addr) = tt
+
+swept_puts : (ask : Ask SweepAnswer) (told : KeeperTold) → PutsNone ask → PutsNone (sweep_passed ask told)
+unfolding sweep_passed passed
+swept_puts (Done sweep.Device) told puts = tt
+swept_puts (Done sweep.Through) told puts = tt
+swept_puts (Put slot action) told puts = puts
+swept_puts ask told puts = tt
+
 write_puts : (answer : WriteAnswer) (told : KeeperTold) → PutsNone (write_asked answer told)
 write_puts write.Device told = tt
 write_puts write.Written told = tt
@@ -492,6 +531,7 @@ keeping_puts_at number stage shape p s Seeks is = passed_puts_at number stage (s
 keeping_puts_at number stage shape p s Waits is = none_puts_at number stage stage _ refl (passed_puts _ _ (wait_puts s.wait.step))
 keeping_puts_at number stage shape p s Writes is = none_puts_at number stage stage _ refl (write_puts (commit_answer s.writes) _)
 keeping_puts_at number stage shape p s Finishes is = finish_puts_at number stage _ s.seek.points s.finish s.finish.step _
+keeping_puts_at number stage shape p s Sweeps is = none_puts_at number stage stage _ refl (swept_puts (sweep_ask s.sweep) _ (sweep_puts s.sweep s.sweep.step))
 
 pub keeper_puts_at : (number : Version) (stage : Stage) (shape : Shape) (p : Places) (s : KeeperState) → StepAt number stage s s.step → PutsAt number stage (keeping_moves stage s s.step) (keeping_ask shape p s s.step)
 keeper_puts_at number stage shape p s is = keeping_puts_at number stage shape p s s.step is

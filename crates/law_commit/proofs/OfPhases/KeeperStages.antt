@@ -55,11 +55,12 @@ use Rattle.law_refine.specs.Below.fkv_maintain.Maintaining.{is_flush_resting, ma
 use Rattle.law_refine.specs.Below.fkv_keeper.KeeperTold.{KeeperTold}
 use Rattle.law_refine.specs.Below.fkv_keeper.KeeperTold.TheVariants.{TurnRefused, CommitRefused}
 use Rattle.law_refine.specs.Below.fkv_keeper.TheKeeping.{Keeping}
-use Rattle.law_refine.specs.Below.fkv_keeper.TheKeeping.TheVariants.{Ended, Starts, Maintains, LoadsPhase, Enters, Copies, Seeks, Waits, Writes, Finishes}
-use Rattle.law_refine.specs.Below.fkv_keeper.Keeping.{KeeperState, ended, turned, commit_asked, turn_asked, start_ledto, maintain_ledto, copies, copies_next, must_rest, part_begun, parts_begun, serves_alone, unless_flush_rests, phase_ledto, enter_ledto, copied, copy_ledto, points_known, seek_ledto, writes_begun, wait_ledto, finished, finish_ledto, copy_driven, keeping_next, keeper_next, keeping_given, write_ledto, writes_called, writes_taken_up, keeping_called, copy_taken, is_copy_resting, copy_told, asked_for}
+use Rattle.law_refine.specs.Below.fkv_keeper.TheKeeping.TheVariants.{Ended, Starts, Maintains, LoadsPhase, Enters, Copies, Seeks, Waits, Writes, Finishes, Sweeps}
+use Rattle.law_refine.specs.Below.fkv_keeper.Keeping.{KeeperState, ended, turned, commit_asked, turn_asked, start_ledto, maintain_ledto, copies, copies_next, must_rest, part_begun, parts_begun, serves_alone, unless_flush_rests, phase_ledto, enter_ledto, copied, copy_ledto, points_known, seek_ledto, writes_begun, wait_ledto, finished, finish_ledto, copy_driven, keeping_next, keeper_next, keeping_given, write_ledto, writes_called, writes_taken_up, keeping_called, copy_taken, is_copy_resting, copy_told, asked_for, sweeps_next}
 use Rattle.law_refine.specs.Below.fkv_keeper.KeeperRun.{is_in_hand}
 use Rattle.law_commit.specs.Phases.Staged.{FitsVersion, DefersAt, defer_moves, Stage, Rests, Prepares, DefersProgress, Progresses, DefersPending, Pends, Flushes, stage_phase, stage_version, is_resting, is_early, StartsIt, StartAt, EnterAt, SeekAt, FinishAt, StepAt, EarlyAt, HasInHand, KeeperAt, start_moves, enter_moves, seek_moves, finish_moves, keeping_moves, finish_number, keeping_number}
 use Rattle.law_commit.proofs.OfPhases.CommitStages.{StartSays, start_goes, enter_goes, SeeksAt, seek_begins, seek_goes}
+use Rattle.law_commit.proofs.Sweeps.{sweep_begins, sweep_moves, sweep_reads}
 
 -- ---- where nothing but the control state changes
 ended_at : (number : Version) (stage : Stage) (s : KeeperState) (told : KeeperTold) → HasInHand number stage s → (s.has_entered ≡ false → is_early stage ≡ true) → KeeperAt number stage (ended s told)
@@ -216,7 +217,9 @@ lets_at number stage s granted its has early led =
 phase_at : (number : Version) (stage : Stage) (p : Places) (s : KeeperState) (found : Option Commit) (granted : Bool) → s.commit ≡ found → HasInHand number stage s → (s.has_entered ≡ false → is_early stage ≡ true)
     → KeeperAt number stage (phase_ledto p s found (Says (stage_phase stage) (stage_version number stage)) granted)
 unfolding phase_ledto
-phase_at number stage p s None granted at has early = lets_at number stage s granted (turned s) has early (ended_at number stage s _ has early)
+phase_at number stage p s None granted at has early =
+    lets_at number stage s granted (sweeps_next s granted) has early
+    (sweep_begins (KeeperAt number stage) s granted (record { has = record { next = has.next; hand = has.hand; rests = has.rests }; early = early; step = tt }) (record { has = record { next = has.next; hand = has.hand; rests = has.rests }; early = early; step = tt }))
 phase_at number stage p s (Some c) granted at has early =
     let part : KeeperState = part_begun p s c (Says (stage_phase stage) (stage_version number stage)) granted in
     either_at number stage s.rests (writes_taken_up s granted) (unless_flush_rests s granted part) (λ rests. taken_up_at number stage s granted has early (has.rests rests))
@@ -401,6 +404,8 @@ replied_at number stage shape p s Waits reply granted at has early is fits says 
     waited_at number stage shape (record s { wait = wait_next s.wait reply }) (wait_ask (wait_next s.wait reply)) at (record { next = has.next; hand = has.hand; rests = has.rests }) early is
 replied_at number stage shape p s Writes reply granted at has early is fits says = at_step number stage s Writes at has early is
 replied_at number stage shape p s Finishes reply granted at has early is fits says = by_finish number stage s s.finish.step at has early fits is.0 is.1 is.2.0 is.2.1 is.3
+replied_at number stage shape p s Sweeps reply granted at has early is fits says =
+    sweep_moves (KeeperAt number stage) s reply (λ w. at_step number stage (record s { sweep = w }) Sweeps at (record { next = has.next; hand = has.hand; rests = has.rests }) early tt) (λ w. record { has = record { next = has.next; hand = has.hand; rests = has.rests }; early = early; step = tt })
 
 pub keeper_replied_at : (number : Version) (stage : Stage) (shape : Shape) (p : Places) (s : KeeperState) (reply : ℕ) (granted : Bool) → KeeperAt number stage s → FitsVersion number stage → KeeperSays number stage s s.step reply
     → KeeperAt (keeping_number number s s.step) (keeping_moves stage s s.step) (keeper_next shape p s reply granted)
@@ -438,6 +443,10 @@ called_at number stage shape p s Maintains done bytes at its early is =
     let has = its.has in
     maintained_at number stage (record s { maintain = maintain_called shape p s.maintain done bytes }) (maintain_ask shape p (maintain_called shape p s.maintain done bytes)) at (record { next = has.next; hand = has.hand; rests = has.rests }) early
 called_at number stage shape p s Writes done bytes at its early is = writes_at number stage s done at its.has early is
+called_at number stage shape p s Sweeps done bytes at its early is =
+    let has = its.has in
+    sweep_reads (KeeperAt number stage) s done bytes (λ w. at_step number stage (record s { sweep = w }) Sweeps at (record { next = has.next; hand = has.hand; rests = has.rests }) early tt) (λ w. record { has = record { next = has.next; hand = has.hand; rests = has.rests }; early = early; step = tt })
+    (λ w. record { has = record { next = has.next; hand = has.hand; rests = λ e. cc }; early = early; step = tt })
 called_at number stage shape p s step done bytes at its early is = its
 
 pub keeper_called_at : (number : Version) (stage : Stage) (shape : Shape) (p : Places) (s : KeeperState) (done : Bool) (bytes : List ℕ) → KeeperAt number stage s → KeeperAt number stage (keeping_called shape p s s.step done bytes)

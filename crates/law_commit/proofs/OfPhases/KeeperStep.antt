@@ -45,7 +45,7 @@ use Rattle.law_refine.specs.Below.fkv_maintain.Maintaining.{MaintainState, maint
 use Rattle.law_refine.specs.Below.fkv_keeper.KeeperTold.{KeeperTold}
 use Rattle.law_refine.specs.Below.fkv_keeper.KeeperTold.TheVariants.{Device, Turned, TurnRefused, Begun, CommitRefused}
 use Rattle.law_refine.specs.Below.fkv_keeper.TheKeeping.{Keeping}
-use Rattle.law_refine.specs.Below.fkv_keeper.TheKeeping.TheVariants.{Ended, Starts, Maintains, LoadsPhase, Enters, Copies, Seeks, Waits, Writes, Finishes}
+use Rattle.law_refine.specs.Below.fkv_keeper.TheKeeping.TheVariants.{Ended, Starts, Maintains, LoadsPhase, Enters, Copies, Seeks, Waits, Writes, Finishes, Sweeps}
 use Rattle.law_refine.specs.Below.fkv_keeper.Keeping.{KeeperState, device_passed, keeper_ask, keeper_called, keeper_given, keeper_next, keeping_ask}
 use Rattle.law_refine.specs.Below.fkv_world.Actors.{slot_asked}
 use Rattle.law_refine.specs.Below.fkv_world.Moves.{keeper_asks, keeper_gets, keeper_moved, keeper_settled}
@@ -84,6 +84,7 @@ keeper_says number stage words shape p s (Ended told) says = tt
 keeper_says number stage words shape p s Maintains says = tt
 keeper_says number stage words shape p s Enters says = tt
 keeper_says number stage words shape p s Copies says = tt
+keeper_says number stage words shape p s Sweeps says = tt
 keeper_says number stage words shape p s Seeks says = tt
 keeper_says number stage words shape p s Waits says = tt
 keeper_says number stage words shape p s Writes says = tt
@@ -107,6 +108,7 @@ puts_says number stage shape p s (Ended told) slot action e = tt
 puts_says number stage shape p s Maintains slot action e = tt
 puts_says number stage shape p s Enters slot action e = tt
 puts_says number stage shape p s Copies slot action e = tt
+puts_says number stage shape p s Sweeps slot action e = tt
 puts_says number stage shape p s Seeks slot action e = tt
 puts_says number stage shape p s Waits slot action e = tt
 puts_says number stage shape p s Writes slot action e = tt
@@ -128,6 +130,7 @@ puts_number number shape p s Maintains slot action e = refl
 puts_number number shape p s LoadsPhase slot action e = refl
 puts_number number shape p s Enters slot action e = refl
 puts_number number shape p s Copies slot action e = refl
+puts_number number shape p s Sweeps slot action e = refl
 puts_number number shape p s Seeks slot action e = refl
 puts_number number shape p s Waits slot action e = refl
 puts_number number shape p s Writes slot action e = refl
@@ -181,6 +184,7 @@ keeping_same number stage shape p s (Ended told) stores none = record { version 
 keeping_same number stage shape p s Maintains stores none = record { version = refl; same = refl }
 keeping_same number stage shape p s LoadsPhase stores none = record { version = refl; same = refl }
 keeping_same number stage shape p s Copies stores none = record { version = refl; same = refl }
+keeping_same number stage shape p s Sweeps stores none = record { version = refl; same = refl }
 keeping_same number stage shape p s Waits stores none = record { version = refl; same = refl }
 keeping_same number stage shape p s Writes stores none = record { version = refl; same = refl }
 
@@ -266,6 +270,7 @@ keeping_stored number stage shape p s (Ended told) is fits stores = cc
 keeping_stored number stage shape p s LoadsPhase is fits stores = cc
 keeping_stored number stage shape p s Enters is fits stores = cc
 keeping_stored number stage shape p s Copies is fits stores = cc
+keeping_stored number stage shape p s Sweeps is fits stores = cc
 keeping_stored number stage shape p s Waits is fits stores = cc
 keeping_stored number stage shape p s Writes is fits stores = cc
 

@@ -22,7 +22,7 @@ use Rattle.law_refine.specs.Below.fkv_commit.Entering.{EnterState}
 use Rattle.law_refine.specs.Below.fkv_commit.Seeking.{SeekState}
 use Rattle.law_refine.specs.Below.fkv_commit.Starting.{StartState}
 use Rattle.law_refine.specs.Below.fkv_keeper.TheKeeping.{Keeping}
-use Rattle.law_refine.specs.Below.fkv_keeper.TheKeeping.TheVariants.{Ended, Starts, Maintains, LoadsPhase, Enters, Copies, Seeks, Waits, Writes, Finishes}
+use Rattle.law_refine.specs.Below.fkv_keeper.TheKeeping.TheVariants.{Ended, Starts, Maintains, LoadsPhase, Enters, Copies, Seeks, Waits, Writes, Finishes, Sweeps}
 use Rattle.law_refine.specs.Below.fkv_keeper.Keeping.{KeeperState}
 use Rattle.law_commit.specs.Phases.Staged.{Stage, Rests, Prepares, DefersProgress, Progresses, DefersPending, Pends, Flushes, DefersAt, EarlyAt, EnterAt, FinishAt, KeeperAt, SeekAt, StartAt, StepAt, stage_run}
 
@@ -104,6 +104,7 @@ progress_early s Starts = λ e. refl
 progress_early s Maintains = λ e. refl
 progress_early s LoadsPhase = λ e. refl
 progress_early s Copies = λ e. refl
+progress_early s Sweeps = λ e. refl
 progress_early s Seeks = λ e. refl
 progress_early s Waits = λ e. refl
 progress_early s Writes = λ e. refl
@@ -159,6 +160,7 @@ pending_early s Starts early = early
 pending_early s Maintains early = early
 pending_early s LoadsPhase early = early
 pending_early s Copies early = early
+pending_early s Sweeps early = early
 pending_early s Seeks early = early
 pending_early s Waits early = early
 pending_early s Writes early = early

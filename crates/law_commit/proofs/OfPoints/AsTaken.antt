@@ -21,7 +21,7 @@ use Rattle.law_refine.specs.Below.fkv_manifest.TheGating.TheVariants as gate
 use Rattle.law_refine.specs.Below.fkv_manifest.Committing.{commit_answer, commit_next}
 use Rattle.law_refine.specs.Below.fkv_keeper.KeeperTold.TheVariants.{CommitRefused, TurnRefused}
 use Rattle.law_refine.specs.Below.fkv_keeper.TheKeeping.{Keeping}
-use Rattle.law_refine.specs.Below.fkv_keeper.TheKeeping.TheVariants.{Ended, Starts, Maintains, LoadsPhase, Enters, Copies, Seeks, Waits, Writes, Finishes}
+use Rattle.law_refine.specs.Below.fkv_keeper.TheKeeping.TheVariants.{Ended, Starts, Maintains, LoadsPhase, Enters, Copies, Seeks, Waits, Writes, Finishes, Sweeps}
 use Rattle.law_refine.specs.Below.fkv_keeper.Keeping.{KeeperState, commit_asked, ended, finish_ledto, finished, keeping_called, keeping_given, keeping_next, must_rest, turn_asked, turned, write_ledto, writes_called}
 use Rattle.law_refine.specs.Below.fkv_keeper.KeeperLaws.{MayRest}
 use Rattle.law_refine.specs.Below.fkv_keeper.KeeperRun.{BeginsCommit, BeginsTurn, Calls, Gets, IsOpened, KeeperEvent, Replies, begins, is_in_hand, keeper_happens, keeper_run}
@@ -73,6 +73,7 @@ module _ (count : ℕ) where
   reply_any s LoadsPhase reply = tt
   reply_any s Enters reply = tt
   reply_any s Copies reply = tt
+  reply_any s Sweeps reply = tt
   reply_any s Waits reply = tt
   reply_any s Writes reply = tt
   reply_any s Finishes reply = tt
@@ -100,6 +101,7 @@ module _ (count : ℕ) where
   has_points s LoadsPhase its = tt
   has_points s Enters its = tt
   has_points s Copies its = tt
+  has_points s Sweeps its = tt
 
   run_has : (shape : Shape) (p : Places) (opening : KeeperState) (events : List KeeperEvent) → IsOpened opening → opening.seek.sessions ≡ count → Has (keeper_run shape p opening events)
   unfolding keeper_run
@@ -242,6 +244,7 @@ module _ (shape : Shape) (p : Places) (begun : List BegunCommit) (s : KeeperStat
   step_on event LoadsPhase at stands has_them its = finished_none (keeper_happens shape p s event) begun stands.finished
   step_on event Enters at stands has_them its = finished_none (keeper_happens shape p s event) begun stands.finished
   step_on event Copies at stands has_them its = finished_none (keeper_happens shape p s event) begun stands.finished
+  step_on event Sweeps at stands has_them its = finished_none (keeper_happens shape p s event) begun stands.finished
   step_on event Seeks at stands has_them its = finished_none (keeper_happens shape p s event) begun stands.finished
   step_on event Waits at stands has_them its = finished_none (keeper_happens shape p s event) begun stands.finished
 

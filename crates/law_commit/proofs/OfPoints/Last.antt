@@ -3,7 +3,7 @@ use Rattle.std.proofs.Common.{◌≡◌, inl, inr, ◌∙◌, List, ◌∷◌, r
 use Rattle.fkv_base.specs.declared.numbers.Serial.{Serial}
 use Rattle.fkv_base.specs.declared.numbers.Version.{Version}
 use Rattle.law_refine.specs.Below.fkv_keeper.TheKeeping.{Keeping}
-use Rattle.law_refine.specs.Below.fkv_keeper.TheKeeping.TheVariants.{Ended, Starts, Maintains, LoadsPhase, Enters, Copies, Seeks, Waits, Writes, Finishes}
+use Rattle.law_refine.specs.Below.fkv_keeper.TheKeeping.TheVariants.{Ended, Starts, Maintains, LoadsPhase, Enters, Copies, Seeks, Waits, Writes, Finishes, Sweeps}
 use Rattle.law_refine.specs.Below.fkv_keeper.Keeping.{Finality, KeeperState, come_to}
 use Rattle.fkv_map.specs.History.{point_of}
 use Rattle.law_refine.specs.Below.fkv_world.Runs.{run}
@@ -51,6 +51,7 @@ last_of begun s Maintains its = finished_last begun s.last its
 last_of begun s LoadsPhase its = finished_last begun s.last its
 last_of begun s Enters its = finished_last begun s.last its
 last_of begun s Copies its = finished_last begun s.last its
+last_of begun s Sweeps its = finished_last begun s.last its
 last_of begun s Seeks its = finished_last begun s.last its
 last_of begun s Waits its = finished_last begun s.last its
 

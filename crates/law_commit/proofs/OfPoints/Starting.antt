@@ -25,9 +25,9 @@ use Rattle.law_refine.specs.Below.fkv_commit.Deferring.{defer_ask, defer_begun, 
 use Rattle.law_refine.specs.Below.fkv_commit.Starting.{StartState, defer_led, is_lost_full, phase_found, refused, seek_led, start_ask, start_begun, start_next, starting_ask, starting_next}
 use Rattle.law_refine.specs.Below.fkv_keeper.KeeperTold.TheVariants.{CommitRefused, TurnRefused}
 use Rattle.law_refine.specs.Below.fkv_keeper.TheKeeping.{Keeping}
-use Rattle.law_refine.specs.Below.fkv_keeper.TheKeeping.TheVariants.{Ended, Starts, Maintains, LoadsPhase, Enters, Copies, Seeks, Waits, Writes, Finishes}
+use Rattle.law_refine.specs.Below.fkv_keeper.TheKeeping.TheVariants.{Ended, Starts, Maintains, LoadsPhase, Enters, Copies, Seeks, Waits, Writes, Finishes, Sweeps}
 use Rattle.law_refine.specs.Below.fkv_keeper.CheckpointLaws.{IsCommitAfter, MayFollow}
-use Rattle.law_refine.specs.Below.fkv_keeper.Keeping.{KeeperState, ended, keeping_called, keeping_given, keeping_next, start_ledto, asked_for}
+use Rattle.law_refine.specs.Below.fkv_keeper.Keeping.{KeeperState, ended, keeping_called, keeping_given, keeping_next, start_ledto, asked_for, begin_next}
 use Rattle.law_refine.specs.Below.fkv_keeper.KeeperRun.{BeginsCommit, BeginsTurn, Calls, Gets, KeeperEvent, Replies, is_in_hand, keeper_happens}
 use Rattle.law_refine.proofs.Below.fkv_keeper.Shown.{each_move}
 use Rattle.law_refine.proofs.Below.law_world.OfStanding.Runs.{happens_at}
@@ -114,7 +114,7 @@ module _ (R : ℕ → Type 0) where
   starts_say : (s : KeeperState) (ask : Ask StartAnswer) → s.step ≡ Starts → start_ask s.start ≡ ask → HandSays s.commit → StartSays s.start.step → KeeperSays (start_ledto s ask)
   unfolding start_ledto
   starts_say s (Done (started.Begun number first)) at asks hand says = record {
-    hand = λ c is. let its = begun_says s.start s.start.step number first says asks in let same : commit_begun number s.start.asked.kind s.last.begin first ≡ c = cc in subst (λ (x : Commit). R x.number.0) same its;
+    hand = λ c is. let its = begun_says s.start s.start.step number first says asks in let same : commit_begun number s.start.asked.kind (begin_next s first) first ≡ c = cc in subst (λ (x : Commit). R x.number.0) same its;
     step = tt;
   }
   starts_say s (Done (started.Refused why)) at asks hand says = record { hand = hand; step = tt }
@@ -173,6 +173,7 @@ module _ (R : ℕ → Type 0) where
   no_start LoadsPhase elsewhere follows = follows
   no_start Enters elsewhere follows = follows
   no_start Copies elsewhere follows = follows
+  no_start Sweeps elsewhere follows = follows
   no_start Seeks elsewhere follows = follows
   no_start Waits elsewhere follows = follows
   no_start Writes elsewhere follows = follows
@@ -185,6 +186,7 @@ module _ (R : ℕ → Type 0) where
   step_after a step LoadsPhase elsewhere follows = tt
   step_after a step Enters elsewhere follows = tt
   step_after a step Copies elsewhere follows = tt
+  step_after a step Sweeps elsewhere follows = tt
   step_after a step Seeks elsewhere follows = tt
   step_after a step Waits elsewhere follows = tt
   step_after a step Writes elsewhere follows = tt
@@ -216,6 +218,7 @@ module _ (R : ℕ → Type 0) where
   step_says shape p s event LoadsPhase at tells hand says = elsewhere_says shape p s event LoadsPhase at tt hand
   step_says shape p s event Enters at tells hand says = elsewhere_says shape p s event Enters at tt hand
   step_says shape p s event Copies at tells hand says = elsewhere_says shape p s event Copies at tt hand
+  step_says shape p s event Sweeps at tells hand says = elsewhere_says shape p s event Sweeps at tt hand
   step_says shape p s event Seeks at tells hand says = elsewhere_says shape p s event Seeks at tt hand
   step_says shape p s event Waits at tells hand says = elsewhere_says shape p s event Waits at tt hand
   step_says shape p s event Writes at tells hand says = elsewhere_says shape p s event Writes at tt hand
@@ -250,6 +253,7 @@ keeping_on R Q s Maintains on says = tt
 keeping_on R Q s LoadsPhase on says = tt
 keeping_on R Q s Enters on says = tt
 keeping_on R Q s Copies on says = tt
+keeping_on R Q s Sweeps on says = tt
 keeping_on R Q s Seeks on says = tt
 keeping_on R Q s Waits on says = tt
 keeping_on R Q s Writes on says = tt

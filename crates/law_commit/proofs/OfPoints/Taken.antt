@@ -19,7 +19,7 @@ use Rattle.law_refine.specs.Below.fkv_commit.Cuts.{cut_of, other_cut_of, serial_
 use Rattle.law_refine.specs.Below.fkv_commit.Seeking.{floor_of, seeking_ask}
 use Rattle.law_refine.specs.Below.fkv_keeper.KeeperTold.{KeeperTold}
 use Rattle.law_refine.specs.Below.fkv_keeper.TheKeeping.{Keeping}
-use Rattle.law_refine.specs.Below.fkv_keeper.TheKeeping.TheVariants.{Ended, Starts, Maintains, LoadsPhase, Enters, Copies, Seeks, Waits, Writes, Finishes}
+use Rattle.law_refine.specs.Below.fkv_keeper.TheKeeping.TheVariants.{Ended, Starts, Maintains, LoadsPhase, Enters, Copies, Seeks, Waits, Writes, Finishes, Sweeps}
 use Rattle.law_refine.specs.Below.fkv_keeper.Keeping.{KeeperState, commit_asked, keeper_ask, keeping_ask, turn_asked}
 use Rattle.fkv_map.specs.History.{point_of}
 use Rattle.law_refine.specs.Below.fkv_session.Sessions.{SessionState}
@@ -319,6 +319,7 @@ module _ (live : LiveAreLater) (paper_sound : PaperIsSound) (cuts_show : CutsSho
       keeping_told LoadsPhase takes at knows = tt
       keeping_told Enters takes at knows = tt
       keeping_told Copies takes at knows = tt
+      keeping_told Sweeps takes at knows = tt
       keeping_told Waits takes at knows = tt
       keeping_told Writes takes at knows = tt
       keeping_told Finishes takes at knows = tt
@@ -344,6 +345,7 @@ module _ (live : LiveAreLater) (paper_sound : PaperIsSound) (cuts_show : CutsSho
     keeping_puts s LoadsPhase slot action at puts = tt
     keeping_puts s Enters slot action at puts = tt
     keeping_puts s Copies slot action at puts = tt
+    keeping_puts s Sweeps slot action at puts = tt
     keeping_puts s Waits slot action at puts = tt
     keeping_puts s Writes slot action at puts = tt
     keeping_puts s Finishes slot action at puts = tt

@@ -47,11 +47,12 @@ use Rattle.law_refine.specs.Below.fkv_maintain.MaintainAnswer.TheVariants as mai
 use Rattle.law_refine.specs.Below.fkv_maintain.Maintaining.{is_flush_resting, maintain_ask, maintain_called, maintain_given, maintain_next}
 use Rattle.law_refine.specs.Below.fkv_keeper.KeeperTold.TheVariants.{CommitRefused, TurnRefused}
 use Rattle.law_refine.specs.Below.fkv_keeper.TheKeeping.{Keeping}
-use Rattle.law_refine.specs.Below.fkv_keeper.TheKeeping.TheVariants.{Ended, Starts, Maintains, LoadsPhase, Enters, Copies, Seeks, Waits, Writes, Finishes}
+use Rattle.law_refine.specs.Below.fkv_keeper.TheKeeping.TheVariants.{Ended, Starts, Maintains, LoadsPhase, Enters, Copies, Seeks, Waits, Writes, Finishes, Sweeps}
 use Rattle.law_refine.specs.Below.fkv_keeper.KeeperRun.{is_in_hand}
-use Rattle.law_refine.specs.Below.fkv_keeper.Keeping.{Finality, KeeperState, commit_asked, copied, copies, copies_next, copy_driven, copy_ledto, ended, enter_ledto, finish_ledto, finished, keeping_called, keeping_given, keeping_next, maintain_ledto, must_rest, part_begun, parts_begun, phase_ledto, points_known, seek_ledto, serves_alone, start_ledto, turn_asked, turned, unless_flush_rests, wait_ledto, write_ledto, writes_begun, writes_called, writes_taken_up, copy_taken, is_copy_resting, copy_told, asked_for}
+use Rattle.law_refine.specs.Below.fkv_keeper.Keeping.{Finality, KeeperState, commit_asked, copied, copies, copies_next, copy_driven, copy_ledto, ended, enter_ledto, finish_ledto, finished, keeping_called, keeping_given, keeping_next, maintain_ledto, must_rest, part_begun, parts_begun, phase_ledto, points_known, seek_ledto, serves_alone, start_ledto, turn_asked, turned, unless_flush_rests, wait_ledto, write_ledto, writes_begun, writes_called, writes_taken_up, copy_taken, is_copy_resting, copy_told, asked_for, sweeps_next}
 use Rattle.law_refine.specs.Below.fkv_world.World.{keeper_asked}
 use Rattle.law_commit.proofs.InTurn.{some_commit}
+use Rattle.law_commit.proofs.Sweeps.{sweep_begins, sweep_moves, sweep_reads}
 
 -- ---- a machine inside is at its end
 pub passed_end : {A B : Type 0} (ask : Ask A) (end told : B) → passed ask end ≡ Done told → end ≡ told
@@ -352,7 +353,8 @@ module _ (count : ℕ) (F : ℕ → ℕ → ℕ → Type 0) (A : ℕ → ℕ →
 
   phase_takes : (p : Places) (s : KeeperState) (found : Option Commit) (said : PhaseSaid) (granted : Bool) → s.commit ≡ found → Has s → KeeperTakes (phase_ledto p s found said granted)
   unfolding phase_ledto
-  phase_takes p s None said granted is has = lets_take s granted (turned s) has (turned_takes s has)
+  phase_takes p s None said granted is has =
+      lets_take s granted (sweeps_next s granted) has (sweep_begins KeeperTakes s granted (record { sessions = has.sessions; last = has.last; hand = has.hand; rests = has.rests; step = tt }) (record { sessions = has.sessions; last = has.last; hand = has.hand; rests = has.rests; step = tt }))
   phase_takes p s (Some c) said granted is has =
       either_takes s.rests (writes_taken_up s granted) (unless_flush_rests s granted (part_begun p s c said granted)) (λ rests. taken_up_takes s granted has (has.rests rests))
       (λ awake. lets_take s granted (part_begun p s c said granted) has (part_takes p s c said granted awake is has))
@@ -462,6 +464,8 @@ module _ (count : ℕ) (F : ℕ → ℕ → ℕ → Type 0) (A : ℕ → ℕ →
   replied_takes shape p s Writes reply granted at has its tells = stays s Writes at has its
   replied_takes shape p s Finishes reply granted at has its tells =
       finish_takes (record s { finish = finish_next s.finish reply }) (finish_ask s.seek.points (finish_next s.finish reply)) at (record { sessions = has.sessions; last = has.last; hand = has.hand; rests = has.rests }) its
+  replied_takes shape p s Sweeps reply granted at has its tells =
+      sweep_moves KeeperTakes s reply (λ w. stays (record s { sweep = w }) Sweeps at (record { sessions = has.sessions; last = has.last; hand = has.hand; rests = has.rests }) tt) (λ w. record { sessions = has.sessions; last = has.last; hand = has.hand; rests = has.rests; step = tt })
 
   -- an action is taken, and the device is called
   pub given_takes : (shape : Shape) (p : Places) (s : KeeperState) (step : Keeping) (action : Action) → s.step ≡ step → KeeperTakes s → KeeperTakes (keeping_given shape p s step action)
@@ -487,6 +491,9 @@ module _ (count : ℕ) (F : ℕ → ℕ → ℕ → Type 0) (A : ℕ → ℕ →
   called_takes shape p s Maintains done bytes at its =
       maintain_takes (record s { maintain = maintain_called shape p s.maintain done bytes }) (maintain_ask shape p (maintain_called shape p s.maintain done bytes)) at (record { sessions = its.sessions; last = its.last; hand = its.hand; rests = its.rests })
   called_takes shape p s Writes done bytes at its = called_writes s done at (has_of s its) (subst (KeepingTakes s) at its.step)
+  called_takes shape p s Sweeps done bytes at its =
+      sweep_reads KeeperTakes s done bytes (λ w. stays (record s { sweep = w }) Sweeps at (record { sessions = its.sessions; last = its.last; hand = its.hand; rests = its.rests }) tt) (λ w. record { sessions = its.sessions; last = its.last; hand = its.hand; rests = its.rests; step = tt })
+      (λ w. record { sessions = its.sessions; last = its.last; hand = its.hand; rests = λ e. cc; step = tt })
   called_takes shape p s step done bytes at its = its
 
   -- what is begun where no call is in hand
@@ -551,6 +558,7 @@ module _ (count : ℕ) (F G : ℕ → ℕ → ℕ → Type 0) (A B : ℕ → ℕ
   keeping_on s LoadsPhase its = tt
   keeping_on s Enters its = tt
   keeping_on s Copies its = tt
+  keeping_on s Sweeps its = tt
 
   pub takes_on : (s : KeeperState) → KeeperTakes count F A P s → KeeperTakes count G B Q s
   takes_on s its = record {

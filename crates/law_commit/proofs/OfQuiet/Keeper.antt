@@ -43,10 +43,11 @@ use Rattle.law_refine.specs.Below.fkv_maintain.MaintainAnswer.TheVariants as mai
 use Rattle.law_refine.specs.Below.fkv_maintain.Maintaining.{is_flush_resting, maintain_ask, maintain_called, maintain_given, maintain_next}
 use Rattle.law_refine.specs.Below.fkv_keeper.KeeperTold.TheVariants.{CommitRefused, TurnRefused}
 use Rattle.law_refine.specs.Below.fkv_keeper.TheKeeping.{Keeping}
-use Rattle.law_refine.specs.Below.fkv_keeper.TheKeeping.TheVariants.{Ended, Starts, Maintains, LoadsPhase, Enters, Copies, Seeks, Waits, Writes, Finishes}
+use Rattle.law_refine.specs.Below.fkv_keeper.TheKeeping.TheVariants.{Ended, Starts, Maintains, LoadsPhase, Enters, Copies, Seeks, Waits, Writes, Finishes, Sweeps}
 use Rattle.law_refine.specs.Below.fkv_keeper.KeeperRun.{is_in_hand}
-use Rattle.law_refine.specs.Below.fkv_keeper.Keeping.{KeeperState, commit_asked, copies, copies_next, copy_driven, copy_ledto, ended, enter_ledto, finish_ledto, finished, keeping_called, keeping_given, keeping_next, maintain_ledto, part_begun, phase_ledto, seek_ledto, start_ledto, turn_asked, turned, wait_ledto, write_ledto, writes_begun, writes_called, copy_taken, is_copy_resting, copy_told, asked_for, must_rest, parts_begun, serves_alone, unless_flush_rests, writes_taken_up}
+use Rattle.law_refine.specs.Below.fkv_keeper.Keeping.{KeeperState, commit_asked, copies, copies_next, copy_driven, copy_ledto, ended, enter_ledto, finish_ledto, finished, keeping_called, keeping_given, keeping_next, maintain_ledto, part_begun, phase_ledto, seek_ledto, start_ledto, turn_asked, turned, wait_ledto, write_ledto, writes_begun, writes_called, copy_taken, is_copy_resting, copy_told, asked_for, must_rest, parts_begun, serves_alone, unless_flush_rests, writes_taken_up, sweeps_next}
 use Rattle.law_refine.specs.Below.fkv_world.World.{keeper_asked}
+use Rattle.law_commit.proofs.Sweeps.{sweep_begins, sweep_moves, sweep_reads}
 
 module _ (N : ℕ → ℕ → Type 0) (count : ℕ) where
   -- each session leaves this version, or each below this one
@@ -194,7 +195,7 @@ module _ (N : ℕ → ℕ → Type 0) (count : ℕ) where
 
   phase_knows : (p : Places) (s : KeeperState) (found : Option Commit) (said : PhaseSaid) (granted : Bool) → HasSessions s → KeeperKnows (phase_ledto p s found said granted)
   unfolding phase_ledto
-  phase_knows p s None said granted sessions = lets_know s granted (turned s) sessions (turned_knows s sessions)
+  phase_knows p s None said granted sessions = lets_know s granted (sweeps_next s granted) sessions (sweep_begins KeeperKnows s granted (record { sessions = sessions; step = tt }) (record { sessions = sessions; step = tt }))
   phase_knows p s (Some c) said granted sessions =
       either_knows s.rests (writes_taken_up s granted) (unless_flush_rests s granted (part_begun p s c said granted))
       (either_knows granted (record s { rests = false; is_granted = true; step = Writes }) (turned (record s { is_granted = false })) (record { sessions = sessions; step = tt }) (record { sessions = sessions; step = tt }))
@@ -257,6 +258,7 @@ module _ (N : ℕ → ℕ → Type 0) (count : ℕ) where
   replied_knows shape p s Waits reply granted at sessions leaves owes = waited_knows shape (record s { wait = wait_next s.wait reply }) (wait_ask (wait_next s.wait reply)) at sessions
   replied_knows shape p s Writes reply granted at sessions leaves owes = calm s Writes at sessions tt
   replied_knows shape p s Finishes reply granted at sessions leaves owes = finish_knows (record s { finish = finish_next s.finish reply }) (finish_ask s.seek.points (finish_next s.finish reply)) at sessions
+  replied_knows shape p s Sweeps reply granted at sessions leaves owes = sweep_moves KeeperKnows s reply (λ w. calm (record s { sweep = w }) Sweeps at sessions tt) (λ w. record { sessions = sessions; step = tt })
 
   -- an action is taken, and the device is called
   pub given_knows : (shape : Shape) (p : Places) (s : KeeperState) (step : Keeping) (action : Action) → s.step ≡ step → KeeperKnows s → KeeperKnows (keeping_given shape p s step action)
@@ -279,6 +281,8 @@ module _ (N : ℕ → ℕ → Type 0) (count : ℕ) where
   unfolding keeping_called
   called_knows shape p s Maintains done bytes at its = maintain_knows (record s { maintain = maintain_called shape p s.maintain done bytes }) (maintain_ask shape p (maintain_called shape p s.maintain done bytes)) at its.sessions
   called_knows shape p s Writes done bytes at its = writes_know s done at its.sessions
+  called_knows shape p s Sweeps done bytes at its =
+      sweep_reads KeeperKnows s done bytes (λ w. calm (record s { sweep = w }) Sweeps at its.sessions tt) (λ w. record { sessions = its.sessions; step = tt }) (λ w. record { sessions = its.sessions; step = tt })
   called_knows shape p s step done bytes at its = its
 
   -- what is begun where no call is in hand

@@ -30,7 +30,7 @@ use Rattle.law_refine.specs.Below.fkv_commit.Seeking.{SeekState, seeking_ask}
 use Rattle.law_refine.specs.Below.fkv_commit.Starting.{StartState}
 use Rattle.law_refine.specs.Below.fkv_keeper.KeeperTold.{KeeperTold}
 use Rattle.law_refine.specs.Below.fkv_keeper.TheKeeping.{Keeping}
-use Rattle.law_refine.specs.Below.fkv_keeper.TheKeeping.TheVariants.{Ended, Starts, Maintains, LoadsPhase, Enters, Copies, Seeks, Waits, Writes, Finishes}
+use Rattle.law_refine.specs.Below.fkv_keeper.TheKeeping.TheVariants.{Ended, Starts, Maintains, LoadsPhase, Enters, Copies, Seeks, Waits, Writes, Finishes, Sweeps}
 use Rattle.law_refine.specs.Below.fkv_keeper.Keeping.{KeeperState, commit_asked, keeper_ask, keeping_ask, turn_asked}
 use Rattle.law_refine.specs.Below.fkv_pending.PendingRequest.{PendingRequest}
 use Rattle.law_refine.specs.Below.fkv_session.Sitting.{Sitting}
@@ -133,6 +133,7 @@ keeping_flush number stage s (Ended told) is fits at = inl (λ version high. hig
 keeping_flush number stage s Maintains is fits at = inl (λ version high. high)
 keeping_flush number stage s LoadsPhase is fits at = inl (λ version high. high)
 keeping_flush number stage s Copies is fits at = inl (λ version high. high)
+keeping_flush number stage s Sweeps is fits at = inl (λ version high. high)
 keeping_flush number stage s Waits is fits at = inl (λ version high. high)
 keeping_flush number stage s Writes is fits at = inl (λ version high. high)
 
@@ -197,6 +198,7 @@ keeping_map N M count number stage s Maintains at on leaves = tt
 keeping_map N M count number stage s LoadsPhase at on leaves = tt
 keeping_map N M count number stage s Enters at on leaves = tt
 keeping_map N M count number stage s Copies at on leaves = tt
+keeping_map N M count number stage s Sweeps at on leaves = tt
 keeping_map N M count number stage s Waits at on leaves = tt
 keeping_map N M count number stage s Writes at on leaves = tt
 keeping_map N M count number stage s Finishes at on leaves = tt

@@ -4,7 +4,7 @@ use Rattle.std.specs.Prelude.{⊤, ◌==◌, if◌then◌else◌}
 use Rattle.fkv_base.specs.declared.numbers.Version.{Version}
 use Rattle.law_refine.specs.Below.fkv_keeper.KeeperTold.TheVariants.{Turned}
 use Rattle.law_refine.specs.Below.fkv_keeper.TheKeeping.{Keeping}
-use Rattle.law_refine.specs.Below.fkv_keeper.TheKeeping.TheVariants.{Ended, Starts, Maintains, LoadsPhase, Enters, Copies, Seeks, Waits, Writes, Finishes}
+use Rattle.law_refine.specs.Below.fkv_keeper.TheKeeping.TheVariants.{Ended, Starts, Maintains, LoadsPhase, Enters, Copies, Seeks, Waits, Writes, Finishes, Sweeps}
 use Rattle.law_refine.specs.Below.fkv_keeper.Keeping.{Finality, KeeperState}
 use Rattle.law_refine.specs.Below.fkv_world.Past.{Called, KeeperAnswered, TraceEvent, Traced}
 use Rattle.law_commit.specs.BegunCommits.{AreInTurn, BegunCommit}
@@ -114,6 +114,7 @@ module _ (trace : List Traced) (first : ToldCommit) where
   last_counts begun s LoadsPhase its turn told = finished_counts begun s.last its turn told
   last_counts begun s Enters its turn told = finished_counts begun s.last its turn told
   last_counts begun s Copies its turn told = finished_counts begun s.last its turn told
+  last_counts begun s Sweeps its turn told = finished_counts begun s.last its turn told
   last_counts begun s Seeks its turn told = finished_counts begun s.last its turn told
   last_counts begun s Waits its turn told = finished_counts begun s.last its turn told
 

@@ -15,7 +15,7 @@ use Rattle.law_refine.specs.Below.fkv_manifest.TheGating.{Gating}
 use Rattle.law_refine.specs.Below.fkv_manifest.TheGating.TheVariants.{Opens, SyncsOpen}
 use Rattle.law_refine.specs.Below.fkv_keeper.KeeperTold.TheVariants.{Turned}
 use Rattle.law_refine.specs.Below.fkv_keeper.TheKeeping.{Keeping}
-use Rattle.law_refine.specs.Below.fkv_keeper.TheKeeping.TheVariants.{Ended, Starts, Maintains, LoadsPhase, Enters, Copies, Seeks, Waits, Writes, Finishes}
+use Rattle.law_refine.specs.Below.fkv_keeper.TheKeeping.TheVariants.{Ended, Starts, Maintains, LoadsPhase, Enters, Copies, Seeks, Waits, Writes, Finishes, Sweeps}
 use Rattle.law_refine.specs.Below.fkv_keeper.Keeping.{KeeperState, come_to}
 use Rattle.law_refine.specs.Below.fkv_keeper.KeeperRun.{Calls, KeeperEvent, keeper_run}
 use Rattle.fkv_map.specs.History.{point_of}
@@ -199,6 +199,7 @@ module _ (in_turn : BegunAreInTurn) (finished : FinishedAreTold) (durable : Dura
       at_step LoadsPhase at is = of_last is
       at_step Enters at is = of_last is
       at_step Copies at is = of_last is
+      at_step Sweeps at is = of_last is
       at_step Seeks at is = of_last is
       at_step Waits at is = of_last is
       at_step Writes at is = of_last is

@@ -11,10 +11,9 @@ use Rattle.law_refine.specs.Below.fkv_world.OwnEvents.{keeper_events, session_ev
 use Rattle.law_refine.specs.Below.fkv_world.Runs.{World, run}
 use Rattle.law_refine.specs.Below.fkv_world.World.{Event, KeeperMoves, seat_at}
 use Rattle.law_refine.specs.Below.law_world.Guarded.Shows.{IsOpened}
-use Rattle.law_log.specs.Trace.{IsIn}
 use Rattle.law_commit.specs.Accepted.{HasRisingVersion, NeverFall, point, versions_accepted}
 use Rattle.law_commit.specs.LastSerials.{serial_at}
-use Rattle.law_commit.specs.BegunCommits.{AreInTurn, BegunCommit}
+use Rattle.law_commit.specs.BegunCommits.{AreInTurn}
 use Rattle.law_commit.specs.HeldCommits.{AtKeeping}
 use Rattle.law_commit.specs.FinishedCommits.{commits_finished, commits_told, told_of}
 use Rattle.law_commit.specs.PhaseStores.{SparesPhase, StoresClaimed, StoresItsPhase, phase_at}
@@ -91,12 +90,6 @@ NewestIsAsWritten =
     (opening : World) (events : List Event) → IsOpenedWorld opening
     → (run opening events).now.keeper.step ≡ Finishes
     → NewestIsWritten opening.now.shape (life_told opening events) (life_writing opening events) (run opening events).now.keeper.last (prefix_past opening events).begun
-
--- the log of each commit that has begun begins where the opening's does
-abbrev pub BegunBeginAsOpened : Type 0
-BegunBeginAsOpened =
-    (opening : World) (events : List Event) (c : BegunCommit) → IsOpenedWorld opening → IsIn c (prefix_past opening events).begun
-    → c.parts.begin ≡ opening.now.keeper.last.begin
 
 -- the commits that have begun come one behind the other
 abbrev pub BegunAreInTurn : Type 0

@@ -9,6 +9,7 @@ use Rattle.fkv_base.specs.Limits.{drain_slots}
 use Rattle.fkv_base.specs.declared.numbers.Addr.{Addr}
 use Rattle.fkv_base.specs.declared.shapes.Shape.{Shape}
 use Rattle.fkv_epoch.specs.EpochWorld.{drain_word}
+use Rattle.fkv_sweep.specs.Sweeping.{Sweeper, sweep_begun}
 use Rattle.law_refine.specs.Below.fkv_flush.Guarded as guard
 use Rattle.law_refine.specs.Below.fkv_flush.GuardSeen.{LastSeen}
 use Rattle.law_refine.specs.Below.law_world.GuardSessions.Likenesses.{last_seen}
@@ -124,6 +125,7 @@ its_keeper_opens o n its =
       works = k.works;
       turns_rest = k.turns_rest;
       serves_from = k.serves_from ∙ sym (ap (λ (last : Finality). last.begin) k.newest);
+      none_swept = (n.shape, n.places, k.none_swept ∙ sym (ap (λ (last : Finality). sweep_begun n.shape n.places last.begin last.begin) k.newest));
     }
 
 abbrev seen_at : ℕ → ℕ → LastSeen
@@ -146,6 +148,7 @@ guard_now o n its =
       seen = λ number s got. let saw = (its.its_sessions number s got).saw in seen_so o s.seen saw ∙ ap (λ (h : ℕ). seen_at o.tail.0 h) (sym (once_word o n.words (parted o n.words its.its_words) 9 (omega arith)));
       keeper = its_keeper_opens o n its;
       finishes = its.its_keeper.its_sessions ∙ sym store.sessions;
+      sweeps = (ap (λ (w : Sweeper). w.shape) its.its_keeper.none_swept, ap (λ (w : Sweeper). w.places) its.its_keeper.none_swept);
     }
 
 pub guard_opens : (o : Opened) (n : Now) (bytes : List ℕ) → IsOpeningWorld o n → IsOpenedStore (beginning n bytes) o.tail.0

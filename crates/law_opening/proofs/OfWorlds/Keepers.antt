@@ -33,6 +33,7 @@ use Rattle.law_refine.specs.Below.fkv_maintain.Maintaining.{MaintainState}
 use Rattle.law_refine.specs.Below.fkv_maintain.TheMaintaining.TheVariants.{Through}
 use Rattle.law_paper.specs.Below.fkv_opening.TheOpened.{Opened}
 use Rattle.fkv_core.specs.Openings.{newest_commit}
+use Rattle.fkv_sweep.specs.Sweeping.{sweep_begun}
 use Rattle.law_opening.proofs.OfWorlds.Places.{places_fit, places_of}
 
 defer_rested : DeferState
@@ -62,6 +63,7 @@ keeper_of o = record {
   wait = record { end = record { 0 = 0 }; epoch = 0; step = waiting.Ended wait.Idle };
   writes = no_writes;
   finish = record { sessions = o.shape.sessions; number = record { 0 = 1 }; step = finishing.Ended finish.Idle };
+  sweep = sweep_begun o.shape (places_of o.shape) o.begin o.begin;
   commit = None;
   has_entered = false;
   has_points = false;
@@ -100,4 +102,5 @@ keeper_opens o = record {
   granted = refl;
   none_rest = refl;
   none_flushed = refl;
+  none_swept = refl;
 }

@@ -6,6 +6,7 @@ pub use Rattle.fkv_core.specs.OpeningWords
 pub use Rattle.fkv_core.specs.Openings
 pub use Rattle.fkv_core.specs.Showing
 pub use Rattle.fkv_core.specs.Told
+pub use Rattle.fkv_core.specs.Unswept
 pub use Rattle.fkv_core.specs.Worlds
 pub use Rattle.fkv_core.specs.declared.events.Actor
 pub use Rattle.fkv_core.specs.declared.events.Event

@@ -3,7 +3,7 @@ use Rattle.std.proofs.Common.{◌≡◌, inl, inr, ℕ, ◌≤◌, refl, sym, ap
 use Rattle.std.specs.Prelude.{Some}
 use Rattle.fkv_base.specs.declared.numbers.Version.{Version}
 use Rattle.law_commit.specs.Below.fkv_keeper.TheKeeping.{Keeping}
-use Rattle.law_commit.specs.Below.fkv_keeper.TheKeeping.TheVariants.{Copies, Ended, Enters, Finishes, LoadsPhase, Maintains, Seeks, Starts, Waits, Writes}
+use Rattle.law_commit.specs.Below.fkv_keeper.TheKeeping.TheVariants.{Copies, Ended, Enters, Finishes, LoadsPhase, Maintains, Seeks, Starts, Sweeps, Waits, Writes}
 use Rattle.law_commit.specs.Below.fkv_keeper.Keeping.{Finality, KeeperState, come_to}
 use Rattle.law_commit.specs.Below.fkv_world.Runs.{happens, run}
 use Rattle.law_commit.specs.Below.fkv_world.World.{Event, Now}
@@ -60,6 +60,7 @@ last_is begun s Maintains at = finished_is begun s.last at
 last_is begun s LoadsPhase at = finished_is begun s.last at
 last_is begun s Enters at = finished_is begun s.last at
 last_is begun s Copies at = finished_is begun s.last at
+last_is begun s Sweeps at = finished_is begun s.last at
 last_is begun s Seeks at = finished_is begun s.last at
 last_is begun s Waits at = finished_is begun s.last at
 

@@ -1,5 +1,6 @@
 -- One event of the keeper after another: the newest finished commit stays the newest, until the next one is finished.
 use Rattle.std.proofs.Common.{◌≡◌, ◌⊎◌, inl, inr, ℕ, ◌∙◌, refl, sym, ap, subst, Bool, true, false, List, [], ◌∷◌, ◌++◌, length}
+use Rattle.std.specs.Option.{is_some}
 use Rattle.std.specs.Prelude.{⊤, ◌*◌, if◌then◌else◌, Option, Some, None}
 use Rattle.fkv_base.specs.declared.commits.CommitKind.{CommitKind}
 use Rattle.fkv_base.specs.declared.commits.CommitKind.TheVariants.{Full, Log}
@@ -19,7 +20,7 @@ use Rattle.law_commit.specs.Below.fkv_keeper.CheckpointLaws.{IsFinished, MayFoll
 use Rattle.law_commit.specs.Below.fkv_keeper.KeeperTold.{KeeperTold}
 use Rattle.law_commit.specs.Below.fkv_keeper.KeeperTold.TheVariants.{CommitRefused, Turned, TurnRefused}
 use Rattle.law_commit.specs.Below.fkv_keeper.TheKeeping.{Keeping}
-use Rattle.law_commit.specs.Below.fkv_keeper.TheKeeping.TheVariants.{Ended, Starts, Maintains, LoadsPhase, Enters, Copies, Seeks, Waits, Writes, Finishes}
+use Rattle.law_commit.specs.Below.fkv_keeper.TheKeeping.TheVariants.{Ended, Starts, Maintains, LoadsPhase, Enters, Copies, Seeks, Waits, Writes, Finishes, Sweeps}
 use Rattle.law_commit.specs.Below.fkv_keeper.Checkpoint.{Checkpoint}
 use Rattle.law_commit.specs.Below.fkv_keeper.Keeping.{Finality, KeeperState, checkpoint_used, come_to, ended, finish_ledto, finished, keeping_called, keeping_given, keeping_next, lost_left, must_rest, parts_begun, serves_alone, triples_written, turned, wait_ledto, write_ledto, writes_begun, asked_for}
 use Rattle.law_commit.specs.Below.fkv_keeper.KeeperAsks.{keeping_calls}
@@ -69,6 +70,7 @@ no_writes Maintains calm follows = follows
 no_writes LoadsPhase calm follows = follows
 no_writes Enters calm follows = follows
 no_writes Copies calm follows = follows
+no_writes Sweeps calm follows = follows
 no_writes Seeks calm follows = follows
 no_writes step calm follows = absurd calm
 
@@ -78,6 +80,7 @@ no_finish Maintains calm follows = follows
 no_finish LoadsPhase calm follows = follows
 no_finish Enters calm follows = follows
 no_finish Copies calm follows = follows
+no_finish Sweeps calm follows = follows
 no_finish Seeks calm follows = follows
 no_finish step calm follows = absurd calm
 
@@ -90,6 +93,7 @@ calm_after step Maintains calm follows = refl
 calm_after step LoadsPhase calm follows = refl
 calm_after step Enters calm follows = refl
 calm_after step Copies calm follows = refl
+calm_after step Sweeps calm follows = refl
 calm_after step Seeks calm follows = refl
 calm_after step Waits calm follows = refl
 
@@ -175,6 +179,7 @@ module _ (shape : Shape) (opened : List ℕ) (first : BegunCommit) (Good : Begun
   idle_at a its w calls begun LoadsPhase idle last = (refl, last)
   idle_at a its w calls begun Enters idle last = (refl, last)
   idle_at a its w calls begun Copies idle last = (refl, last)
+  idle_at a its w calls begun Sweeps idle last = (refl, last)
   idle_at a its w calls begun Seeks idle last = (refl, last)
   idle_at a its w calls begun Waits idle last = (refl, last)
 
@@ -504,6 +509,7 @@ module _ (shape : Shape) (opened : List ℕ) (first : BegunCommit) (Good : Begun
   step_on p s was its w calls begun event LoadsPhase none e is so = outside p s was its w _ begun event LoadsPhase none e (λ at. cc) (calm_on p s was its w _ begun event LoadsPhase none e tt is)
   step_on p s was its w calls begun event Enters none e is so = outside p s was its w _ begun event Enters none e (λ at. cc) (calm_on p s was its w _ begun event Enters none e tt is)
   step_on p s was its w calls begun event Copies none e is so = outside p s was its w _ begun event Copies none e (λ at. cc) (calm_on p s was its w _ begun event Copies none e tt is)
+  step_on p s was its w calls begun event Sweeps none e is so = outside p s was its w _ begun event Sweeps none e (λ at. cc) (calm_on p s was its w _ begun event Sweeps none e tt is)
   step_on p s was its w calls begun event Seeks none e is so = outside p s was its w _ begun event Seeks none e (λ at. cc) (calm_on p s was its w _ begun event Seeks none e tt is)
 
   -- ---- while its writes rest
@@ -579,7 +585,7 @@ module _ (shape : Shape) (opened : List ℕ) (first : BegunCommit) (Good : Begun
     by_end none (inr broken) = rest_breaks broken none
 
     rest_now : (b : Bool) → after.rests ≡ b → Now after
-    rest_now true e = rest_still (rests_still shape p s event rests resting.rests resting.serves e) e
+    rest_now true e = rest_still (rests_still shape p s event rests (ap is_some resting.in_hand) resting.rests resting.serves e) e
     rest_now false e = by_end e (rest_ends shape p s event rests resting.rests e)
 
     rest_on : Comes p s was its w begun event s.step (calls_of shape s event ++ calls) after
@@ -610,6 +616,7 @@ module _ (shape : Shape) (opened : List ℕ) (first : BegunCommit) (Good : Begun
   either was s its w calls begun LoadsPhase is = inl is
   either was s its w calls begun Enters is = inl is
   either was s its w calls begun Copies is = inl is
+  either was s its w calls begun Sweeps is = inl is
   either was s its w calls begun Seeks is = inl is
   either was s its w calls begun Waits is = inl is
 

@@ -20,8 +20,8 @@ use Rattle.law_commit.specs.Below.fkv_commit.Seeking.{seek_ask, seek_next}
 use Rattle.law_commit.specs.Below.fkv_commit.Starting.{start_ask, start_next}
 use Rattle.law_commit.specs.Below.fkv_commit.Waiting.{wait_ask, wait_next}
 use Rattle.law_commit.specs.Below.fkv_keeper.TheKeeping.{Keeping}
-use Rattle.law_commit.specs.Below.fkv_keeper.TheKeeping.TheVariants.{Ended, Starts, Maintains, LoadsPhase, Enters, Copies, Seeks, Waits, Writes, Finishes}
-use Rattle.law_commit.specs.Below.fkv_keeper.Keeping.{KeeperState, come_to, commit_asked, must_rest, turn_asked, copies, copies_next, copy_driven, copy_ledto, enter_ledto, finish_ledto, finished, keeping_called, keeping_given, keeping_next, maintain_ledto, part_begun, phase_ledto, seek_ledto, start_ledto, turned, unless_flush_rests, wait_ledto, write_ledto, writes_begun, writes_called, writes_taken_up, is_copy_resting, copy_told}
+use Rattle.law_commit.specs.Below.fkv_keeper.TheKeeping.TheVariants.{Ended, Starts, Maintains, LoadsPhase, Enters, Copies, Seeks, Waits, Writes, Finishes, Sweeps}
+use Rattle.law_commit.specs.Below.fkv_keeper.Keeping.{KeeperState, come_to, commit_asked, must_rest, turn_asked, copies, copies_next, copy_driven, copy_ledto, enter_ledto, finish_ledto, finished, keeping_called, keeping_given, keeping_next, maintain_ledto, part_begun, phase_ledto, seek_ledto, start_ledto, sweeps_next, turned, unless_flush_rests, wait_ledto, write_ledto, writes_begun, writes_called, writes_taken_up, is_copy_resting, copy_told}
 use Rattle.law_commit.specs.Below.fkv_keeper.KeeperAsks.{keeping_calls}
 use Rattle.law_commit.proofs.Below.fkv_keeper.Shown.{BeginsRest}
 use Rattle.law_commit.specs.Below.fkv_keeper.KeeperRun.{BeginsCommit, BeginsTurn, Calls, Gets, IsOpened, KeeperEvent, Replies, begins, is_in_hand, keeper_happens, keeper_run}
@@ -50,6 +50,7 @@ use Rattle.law_commit.specs.Below.fkv_world.OwnEvents.{keeper_events}
 use Rattle.law_commit.specs.Below.fkv_world.Runs.{World, run}
 use Rattle.law_commit.specs.Below.fkv_world.World.{Event}
 use Rattle.law_commit.proofs.Below.fkv_world.Shown.{keeper_runs}
+use Rattle.law_commit.proofs.Shown.{sweep_begins, sweep_moves, sweep_reads}
 use Rattle.law_order.proofs.OfImages.Resting.{RestsWell, at_step, happens_well, kept_on, opened_at, opened_well}
 use Rattle.law_order.proofs.OfImages.Untouched.{AreAbove, MakesAbove, flush_calls_above}
 
@@ -105,7 +106,7 @@ part_high p s c said granted = tt
 
 phase_high : (p : Places) (s : KeeperState) (found : Option Commit) (said : PhaseSaid) (granted : Bool) → s.rests ≡ false → IsHigh (phase_ledto p s found said granted)
 unfolding phase_ledto
-phase_high p s None said granted none = either (is_flush_resting s.maintain) _ _ tt tt
+phase_high p s None said granted none = either (is_flush_resting s.maintain) _ (sweeps_next s granted) tt (sweep_begins IsHigh s granted tt tt)
 phase_high p s (Some c) said granted none = by s.rests none
   where
     by : (rests : Bool) → rests ≡ false → IsHigh (if rests then writes_taken_up s granted else unless_flush_rests s granted (part_begun p s c said granted))
@@ -196,6 +197,7 @@ reply_high shape p s Seeks reply granted none at high = seek_high _ (seek_ask (s
 reply_high shape p s Waits reply granted none at high = wait_high shape _ (wait_ask (wait_next s.wait reply)) at
 reply_high shape p s Writes reply granted none at high = still s Writes at high
 reply_high shape p s Finishes reply granted none at high = finish_high _ (finish_ask s.seek.points (finish_next s.finish reply)) at
+reply_high shape p s Sweeps reply granted none at high = sweep_moves IsHigh s reply (λ w. still (record s { sweep = w }) Sweeps at tt) (λ w. tt)
 
 given_high : (shape : Shape) (p : Places) (s : KeeperState) (step : Keeping) (action : Action) → s.step ≡ step → WritesHigh step s.writes → IsHigh (keeping_given shape p s step action)
 unfolding keeping_given
@@ -206,6 +208,7 @@ called_high : (shape : Shape) (p : Places) (s : KeeperState) (step : Keeping) (d
 unfolding keeping_called
 called_high shape p s Maintains done bytes at high = maintain_high _ (maintain_ask shape p (maintain_called shape p s.maintain done bytes)) at
 called_high shape p s Writes done bytes at high = called_writes_high s done at high
+called_high shape p s Sweeps done bytes at high = sweep_reads IsHigh s done bytes (λ w. still (record s { sweep = w }) Sweeps at tt) (λ w. tt) (λ w. tt)
 called_high shape p s step done bytes at high = still s step at high
 
 step_high : (shape : Shape) (p : Places) (s : KeeperState) (event : KeeperEvent) → s.rests ≡ false → IsHigh s → IsHigh (keeper_happens shape p s event)
@@ -254,6 +257,7 @@ opened_high s opened = at_rest s.step refl
     at_rest LoadsPhase e = still s LoadsPhase e tt
     at_rest Enters e = still s Enters e tt
     at_rest Copies e = still s Copies e tt
+    at_rest Sweeps e = still s Sweeps e tt
     at_rest Seeks e = still s Seeks e tt
     at_rest Waits e = still s Waits e tt
     at_rest Finishes e = still s Finishes e tt

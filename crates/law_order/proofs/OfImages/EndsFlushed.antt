@@ -27,8 +27,8 @@ use Rattle.law_commit.specs.Below.fkv_flush.GuardLevels.{levels_of}
 use Rattle.law_commit.specs.Below.fkv_keeper.KeeperTold.{KeeperTold}
 use Rattle.law_commit.specs.Below.fkv_keeper.KeeperTold.TheVariants.{Device}
 use Rattle.law_commit.specs.Below.fkv_keeper.TheKeeping.{Keeping}
-use Rattle.law_commit.specs.Below.fkv_keeper.TheKeeping.TheVariants.{Ended, Starts, Maintains, LoadsPhase, Enters, Copies, Seeks, Waits, Writes, Finishes}
-use Rattle.law_commit.specs.Below.fkv_keeper.Keeping.{KeeperState, come_to, commit_asked, must_rest, turn_asked, turn_over, copies, copies_next, copy_driven, copy_ledto, enter_ledto, finish_ledto, finished, keeper_ask, keeper_next, keeping_ask, keeping_called, keeping_given, keeping_next, maintain_ledto, part_begun, phase_ledto, seek_ledto, start_ledto, turned, unless_flush_rests, wait_ledto, write_ledto, writes_begun, writes_called, writes_taken_up, is_copy_resting, copy_told}
+use Rattle.law_commit.specs.Below.fkv_keeper.TheKeeping.TheVariants.{Ended, Starts, Maintains, LoadsPhase, Enters, Copies, Seeks, Waits, Writes, Finishes, Sweeps}
+use Rattle.law_commit.specs.Below.fkv_keeper.Keeping.{KeeperState, come_to, commit_asked, must_rest, turn_asked, turn_over, copies, copies_next, copy_driven, copy_ledto, enter_ledto, finish_ledto, finished, keeper_ask, keeper_next, keeping_ask, keeping_called, keeping_given, keeping_next, maintain_ledto, part_begun, phase_ledto, seek_ledto, start_ledto, sweeps_next, turned, unless_flush_rests, wait_ledto, write_ledto, writes_begun, writes_called, writes_taken_up, is_copy_resting, copy_told}
 use Rattle.law_commit.proofs.Below.fkv_keeper.Shown.{BeginsRest}
 use Rattle.law_commit.specs.Below.fkv_keeper.KeeperRun.{BeginsCommit, BeginsTurn, Calls, Gets, IsOpened, KeeperEvent, Replies, begins, is_in_hand, keeper_happens, keeper_run}
 use Rattle.law_commit.specs.Below.fkv_maintain.MaintainAnswer.{MaintainAnswer}
@@ -53,6 +53,7 @@ use Rattle.law_commit.specs.Below.fkv_world.Runs.{World, happens, read_by_keeper
 use Rattle.law_commit.specs.Below.fkv_world.World as world
 use Rattle.law_commit.specs.Below.fkv_world.World.{Event, near}
 use Rattle.law_commit.proofs.Below.fkv_world.Shown.{happens_keeper}
+use Rattle.law_commit.proofs.Shown.{sweep_begins, sweep_moves, sweep_reads}
 use Rattle.law_order.specs.Images.Ends.{CommitEndsBy, WrittenEndsBy}
 use Rattle.law_order.proofs.OfImages.Resting.{RestsWell, happens_well, kept_on, opened_at, opened_well}
 
@@ -116,7 +117,7 @@ part_ends most p s c said granted here = tt
 
 phase_ends : (most : ℕ) (p : Places) (s : KeeperState) (found : Option Commit) (said : PhaseSaid) (granted : Bool) → s.rests ≡ false → s.commit ≡ found → EndsNow most (phase_ledto p s found said granted)
 unfolding phase_ledto
-phase_ends most p s None said granted none here = either most (is_flush_resting s.maintain) _ _ tt tt
+phase_ends most p s None said granted none here = either most (is_flush_resting s.maintain) _ (sweeps_next s granted) tt (sweep_begins (EndsNow most) s granted tt tt)
 phase_ends most p s (Some c) said granted none here = by s.rests none
   where
     by : (rests : Bool) → rests ≡ false → EndsNow most (if rests then writes_taken_up s granted else unless_flush_rests s granted (part_begun p s c said granted))
@@ -204,6 +205,7 @@ reply_ends most shape p s Seeks reply granted none at loads ends = seek_ends mos
 reply_ends most shape p s Waits reply granted none at loads ends = wait_ends most shape s s.wait.step reply at ends.waiting ends.its_end (loads at)
 reply_ends most shape p s Writes reply granted none at loads ends = still most s Writes at ends
 reply_ends most shape p s Finishes reply granted none at loads ends = finish_ends most _ (finish_ask s.seek.points (finish_next s.finish reply)) at ends
+reply_ends most shape p s Sweeps reply granted none at loads ends = sweep_moves (EndsNow most) s reply (λ w. still most (record s { sweep = w }) Sweeps at tt) (λ w. tt)
 
 given_ends : (most : ℕ) (shape : Shape) (p : Places) (s : KeeperState) (step : Keeping) (action : Action) → s.step ≡ step → EndsAt most s step → EndsNow most (keeping_given shape p s step action)
 unfolding keeping_given
@@ -214,6 +216,7 @@ called_ends : (most : ℕ) (shape : Shape) (p : Places) (s : KeeperState) (step 
 unfolding keeping_called
 called_ends most shape p s Maintains done bytes at ends = maintain_ends most _ (maintain_ask shape p (maintain_called shape p s.maintain done bytes)) at
 called_ends most shape p s Writes done bytes at ends = called_writes_end most s done at ends
+called_ends most shape p s Sweeps done bytes at ends = sweep_reads (EndsNow most) s done bytes (λ w. still most (record s { sweep = w }) Sweeps at tt) (λ w. tt) (λ w. tt)
 called_ends most shape p s step done bytes at ends = still most s step at ends
 
 abbrev pub EventLoads : ℕ → KeeperState → KeeperEvent → Type 0
@@ -316,6 +319,7 @@ higher low most s Maintains up ends = tt
 higher low most s LoadsPhase up ends = tt
 higher low most s Enters up ends = tt
 higher low most s Copies up ends = tt
+higher low most s Sweeps up ends = tt
 higher low most s Seeks up ends = tt
 
 pub all_higher : (low most : ℕ) (s : KeeperState) → low ≤ most → Ends low s → Ends most s
@@ -328,6 +332,7 @@ opened_ends most s Maintains e free = cc
 opened_ends most s LoadsPhase e free = cc
 opened_ends most s Enters e free = cc
 opened_ends most s Copies e free = cc
+opened_ends most s Sweeps e free = cc
 opened_ends most s Seeks e free = cc
 opened_ends most s Waits e free = cc
 opened_ends most s Writes e free = cc
@@ -364,6 +369,7 @@ ends_higher low most s Maintains up ends = tt
 ends_higher low most s LoadsPhase up ends = tt
 ends_higher low most s Enters up ends = tt
 ends_higher low most s Copies up ends = tt
+ends_higher low most s Sweeps up ends = tt
 ends_higher low most s Seeks up ends = tt
 ends_higher low most s Waits up ends = tt
 

@@ -1,7 +1,7 @@
 -- Each commit whose writes begin in a life fits it.
 use Rattle.std.proofs.Common.{◌≡◌, inl, inr, ℕ, ◌<◌, ◌≤◌, ◌∙◌, arith, refl, sym, ap, subst, Bool, true, List, [], ◌∷◌, length}
 use Rattle.std.specs.Prelude.{Option, Some, None}
-use Rattle.fkv_base.specs.Limits.{last_of}
+use Rattle.fkv_base.specs.Limits.{last_of, last_version}
 use Rattle.fkv_base.specs.declared.classes.StoreClass.{StoreClass}
 use Rattle.fkv_base.specs.declared.classes.StoreClass.TheVariants.{Specified, Living}
 use Rattle.fkv_base.specs.declared.commits.CommitKind.{CommitKind}
@@ -17,7 +17,7 @@ use Rattle.law_opening.specs.Below.fkv_core.Openings.{IsOpeningWorld, beginning}
 use Rattle.law_commit.specs.Below.fkv_flush.GuardLevels.{Rises, levels_of}
 use Rattle.law_commit.specs.Below.fkv_keeper.Keeping.{Finality, KeeperState, come_to, lost_left}
 use Rattle.law_commit.specs.Below.fkv_keeper.KeeperRun.{IsOpened, KeeperEvent, keeper_run}
-use Rattle.law_commit.specs.Below.fkv_keeper.SlotLaws.{BeginsAt, CommitHasRoom, HasRoom}
+use Rattle.law_commit.specs.Below.fkv_keeper.SlotLaws.{CommitHasRoom, HasRoom}
 use Rattle.law_commit.specs.Below.fkv_keeper.TheKeeping.{Keeping}
 use Rattle.law_commit.specs.Below.fkv_keeper.TheKeeping.TheVariants.{Waits, Writes, Finishes}
 use Rattle.law_opening.specs.Below.fkv_opening.TheOpened.{Opened}
@@ -48,9 +48,30 @@ use Rattle.law_order.proofs.OfImages.WordsRead.{Always, always_map}
 use Rattle.law_order.proofs.OfImages.Tails.{AtTail, Below, Bounds, LastBelow, TakenAbove, UsedBelow}
 use Rattle.law_commit.specs.Below.law_world.Keeper.Lives.{IsLifeTold}
 
--- it doesn't matter whether it is sealed or finished
-pub of_plain : (o : Opened) (n : Now) (flushed : ℕ) (c : BegunCommit) → FitsLife o n flushed (plain c) → FitsLife o n flushed c
-of_plain o n flushed c is = record {
+-- what is known of a commit as its writes begin, but for where its log begins
+pub record FitsWritten (o : Opened) (n : Now) (flushed : ℕ) (c : BegunCommit) : Type 0 where
+  pub few : c.number.0 < last_version
+  pub newer : o.number.0 < c.number.0
+  pub no_newer : c.parts.checkpoint.number.0 ≤ c.number.0
+  pub in_window : InWindow n.shape.class c.parts.checkpoint.number.0 c.number.0
+  pub some : 1 ≤ c.parts.checkpoint.first.0
+  pub upwards : c.parts.checkpoint.first.0 ≤ c.parts.end.0
+  pub later : o.tail.0 ≤ c.parts.end.0
+  pub is_flushed : c.parts.end.0 ≤ flushed
+  pub room : c.parts.kind ≡ Full → c.parts.checkpoint.triples ≤ most_triples n.shape
+  pub lost : NamesItsLost o n c
+  pub as_opened : c.parts.checkpoint ≡ n.keeper.last.checkpoint → c.parts.lost ≡ n.keeper.lost
+
+-- where it begins
+pub record BeginFits (o : Opened) (n : Now) (c : BegunCommit) : Type 0 where
+  pub on : o.begin.0 ≤ c.parts.begin.0
+  pub scan : c.parts.begin.0 ≤ c.parts.checkpoint.first.0
+  pub whole : n.shape.class ≡ Specified → c.parts.begin ≡ o.begin
+  pub as_opened : c.parts.checkpoint ≡ n.keeper.last.checkpoint → c.parts.begin ≡ o.begin
+
+-- So it fits. It doesn't matter whether it is sealed or finished.
+pub begin_fit : (o : Opened) (n : Now) (flushed : ℕ) (c : BegunCommit) → n.shape ≡ o.shape → FitsWritten o n flushed (plain c) → BeginFits o n c → FitsLife o n flushed c
+begin_fit o n flushed c same is begin = record {
   few = is.few;
   newer = is.newer;
   no_newer = is.no_newer;
@@ -59,16 +80,17 @@ of_plain o n flushed c is = record {
   upwards = is.upwards;
   later = is.later;
   is_flushed = is.is_flushed;
-  begins = is.begins;
-  some_begin = is.some_begin;
-  before_scan = is.before_scan;
-  whole = is.whole;
+  begins = begin.on;
+  some_begin = (let some = o.some_begin in let on = begin.on in omega (arith, some, on));
+  before_scan = begin.scan;
+  whole = λ specified. ap (λ (x : Addr). x.0) (begin.whole specified) ∙ o.whole (sym (ap (λ (x : Shape). x.class) same) ∙ specified);
   room = is.room;
   lost = elim is.lost [
     | inl none ↦ inl (record { none = none.none; newer = none.newer })
     | inr names ↦ inr (record { lost = names.lost; checkpoint = names.checkpoint; few = names.few })
   ];
   as_opened = is.as_opened;
+  begins_as_opened = begin.as_opened;
 }
 
 few_left : (kind : CommitKind) (lost : List LostRange) → (kind ≡ Log → length lost ≤ max_lost) → length (lost_left kind lost) ≤ max_lost
@@ -109,8 +131,8 @@ window_of class a c Log is same room uses =
 -- of the commit that is being written, by the tails that were loaded for it
 module _ (o : Opened) (n : Now) (flushed : ℕ) (shape : Shape) (p : Places) where
   fits_so : (a : KeeperState) (c : Commit) → a.step ≡ Writes → a.commit ≡ Some c → IsBelow o.begin.0 o.tail.0 o.number.0 a → Ends flushed a → CommitHasRoom a → (c.kind ≡ Full → a.used.triples ≤ most_triples n.shape) → InWindow n.shape.class a.used.number.0 c.number.0 → n.keeper.last.checkpoint.number.0 ≤ o.number.0
-      → NamesItsLost o n (commit_opening a c) → c.begin ≡ o.begin → n.shape ≡ o.shape → FitsLife o n flushed (commit_opening a c)
-  fits_so a c writes found below ends room area window older lost begins same =
+      → NamesItsLost o n (commit_opening a c) → FitsWritten o n flushed (commit_opening a c)
+  fits_so a c writes found below ends room area window older lost =
       let t : Bounds = below.bounds in
       let there = below.is in
       let at : Below t true a.last a.commit × UsedBelow t a.used a.commit = at_writes (AtTail t) a writes there.at in
@@ -124,7 +146,6 @@ module _ (o : Opened) (n : Now) (flushed : ℕ) (shape : Shape) (p : Places) whe
       let from = below.its_begin in
       let first = used.0 in
       let some = o.some_begin in
-      let at_begin : c.begin.0 ≡ o.begin.0 = ap (λ (x : Addr). x.0) begins in
       record {
         few = last_low a.start.asked.class c.number.0 has.follows;
         newer = omega (arith, least, more);
@@ -134,24 +155,19 @@ module _ (o : Opened) (n : Now) (flushed : ℕ) (shape : Shape) (p : Places) whe
         upwards = used.3;
         later = omega (arith, base, low);
         is_flushed = by c found;
-        begins = begins;
-        some_begin = omega (arith, at_begin, some);
-        before_scan = omega (arith, at_begin, from, first);
-        whole = λ specified. at_begin ∙ o.whole (sym (ap (λ (x : Shape). x.class) same) ∙ specified);
         room = area;
         lost = lost;
         as_opened = λ used. (let names = lost_as_opened o n (commit_opening a c) older lost used in names.lost);
       }
 
-  pub all_fit : (opening : KeeperState) → opening ≡ n.keeper → opening.start.asked.class ≡ n.shape.class → n.keeper.last.checkpoint.number.0 ≤ o.number.0 → n.shape ≡ o.shape → IsOpened opening → ((events : List KeeperEvent) → CommitHasRoom (keeper_run shape p opening events))
-      → ((events : List KeeperEvent) → BeginsAt o.begin (keeper_run shape p opening events))
+  pub all_fit : (opening : KeeperState) → opening ≡ n.keeper → opening.start.asked.class ≡ n.shape.class → n.keeper.last.checkpoint.number.0 ≤ o.number.0 → IsOpened opening → ((events : List KeeperEvent) → CommitHasRoom (keeper_run shape p opening events))
       → ((event : KeeperEvent) (before : List KeeperEvent) (c : Commit) → (keeper_run shape p opening before).step ≡ Waits → (keeper_run shape p opening (event ∷ before)).step ≡ Writes → (keeper_run shape p opening (event ∷ before)).commit ≡ Some c
       → c.kind ≡ Full → (keeper_run shape p opening (event ∷ before)).used.triples ≤ most_triples n.shape)
       → (events : List KeeperEvent) → Always (λ (s : KeeperState). IsBelow o.begin.0 o.tail.0 o.number.0 s) shape p opening events → Always (λ (s : KeeperState). Ends flushed s) shape p opening events
-      → AllGood shape p opening (FitsLife o n flushed) events
+      → AllGood shape p opening (FitsWritten o n flushed) events
   unfolding Always
-  all_fit opening same class older is_shape opened room begins area [] below ends = tt
-  all_fit opening same class older is_shape opened room begins area (event ∷ before) below ends = (
+  all_fit opening same class older opened room area [] below ends = tt
+  all_fit opening same class older opened room area (event ∷ before) below ends = (
     λ c waits writes found.
         (let a : KeeperState = keeper_run shape p opening (event ∷ before) in
         let behind : IsBehindWait a.step = subst IsBehindWait (sym writes) tt in
@@ -162,8 +178,8 @@ module _ (o : Opened) (n : Now) (flushed : ℕ) (shape : Shape) (p : Places) whe
         let uses : UsesBy c.kind a c = run_uses shape p opening (event ∷ before) c opened behind found in
         let left = left_held o.number.0 n.keeper.lost n.keeper.last.checkpoint c.kind a c held uses (hand_newer o.begin.0 o.tail.0 o.number.0 a below.0 c found behind) in
         let has = room (event ∷ before) c found in
-        fits_so a c writes found below.0 ends.0 (room (event ∷ before)) (area event before c waits writes found) (window_of n.shape.class a c c.kind refl (run_class shape p opening (event ∷ before) ∙ class) has uses) older (lost_named o n a c (few_left c.kind a.lost has.lost) left) ((begins (event ∷ before)).commit c found) is_shape),
-    all_fit opening same class older is_shape opened room begins area before below.1 ends.1,
+        fits_so a c writes found below.0 ends.0 (room (event ∷ before)) (area event before c waits writes found) (window_of n.shape.class a c c.kind refl (run_class shape p opening (event ∷ before) ∙ class) has uses) older (lost_named o n a c (few_left c.kind a.lost has.lost) left)),
+    all_fit opening same class older opened room area before below.1 ends.1,
   )
 
 -- ---- in a life
@@ -201,15 +217,13 @@ opened_older o n its = subst (λ (last : Finality). last.checkpoint.number.0 ≤
 
 pub life_fits : (o : Opened) (n : Now) (bytes : List ℕ) (events : List Event) → IsOpeningWorld o n → IsLifeTold (beginning n bytes) events
     → ((shape : Shape) (p : Places) (opening : KeeperState) (past : List KeeperEvent) → IsOpened opening → CommitHasRoom (keeper_run shape p opening past))
-    → ((shape : Shape) (p : Places) (opening : KeeperState) (past : List KeeperEvent) → IsOpened opening → BeginsAt opening.last.begin (keeper_run shape p opening past))
     → ((before : List Event) (event : Event) → Rises (levels_of (run (beginning n bytes) before).now.words) (levels_of (happens (run (beginning n bytes) before) event).now.words))
-    → AllOfLife (beginning n bytes) (FitsLife o n (flushed_so_far n bytes events)) events
-life_fits o n bytes events its life room begins rises =
+    → AllOfLife (beginning n bytes) (FitsWritten o n (flushed_so_far n bytes events)) events
+life_fits o n bytes events its life room rises =
     let opening : World = beginning n bytes in
     let told = life.told in
     let opened : IsOpened n.keeper = told.is_opened in
     let tails = life_tails opening o.begin.0 o.tail.0 o.number.0 events (opens_below o n bytes its opened) (λ before event. (rises before event).tail) life.in_turn in
-    all_fit o n (flushed_so_far n bytes events) n.shape n.places n.keeper refl (its.its_keeper.class ∙ ap (λ (x : Shape). x.class) (sym its.its_shape)) (opened_older o n its) its.its_shape opened (λ past. room n.shape n.places n.keeper past opened)
-    (λ past. subst (λ (x : Addr). BeginsAt x (keeper_run n.shape n.places n.keeper past)) (ap (λ (last : Finality). last.begin) its.its_keeper.newest) (begins n.shape n.places n.keeper past opened))
+    all_fit o n (flushed_so_far n bytes events) n.shape n.places n.keeper refl (its.its_keeper.class ∙ ap (λ (x : Shape). x.class) (sym its.its_shape)) (opened_older o n its) opened (λ past. room n.shape n.places n.keeper past opened)
     (λ event before c waits writes found. begun_fits n.shape n.places n.keeper event before c opened told.buckets told.overflow waits writes found)
     (keeper_events opening events) tails.always (life_always opening events opened (λ before event. (rises before event).flushed))

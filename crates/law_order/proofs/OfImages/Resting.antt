@@ -1,6 +1,7 @@
 -- What is known of the commit in hand where a keeper has come to is kept by each event, whether or not its writes rest.
 use Rattle.std.proofs.Common.{◌≡◌, inl, inr, ◌∙◌, refl, sym, ap, subst, Bool, true, false, List, [], ◌∷◌}
 use Rattle.std.specs.Prelude.{if◌then◌else◌}
+use Rattle.std.specs.Option.{is_some}
 use Rattle.fkv_base.specs.declared.shapes.Shape.{Shape}
 use Rattle.law_commit.specs.Below.fkv_keeper.TheKeeping.{Keeping}
 use Rattle.law_commit.specs.Below.fkv_keeper.TheKeeping.TheVariants.{Maintains, Writes}
@@ -18,26 +19,31 @@ use Rattle.law_commit.proofs.Below.fkv_world.Shown.{keeper_runs}
 not_both : {X : Type 0} (b : Bool) → b ≡ true → b ≡ false → X
 not_both b high low = let clash : true ≡ false = sym high ∙ low in cc
 
--- ---- where writes rest, no part of a commit is under way, and a turn serves
+-- ---- where writes rest, a commit is in hand, no part of it is under way, and a turn serves
 pub record RestsWell (s : KeeperState) : Type 0 where
+  pub in_hand : s.rests ≡ true → is_some s.commit ≡ true
   pub rests : s.rests ≡ true → MayRest s.step
   pub serves : s.rests ≡ true → s.step ≡ Maintains → IsServing s.maintain.step
 
 pub opened_well : (s : KeeperState) → IsOpened s → RestsWell s
-opened_well s opened = record { rests = λ is. not_both s.rests is opened.none_rest; serves = λ is. not_both s.rests is opened.none_rest }
+opened_well s opened = record { in_hand = λ is. not_both s.rests is opened.none_rest; rests = λ is. not_both s.rests is opened.none_rest; serves = λ is. not_both s.rests is opened.none_rest }
 
 abbrev ServesWell : KeeperState → Type 0
-ServesWell s = MayRest s.step × (s.step ≡ Maintains → IsServing s.maintain.step)
+ServesWell s = MayRest s.step × (s.step ≡ Maintains → IsServing s.maintain.step) × (is_some s.commit ≡ true)
 
 well_now : (shape : Shape) (p : Places) (s : KeeperState) (event : KeeperEvent) → RestsWell s → (keeper_happens shape p s event).rests ≡ true → ServesWell (keeper_happens shape p s event)
 well_now shape p s event well is = by s.rests refl
   where
     by : (rests : Bool) → s.rests ≡ rests → ServesWell (keeper_happens shape p s event)
-    by true was = let kept = rests_still shape p s event was (well.rests was) (well.serves was) is in (kept.rests, kept.serves)
-    by false none = let begun = begins_rest shape p s event none is in subst ServesWell (sym begun.same) (tt, λ at. cc)
+    by true was = let kept = rests_still shape p s event was (well.in_hand was) (well.rests was) (well.serves was) is in (kept.rests, kept.serves, ap is_some kept.commit ∙ well.in_hand was)
+    by false none = let begun = begins_rest shape p s event none is in subst ServesWell (sym begun.same) (tt, λ at. cc, ap is_some begun.in_hand)
 
 pub happens_well : (shape : Shape) (p : Places) (s : KeeperState) (event : KeeperEvent) → RestsWell s → RestsWell (keeper_happens shape p s event)
-happens_well shape p s event well = record { rests = λ is. (well_now shape p s event well is).0; serves = λ is. (well_now shape p s event well is).1 }
+happens_well shape p s event well = record {
+  in_hand = λ is. (well_now shape p s event well is).2;
+  rests = λ is. (well_now shape p s event well is).0;
+  serves = λ is. (well_now shape p s event well is).1;
+}
 
 -- ---- a state has of the commit in hand what another has
 pub record IsSameInHand (s a : KeeperState) : Type 0 where
@@ -83,7 +89,7 @@ kept_on P shape p s event well goes begins same breaks is = from s.rests refl is
     by_end now (inr broken) = breaks a broken now
 
     resting : s.rests ≡ true → P s Writes → (rests : Bool) → a.rests ≡ rests → P a (if rests then Writes else a.step)
-    resting was now true e = same a (still_same s a (rests_still shape p s event was (well.rests was) (well.serves was) e)) now
+    resting was now true e = same a (still_same s a (rests_still shape p s event was (well.in_hand was) (well.rests was) (well.serves was) e)) now
     resting was now false e = by_end now (rest_ends shape p s event was (well.rests was) e)
 
     from : (rests : Bool) → s.rests ≡ rests → P s (if rests then Writes else s.step) → P a (come_to a)

@@ -3,7 +3,7 @@ use Rattle.std.proofs.Common.{◌≡◌, ◌⊎◌, inl, inr, ℕ, ◌∙◌, re
 use Rattle.std.specs.Prelude.{if◌then◌else◌}
 use Rattle.law_commit.specs.Below.fkv_keeper.Keeping.{Finality, KeeperState, come_to}
 use Rattle.law_commit.specs.Below.fkv_keeper.TheKeeping.{Keeping}
-use Rattle.law_commit.specs.Below.fkv_keeper.TheKeeping.TheVariants.{Ended, Starts, Maintains, LoadsPhase, Enters, Copies, Seeks, Waits, Writes, Finishes}
+use Rattle.law_commit.specs.Below.fkv_keeper.TheKeeping.TheVariants.{Ended, Starts, Maintains, LoadsPhase, Enters, Copies, Seeks, Waits, Writes, Finishes, Sweeps}
 use Rattle.law_commit.specs.Below.fkv_manifest.Committing.{CommitWriter}
 use Rattle.law_commit.specs.Below.fkv_manifest.Kept.{NewStands}
 use Rattle.law_commit.specs.BegunCommits.{BegunCommit}
@@ -39,6 +39,7 @@ step_stands begun s Maintains w image its written = none_or_one begun s.last w i
 step_stands begun s LoadsPhase w image its written = none_or_one begun s.last w image (inl its)
 step_stands begun s Enters w image its written = none_or_one begun s.last w image (inl its)
 step_stands begun s Copies w image its written = none_or_one begun s.last w image (inl its)
+step_stands begun s Sweeps w image its written = none_or_one begun s.last w image (inl its)
 step_stands begun s Seeks w image its written = none_or_one begun s.last w image (inl its)
 step_stands begun s Waits w image its written = none_or_one begun s.last w image (inl its)
 

@@ -37,9 +37,9 @@ use Rattle.law_commit.specs.Below.fkv_commit.Starting.{StartState, is_lost_full,
 use Rattle.law_commit.specs.Below.fkv_commit.Waiting.{wait_ask, wait_begun, wait_next}
 use Rattle.law_commit.specs.Below.fkv_keeper.KeeperTold.TheVariants.{CommitRefused, TurnRefused}
 use Rattle.law_commit.specs.Below.fkv_keeper.TheKeeping.{Keeping}
-use Rattle.law_commit.specs.Below.fkv_keeper.TheKeeping.TheVariants.{Ended, Starts, Maintains, LoadsPhase, Enters, Copies, Seeks, Waits, Writes, Finishes}
+use Rattle.law_commit.specs.Below.fkv_keeper.TheKeeping.TheVariants.{Ended, Starts, Maintains, LoadsPhase, Enters, Copies, Seeks, Waits, Writes, Finishes, Sweeps}
 use Rattle.law_commit.specs.Below.fkv_keeper.Checkpoint.{Checkpoint}
-use Rattle.law_commit.specs.Below.fkv_keeper.Keeping.{Finality, KeeperState, checkpoint_used, come_to, commit_asked, copied, copies, copies_next, copy_driven, copy_ledto, enter_ledto, finish_ledto, finished, keeping_ask, keeping_called, keeping_given, keeping_next, maintain_ledto, must_rest, part_begun, phase_ledto, points_known, seek_ledto, start_ledto, turn_asked, turn_over, turned, unless_flush_rests, wait_ledto, write_ledto, writes_begun, writes_called, writes_taken_up, is_copy_resting, copy_told}
+use Rattle.law_commit.specs.Below.fkv_keeper.Keeping.{Finality, KeeperState, checkpoint_used, come_to, commit_asked, copied, copies, copies_next, copy_driven, copy_ledto, enter_ledto, finish_ledto, finished, keeping_ask, keeping_called, keeping_given, keeping_next, maintain_ledto, must_rest, part_begun, phase_ledto, points_known, seek_ledto, start_ledto, sweeps_next, turn_asked, turn_over, turned, unless_flush_rests, wait_ledto, write_ledto, writes_begun, writes_called, writes_taken_up, is_copy_resting, copy_told}
 use Rattle.law_commit.proofs.Below.fkv_keeper.Shown.{BreaksInRest}
 use Rattle.law_commit.specs.Below.fkv_keeper.KeeperRun.{BeginsCommit, BeginsTurn, Calls, Gets, KeeperEvent, Replies, begins, is_in_hand, keeper_happens, keeper_run}
 use Rattle.law_commit.specs.Below.fkv_maintain.MaintainAnswer.{MaintainAnswer}
@@ -59,6 +59,7 @@ use Rattle.fkv_plane.specs.Places.{shared_place}
 use Rattle.fkv_words.specs.declared.phase_words.PhaseSaid.{PhaseSaid}
 use Rattle.fkv_words.specs.declared.phase_words.PhaseSaid.TheVariants.{Says}
 use Rattle.fkv_words.specs.PhaseWords.{phase_said}
+use Rattle.law_commit.proofs.Shown.{sweep_begins, sweep_moves, sweep_reads}
 use Rattle.law_order.proofs.OfImages.Resting.{IsSameInHand, RestsWell, happens_well, kept_on}
 use Rattle.law_order.proofs.OfImages.WordsRead.{AllRead, Always, ReadsWord, always_last}
 use Rattle.law_commit.specs.Below.law_world.Standing.Opening.{AreNumbersInTurn, IsNumberInTurn}
@@ -245,7 +246,7 @@ part_on t p s c said granted is = is
 
 phase_on : (t : Bounds) (p : Places) (s : KeeperState) (found : Option Commit) (said : PhaseSaid) (granted : Bool) → s.rests ≡ false → Below t s.has_points s.last s.commit → IsNowAt t (phase_ledto p s found said granted)
 unfolding phase_ledto
-phase_on t p s None said granted none is = either t (is_flush_resting s.maintain) _ _ is is
+phase_on t p s None said granted none is = either t (is_flush_resting s.maintain) _ (sweeps_next s granted) is (sweep_begins (IsNowAt t) s granted is is)
 phase_on t p s (Some c) said granted none is = by s.rests none
   where
     by : (rests : Bool) → rests ≡ false → IsNowAt t (if rests then writes_taken_up s granted else unless_flush_rests s granted (part_begun p s c said granted))
@@ -439,6 +440,7 @@ module _ (words : List ℕ) (tail : Bounds) (here : tail.tail ≡ word_at words 
   reply_on s Waits reply granted none at reads turn is = wait_on tail shape _ (wait_ask (wait_next s.wait reply)) at is.1 is.0
   reply_on s Writes reply granted none at reads turn is = still tail s Writes at is
   reply_on s Finishes reply granted none at reads turn is = finish_on tail _ (finish_ask s.seek.points (finish_next s.finish reply)) at is.0 is.1
+  reply_on s Sweeps reply granted none at reads turn is = sweep_moves (IsNowAt tail) s reply (λ w. still tail (record s { sweep = w }) Sweeps at is) (λ w. is)
 
   given_on : (s : KeeperState) (step : Keeping) (action : Action) → s.step ≡ step → AtTail tail s step → IsNowAt tail (keeping_given shape p s step action)
   unfolding keeping_given
@@ -449,6 +451,7 @@ module _ (words : List ℕ) (tail : Bounds) (here : tail.tail ≡ word_at words 
   unfolding keeping_called
   call_on s Maintains done bytes at is = maintain_on tail _ (maintain_ask shape p (maintain_called shape p s.maintain done bytes)) at is
   call_on s Writes done bytes at is = called_on tail s done at is.0 is.1
+  call_on s Sweeps done bytes at is = sweep_reads (IsNowAt tail) s done bytes (λ w. still tail (record s { sweep = w }) Sweeps at is) (λ w. is) (λ w. is)
   call_on s step done bytes at is = still tail s step at is
 
   begins_on : (s begun : KeeperState) (step : Keeping) → s.step ≡ step → AtTail tail s step → (Below tail s.has_points s.last s.commit → IsNowAt tail begun) → IsNowAt tail (begins s (is_in_hand step) begun)
@@ -462,6 +465,7 @@ module _ (words : List ℕ) (tail : Bounds) (here : tail.tail ≡ word_at words 
   begins_on s begun Waits at is goes = still tail s Waits at is
   begins_on s begun Writes at is goes = still tail s Writes at is
   begins_on s begun Finishes at is goes = still tail s Finishes at is
+  begins_on s begun Sweeps at is goes = still tail s Sweeps at is
 
   step_on : (s : KeeperState) (event : KeeperEvent) → ReadsWord words shape p s event → IsNumberInTurn s.last.number s.step (keeper_happens shape p s event).step → s.rests ≡ false → IsNowAt tail s → IsNowAt tail (keeper_happens shape p s event)
   unfolding keeper_happens
@@ -530,6 +534,7 @@ higher t high up s Maintains is = below_higher t high up s.has_points s.last s.c
 higher t high up s LoadsPhase is = below_higher t high up s.has_points s.last s.commit is
 higher t high up s Enters is = below_higher t high up s.has_points s.last s.commit is
 higher t high up s Copies is = below_higher t high up s.has_points s.last s.commit is
+higher t high up s Sweeps is = below_higher t high up s.has_points s.last s.commit is
 
 pub all_higher : (t : Bounds) (high : ℕ) (up : t.tail ≤ high) (s : KeeperState) → IsAtTail t s → IsAtTail (raised t high up) s
 all_higher t high up s is = record { well = is.well; at = higher t high up s (come_to s) is.at }

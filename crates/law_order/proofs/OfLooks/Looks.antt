@@ -1,6 +1,6 @@
 -- What a session loads from its mailbox is true of the log: the record that it seeks was asked for where it is published and flushed, and that record was served. Or it was
 -- told that it is gone, with the log's begin.
-use Rattle.std.proofs.Common.{◌≡◌, ◌≢◌, ◌⊎◌, inl, inr, ℕ, ◌≤◌, ◌∙◌, refl, sym, ap, subst, arith, eqb-true, Bool, true, false, List, [], ◌∷◌, ◌++◌}
+use Rattle.std.proofs.Common.{◌≡◌, ◌≢◌, ◌⊎◌, inl, inr, ℕ, ◌<◌, ◌≤◌, ◌∙◌, refl, sym, ap, subst, arith, eqb-true, Bool, true, false, List, [], ◌∷◌, ◌++◌}
 use Rattle.std.specs.Prelude.{◌==◌, Option, Some, None, slice_get}
 use Rattle.std.proofs.lemmas.List.{append_assoc}
 use Rattle.fkv_base.specs.declared.numbers.Addr.{Addr}
@@ -42,9 +42,8 @@ use Rattle.law_commit.specs.Below.law_refine.Events.GhostEvents.{life_ghosts, ma
 use Rattle.law_commit.specs.Below.law_refine.Seen.Floors.{TellsUpto}
 use Rattle.law_commit.proofs.Below.law_refine.OfMail.GoneTold.{gone_tells}
 use Rattle.law_commit.proofs.Below.law_refine.OfMail.Takes.{takes_read}
-use Rattle.law_commit.proofs.Below.law_world.OfKeeper.OwnRun.{keeper_begins}
 use Rattle.law_order.specs.Served.Served.{ServedShow}
-use Rattle.law_order.proofs.OfKnown.Begins.{begin_fixed, begin_same, life_above}
+use Rattle.law_order.proofs.OfKnown.Begins.{begin_fixed, life_above}
 use Rattle.law_order.proofs.OfServed.Floors.{record_above}
 use Rattle.law_order.proofs.OfServed.Later.{life_enabled_before}
 use Rattle.law_opening.proofs.OfChanges.OfSessions.Attempting.{attempt_reply}
@@ -124,9 +123,9 @@ abbrev pub LooksLaw : World → List Event → Type 0
 LooksLaw opening events =
     (session : ℕ) (s : SessionState) → slice_get (run opening events).now.sessions session ≡ Some s → is_attempting s.step ≡ true → LooksForAsked (mail_notes opening session events) s.attempt s.attempt.step
 
--- nobody who takes a record is told that it is gone
-abbrev pub NoneGone : Now → Type 0
-NoneGone n = n.crashed ≡ false → (session : ℕ) (its : MailRecord) → IsTaking n session its → is_gone its ≡ false
+-- who is told that a record is gone is told a begin above this one
+abbrev pub TellsAbove : ℕ → Now → Type 0
+TellsAbove begin n = n.crashed ≡ false → (session : ℕ) (its : MailRecord) → IsTaking n session its → is_gone its ≡ true → begin < its.key.0
 
 -- in a life of a store that was opened
 module _ (life : BegunLife) (events : List Event)
@@ -138,8 +137,12 @@ module _ (life : BegunLife) (events : List Event)
   abbrev log : Log
   log = (life_ghosts life.opening life.ghosts events).log
 
+  -- where it began at first, and where it does now
   abbrev B : ℕ
   B = begin_in life.opening
+
+  abbrev B' : ℕ
+  B' = begin_in (run life.opening events)
 
   -- what is asked for was there at each earlier moment
   there_then : (session : ℕ) (addr : Addr) (before : List MailNote) (later earlier : List Event) → mail.IsOpened life.opening.now session → events ≡ later ++ earlier
@@ -159,25 +162,25 @@ module _ (life : BegunLife) (events : List Event)
       served session addr its read.earlier later there.cell cut read.gives there.published there.flushed
 
   -- what tells that it is gone tells the begin
-  told_begin : (session : ℕ) (addr : Addr) (its : MailRecord) (asked : List MailNote) → GoneSince life.opening session events addr its asked → TellsBegin B addr its
-  told_begin session addr its asked gone = gone_tells (λ opening moments opened. (keeper_begins opening moments opened).serves) life.opening session events addr its asked life.begins.world gone
+  told_begin : (session : ℕ) (addr : Addr) (its : MailRecord) (asked : List MailNote) → GoneSince life.opening session events addr its asked → TellsBegin B B' addr its
+  told_begin session addr its asked gone = gone_tells life.opening session events addr its asked life.begins.world gone
 
   -- so is all that was given, unless that tells that it is gone
   given_true : (session : ℕ) (addr : Addr) (its : MailRecord) (before : List MailNote) → mail.IsOpened life.opening.now session
-      → GivenSince life.opening session events addr its (HasAskedFor addr ∷ before) → IsRecordOf B (log.cells addr.0) its ⊎ TellsBegin B addr its
+      → GivenSince life.opening session events addr its (HasAskedFor addr ∷ before) → IsRecordOf B (log.cells addr.0) its ⊎ TellsBegin B B' addr its
   given_true session addr its before opened (inl read) = inl (read_true session addr its before opened read)
   given_true session addr its before opened (inr gone) = inr (told_begin session addr its (HasAskedFor addr ∷ before) gone)
 
   -- what is loaded for the record that is sought is that one
   sought_true : (session : ℕ) (s : SessionState) (it : DiskRecord) → slice_get n.sessions session ≡ Some s → is_attempting s.step ≡ true → s.attempt.step ≡ Looks → s.attempt.pending.sought ≡ Some it
-      → loads_word s.attempt.mailing ≡ true → IsRecordOf B (log.cells it.addr.0) (record_in (mailbox_of n.words session)) ⊎ TellsBegin B it.addr (record_in (mailbox_of n.words session))
+      → loads_word s.attempt.mailing ≡ true → IsRecordOf B (log.cells it.addr.0) (record_in (mailbox_of n.words session)) ⊎ TellsBegin B B' it.addr (record_in (mailbox_of n.words session))
   sought_true session s it found attempts looks sought loads =
       let opened = its_mailbox life events session s found in
       let ready : HasReady life.opening session events (record_in (mailbox_of n.words session)) =
       ready_read life.opening session events opened (loads_ready life.opening session events s s.attempt.mailing opened found (look_mailing s s.step attempts looks) loads) in
       let looks_for_it : LooksForAsked (mail_notes life.opening session events) s.attempt Looks = subst (LooksForAsked (mail_notes life.opening session events) s.attempt) looks (looks_for session s found attempts) in
       let same : ready.addr ≡ it.addr = some_same ready.addr it.addr (sym (served_asked ready.notes) ∙ looks_for_it it sought) in
-      subst (λ (addr : Addr). IsRecordOf B (log.cells addr.0) (record_in (mailbox_of n.words session)) ⊎ TellsBegin B addr (record_in (mailbox_of n.words session))) same (given_true session ready.addr (record_in (mailbox_of n.words session)) ready.before opened ready.given)
+      subst (λ (addr : Addr). IsRecordOf B (log.cells addr.0) (record_in (mailbox_of n.words session)) ⊎ TellsBegin B B' addr (record_in (mailbox_of n.words session))) same (given_true session ready.addr (record_in (mailbox_of n.words session)) ready.before opened ready.given)
 
   -- ---- what is loaded there is a word of one of both
   module _ (session : ℕ) (s : SessionState) (there : slice_get n.sessions session ≡ Some s) (attempts : is_attempting s.step ≡ true) (looks : s.attempt.step ≡ Looks) where
@@ -193,17 +196,16 @@ module _ (life : BegunLife) (events : List Event)
     loaded : HasLoaded box s.attempt.mailing
     loaded = has_loaded life.opening session events s s.attempt.mailing (its_mailbox life events session s there) there under_way
 
-    either_header : (addr : Addr) → IsRecordOf B (log.cells addr.0) (record_in box) ⊎ TellsBegin B addr (record_in box) → IsRecordOf floor (log.cells addr.0) (record_in box) ⊎ (box.header ≡ 0)
+    either_header : (addr : Addr) → IsRecordOf B (log.cells addr.0) (record_in box) ⊎ TellsBegin B B' addr (record_in box) → IsRecordOf floor (log.cells addr.0) (record_in box) ⊎ (box.header ≡ 0)
     either_header addr (inl is) = inl (record_above B floor (log.cells addr.0) (record_in box) (go session s there attempts) is)
     either_header addr (inr told) = inr (gone_header (record_in box) told.gone)
 
-    either_key : (addr : Addr) → IsRecordOf B (log.cells addr.0) (record_in box) ⊎ TellsBegin B addr (record_in box) → (box.header ≢ 0) ⊎ (box.key ≤ log.fixed)
+    either_key : (addr : Addr) → IsRecordOf B (log.cells addr.0) (record_in box) ⊎ TellsBegin B B' addr (record_in box) → (box.header ≢ 0) ⊎ (box.key ≤ log.fixed)
     either_key addr (inl is) = inl (there_header (record_in box) (is_there B (log.cells addr.0) (record_in box) is))
     either_key addr (inr told) =
-        let key : box.key ≡ B = told.key in
-        let same : begin_in (run life.opening events) ≡ B = begin_same life events in
+        let key : box.key ≤ B' = told.key in
         let fixed = begin_fixed life events in
-        inr (omega (arith, key, same, fixed))
+        inr (omega (arith, key, fixed))
 
     ready_given : loads_word s.attempt.mailing ≡ true → HasReady life.opening session events (record_in box)
     ready_given loads =
@@ -230,28 +232,28 @@ module _ (life : BegunLife) (events : List Event)
   taken_given : n.crashed ≡ false → (session : ℕ) (its : MailRecord) → IsTaking n session its → HasTakenRead life.opening session events its
   taken_given alive session its taking = takes_read life.opening session events its (its_mailbox life events session taking.taker taking.there) alive taking
 
-  -- a begin that is told there is the opening's
+  -- a begin that is told there is none above that of now
   pub none_above : TellsUpto (begin_in (run life.opening events)) n
   none_above alive session its taking gone =
       let taken = taken_given alive session its taking in
       elim (given_true session taken.addr its taken.before (its_mailbox life events session taking.taker taking.there) taken.given) [
         | inl is ↦ not_both (is_gone its) (is_there B (log.cells (let a = taken.addr in a.0)) its is) gone
-        | inr told ↦ (let key = told.key in let same : begin_in (run life.opening events) ≡ B = begin_same life events in omega (arith, key, same))
+        | inr told ↦ told.key
       ]
 
-  -- but in this life none is: what is asked for lies at or above the begin
-  pub none_gone : NoneGone n
-  none_gone alive session its taking =
+  -- what is asked for lies at or above where the log began at first, and the begin that is told lies above that
+  pub all_above : TellsAbove B n
+  all_above alive session its taking gone =
       let taken = taken_given alive session its taking in
       let opened = its_mailbox life events session taking.taker taking.there in
       elim taken.given [
-        | inl read ↦ is_there B (log.cells (let a = taken.addr in a.0)) its (read_true session taken.addr its taken.before opened read)
-        | inr gone ↦ (
-            let later : List Event = gone.later ++ (gone.event ∷ []) in
-            let cut : events ≡ later ++ gone.earlier = gone.cut ∙ sym (append_assoc gone.later (gone.event ∷ []) gone.earlier) in
-            let there = there_then session taken.addr taken.before later gone.earlier opened cut gone.since in
-            let above : B ≤ (let a = taken.addr in a.0) = life_above life gone.earlier (let a = taken.addr in a.0) there.cell there.published in
-            let told : TellsBegin B taken.addr its = told_begin session taken.addr its (HasAskedFor taken.addr ∷ taken.before) gone in
+        | inl read ↦ not_both (is_gone its) (is_there B (log.cells (let a = taken.addr in a.0)) its (read_true session taken.addr its taken.before opened read)) gone
+        | inr since ↦ (
+            let later : List Event = since.later ++ (since.event ∷ []) in
+            let cut : events ≡ later ++ since.earlier = since.cut ∙ sym (append_assoc since.later (since.event ∷ []) since.earlier) in
+            let there = there_then session taken.addr taken.before later since.earlier opened cut since.since in
+            let above : B ≤ (let a = taken.addr in a.0) = life_above life since.earlier (let a = taken.addr in a.0) there.cell there.published in
+            let told : TellsBegin B B' taken.addr its = told_begin session taken.addr its (HasAskedFor taken.addr ∷ taken.before) since in
             let below = told.above in
-            absurd (omega (arith, above, below)))
+            omega (arith, above, below))
       ]

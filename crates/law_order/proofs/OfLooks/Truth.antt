@@ -12,7 +12,7 @@ use Rattle.law_commit.specs.Below.law_refine.Events.GhostEvents.{life_ghosts, ma
 use Rattle.law_commit.specs.Below.law_refine.Seen.Floors.{TellsUpto}
 use Rattle.law_order.specs.Served.Served.{ServedShow}
 use Rattle.law_order.proofs.OfLooks.LifeMails.{its_mailbox}
-use Rattle.law_order.proofs.OfLooks.Looks.{LooksLaw, NoneGone, all_look_truly, none_above, none_gone}
+use Rattle.law_order.proofs.OfLooks.Looks.{LooksLaw, TellsAbove, all_above, all_look_truly, none_above}
 use Rattle.law_order.proofs.OfLooks.There.{AsksLaw}
 
 module _ (life : BegunLife) (before : List Event) (enabled : AreEnabled (home_of_world life.opening) life.ghosts (mapped life.opening before)) (known : AreKnown life.opening life.ghosts before)
@@ -29,5 +29,5 @@ module _ (life : BegunLife) (before : List Event) (enabled : AreEnabled (home_of
   pub tells_upto : TellsUpto (begin_in (run life.opening before)) (run life.opening before).now
   tells_upto = none_above life before enabled known go served looks_for asks_for
 
-  pub takes_there : NoneGone (run life.opening before).now
-  takes_there = none_gone life before enabled known go served looks_for asks_for
+  pub tells_above : TellsAbove (begin_in life.opening) (run life.opening before).now
+  tells_above = all_above life before enabled known go served looks_for asks_for

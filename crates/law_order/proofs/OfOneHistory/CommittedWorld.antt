@@ -1,11 +1,12 @@
 -- The world of the life with two commits is one with which a new store opens: that of the worked lives, with a keeper of which all is known that a commit needs.
-use Rattle.std.proofs.Common.{◌≡◌, List, [], ◌∷◌, true, false, refl, sym, ap}
+use Rattle.std.proofs.Common.{◌≡◌, ◌∙◌, List, [], ◌∷◌, true, false, refl, sym, ap, subst}
 use Rattle.std.specs.Prelude.{None}
 use Rattle.fkv_base.specs.declared.classes.StoreClass.TheVariants.{Specified}
 use Rattle.fkv_base.specs.declared.numbers.Addr.{Addr}
 use Rattle.fkv_base.specs.declared.numbers.Serial.{Serial}
 use Rattle.fkv_base.specs.declared.numbers.Version.{Version}
 use Rattle.fkv_base.specs.declared.shapes.Shape.{Shape}
+use Rattle.fkv_sweep.specs.Sweeping.{sweep_begun}
 use Rattle.law_opening.specs.Below.fkv_core.Openings.{IsOpeningWorld, area_numbered, newest_commit}
 use Rattle.law_opening.specs.Below.fkv_creating.Created.{IsNewStore}
 use Rattle.law_commit.specs.Below.fkv_flush.TheFlushing.TheVariants.{AtRest}
@@ -35,6 +36,7 @@ new_keeper k = record k {
   start = record k.start { asked = record k.start.asked { class = Specified } };
   copy = None;
   seek = record k.seek { sessions = 2 };
+  sweep = sweep_begun shape places new_finality.begin new_finality.begin;
   finish = record k.finish { sessions = 2 };
   commit = None;
   has_entered = false;
@@ -126,6 +128,7 @@ module _ (o : Opened) (new : IsNewStore shape o) where
         granted = refl;
         none_rest = refl;
         none_flushed = refl;
+        none_swept = ap (λ (last : Finality). sweep_begun shape places last.begin last.begin) (sym finality_is);
       }
 
   pub committed_opens : (n : Now) (one other : SessionState) → one.floor ≡ o.begin → other.floor ≡ o.begin → IsOpeningWorld o n → IsOpeningWorld o (worked_now (new_keeper n.keeper) one other)

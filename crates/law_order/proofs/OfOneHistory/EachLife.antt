@@ -10,11 +10,11 @@ use Rattle.law_order.specs.Rules.Ordered.{OfEachKept}
 use Rattle.law_commit.specs.Below.fkv_world.Runs.{World}
 use Rattle.law_commit.specs.Below.fkv_world.World.{Event, Now}
 use Rattle.law_log.specs.Ghosts.{Ghosts}
-use Rattle.law_order.specs.Known.Begins.{BeginsLife, BegunLife}
+use Rattle.law_order.specs.Known.Begins.{BeginStays, BeginsLife, BegunLife}
 use Rattle.law_order.specs.Known.Told.{TicketsAreApart}
 use Rattle.law_order.specs.Ordered.Keeps.{KeepsItsOrder, KeepsOrder}
-use Rattle.law_order.specs.Ordered.Laws.{PollsTryNoReadInLives, SeeksInLives}
-use Rattle.law_order.specs.Ordered.Met.{AllReadsSeek, PollsTryNoRead, SeeksItsReads}
+use Rattle.law_order.specs.Ordered.Laws.{PollsTryNoReadInLives, PollsTryWhatIsGoneInLives, SeeksInLives, SeeksOrWasToldInLives}
+use Rattle.law_order.specs.Ordered.Met.{AllReadsSeek, PollsTryNoRead, PollsTryWhatIsGone, ReadsSeekOrWereTold, SeeksItsReads}
 use Rattle.law_order.specs.Apart.Given.{Given}
 use Rattle.law_order.specs.Apart.Lives.{OpensApart}
 use Rattle.law_order.specs.Rules.Openings.{OpensItsEnds, OpensItsVersions}
@@ -70,9 +70,13 @@ holds_in_each P lives opens given fit keep = λ its is.
 pub keeps_its_order : LivesBegin → OpensSo → Given → OpeningsFit → LivesKeepOrder → InEachLife KeepsItsOrder
 keeps_its_order lives opens given fit keep = holds_in_each KeepsOrder lives opens given fit keep
 
-pub seeks_its_reads : LivesBegin → OpensSo → Given → OpeningsFit → SeeksInLives → PollsTryNoReadInLives → InEachLife SeeksItsReads
-seeks_its_reads lives opens given fit seeking untried =
-    holds_in_each (λ opening ghosts events. AllReadsSeek opening events × PollsTryNoRead opening events) lives opens given fit (λ life events given opens cells fits apart. (seeking life events given opens cells fits apart, untried life events given opens cells fits apart))
+pub seeks_its_reads : LivesBegin → OpensSo → Given → OpeningsFit → SeeksOrWasToldInLives → PollsTryWhatIsGoneInLives → SeeksInLives → PollsTryNoReadInLives → InEachLife SeeksItsReads
+seeks_its_reads lives opens given fit seeking_or_told tried_if_gone seeking untried = λ its is. record {
+  seek_or_told = holds_in_each (λ opening ghosts events. ReadsSeekOrWereTold opening events) lives opens given fit seeking_or_told its is;
+  try_gone = holds_in_each (λ opening ghosts events. PollsTryWhatIsGone opening events) lives opens given fit tried_if_gone its is;
+  seek = holds_in_each (λ opening ghosts events. BeginStays opening events → AllReadsSeek opening events) lives opens given fit seeking its is;
+  try_none = holds_in_each (λ opening ghosts events. BeginStays opening events → PollsTryNoRead opening events) lives opens given fit untried its is;
+}
 
 pub of_each_life : (P : Opened → Now → List ℕ → List Event → Type 0) → InEachLife KeepsItsOrder → OfEachKept P → InEachLife P
 of_each_life P keep kept = λ its is.

@@ -20,7 +20,7 @@ use Rattle.law_order.specs.Tickets.Few.{HasFewCalls}
 use Rattle.law_order.proofs.OfOneHistory.NewLives.{AreNew, HaveWorlds}
 use Rattle.law_order.proofs.OfOneHistory.WorkedEffects.{worked_effects}
 use Rattle.law_order.proofs.OfOneHistory.WorkedShape.{places, shape}
-use Rattle.law_order.proofs.OfOneHistory.WorkedWorld.{world_opens, worked_now}
+use Rattle.law_order.proofs.OfOneHistory.WorkedWorld.{world_opens, worked_now, swept_keeper}
 
 -- what the order law says of each life
 pub record OrderLaw : Type 0 where
@@ -91,12 +91,12 @@ worked_life worlds created opened holds law =
     let n : Now = (worlds o).0 in
     let opens : IsOpeningWorld o n = (worlds o).1 in
     let s : SessionState = has_session o n new opens in
-    let keeper : KeeperState = resting_keeper n.keeper in
+    let keeper : KeeperState = resting_keeper (swept_keeper n.keeper) in
     let its : Life = record { bytes = bytes; opened = o; world = worked_now keeper s s; events = worked_events } in
     let life : IsLife its = record { store = (holds bytes shape o made).1 new; begins = world_opens o new n s s (has_floor o n new opens) (has_floor o n new opens) opens; fits = fits; few = few } in
     record {
       its = its;
-      begins = as_worked its life made new n.keeper s refl;
+      begins = as_worked its life made new (swept_keeper n.keeper) s refl;
       events = refl;
       effects = worked_effects keeper s s bytes;
       ordered = ordered_life law its life;

@@ -7,6 +7,8 @@ use Rattle.fkv_base.specs.declared.numbers.Addr.{Addr}
 use Rattle.fkv_base.specs.declared.phases.Phase.TheVariants.{Rest}
 use Rattle.fkv_base.specs.declared.shapes.Shape.{Shape}
 use Rattle.fkv_marks.specs.Marks.{mark}
+use Rattle.fkv_plane.specs.declared.places.Places.{Places}
+use Rattle.fkv_sweep.specs.Sweeping.{Sweeper, sweep_begun}
 use Rattle.law_opening.specs.Below.fkv_core.OpeningWords.{AreWordsOfOpened, frames_of, laid_round, ring_words, warm_place, words_before_frames, words_of_sessions, words_once}
 use Rattle.law_opening.specs.Below.fkv_core.Openings.{IsOpeningSession, IsOpeningWorld, newest_commit}
 use Rattle.law_opening.specs.Below.fkv_creating.Created.{IsNewStore}
@@ -26,6 +28,10 @@ use Rattle.fkv_words.specs.Phases.{phase_number}
 use Rattle.law_commit.specs.WorkedRuns.{resting_keeper}
 use Rattle.law_commit.specs.Below.law_refine.Events.Worked.{first_session, first_words, first_world}
 use Rattle.law_order.proofs.OfOneHistory.WorkedShape.{places, shape}
+
+-- The keeper's sweep is of this store, and has nothing to go over.
+abbrev pub swept_keeper : KeeperState → KeeperState
+swept_keeper k = record k { sweep = sweep_begun shape places k.last.begin k.last.begin }
 
 places_fit : ArePlacesOfStore shape places
 unfolding shape places
@@ -146,7 +152,7 @@ module _ (o : Opened) (new : IsNewStore shape o) where
   unfolding shape
   its_class = ap (λ (s : Shape). s.class) (sym new.its_shape)
 
-  keeper_opens : (n : Now) → IsOpeningWorld o n → IsNewKeeper o.shape (newest_commit o) o.lost.items (record { shape = shape; places = places; state = resting_keeper n.keeper })
+  keeper_opens : (n : Now) → IsOpeningWorld o n → IsNewKeeper o.shape (newest_commit o) o.lost.items (record { shape = shape; places = places; state = resting_keeper (swept_keeper n.keeper) })
   keeper_opens n its =
       let was = its.its_keeper in
       record {
@@ -171,9 +177,10 @@ module _ (o : Opened) (new : IsNewStore shape o) where
         granted = was.granted;
         none_rest = refl;
         none_flushed = refl;
+        none_swept = ap (λ (last : Finality). sweep_begun shape places last.begin last.begin) was.newest;
       }
 
-  pub world_opens : (n : Now) (one other : SessionState) → one.floor ≡ o.begin → other.floor ≡ o.begin → IsOpeningWorld o n → IsOpeningWorld o (worked_now (resting_keeper n.keeper) one other)
+  pub world_opens : (n : Now) (one other : SessionState) → one.floor ≡ o.begin → other.floor ≡ o.begin → IsOpeningWorld o n → IsOpeningWorld o (worked_now (resting_keeper (swept_keeper n.keeper)) one other)
   unfolding worked_now shape
   world_opens n one other floor second its = record {
     its_shape = sym new.its_shape;

@@ -1,4 +1,5 @@
--- No event of a life searches for a read that waits: polls try none again, and the call that a session has in hand is a later one.
+-- No event of a life searches for a read that waits. Polls of its session try none again, and those of other sessions try others. The call that a session has in
+-- hand is a later one.
 use Rattle.std.proofs.Common.{◌≡◌, ◌≢◌, ℕ, ◌<◌, ◌∙◌, Bool, true, false, List, [], ◌∷◌, ◌++◌, length, refl, sym, ap, subst, inr, arith, append_assoc}
 use Rattle.std.specs.Prelude.{◌==◌, if◌then◌else◌, map, Option, None, Some, slice_get}
 use Rattle.fkv_map.specs.declared.operations.Op.{Op}
@@ -23,7 +24,7 @@ use Rattle.law_commit.specs.Below.fkv_world.Runs.{World, happens, run}
 use Rattle.law_commit.specs.Below.fkv_world.World.{Event, Moves, seat_at}
 use Rattle.law_commit.proofs.Below.fkv_world.Shown.{is_over}
 use Rattle.law_log.specs.Ghosts.{GhostEvent, Fixes, Tells}
-use Rattle.law_order.specs.Ordered.Met.{PollsTryNoRead}
+use Rattle.law_order.specs.Reads.Reads.{is_given}
 use Rattle.law_order.proofs.OfReads.LifeNumbers.{begins_other, begins_trace, effects_behind, goes_other, goes_trace, life_numbered, others_hand, same_number}
 use Rattle.law_order.proofs.OfReads.Numbers.{IsOwn, called_hand, own_below, own_same}
 use Rattle.law_order.proofs.OfReads.Settled.{AllSpare, both_spare, lines_spare, touch_spares}
@@ -47,24 +48,36 @@ tried_spares : (k : Seat) (own reader : ℕ) (a : AttemptState) (step : Attempti
 tried_spares k own reader a Tries reply none = absurd (none refl)
 tried_spares k own reader a step reply none = tt
 
--- one that tries no read
-poll_spares : (k : Seat) (own reader : ℕ) (a : AttemptState) (reply : ℕ) → (a.step ≡ Tries → is_read a.pending.request.op ≡ false) → AllSpare reader (attempt_ghosts k own a reply)
-poll_spares k own reader a reply none = by_read (is_read a.pending.request.op) refl
-  where
-    not_both : (b : Bool) → b ≡ true → b ≡ false → ⊥
-    not_both b one other = cc
+-- a request is tried
+is_trying : Attempting → Bool
+is_trying Tries = true
+is_trying step = false
 
-    by_read : (b : Bool) → is_read a.pending.request.op ≡ b → AllSpare reader (attempt_ghosts k own a reply)
-    by_read false e = touch_spares a.pending.request.op own reader (attempt_ghosts k own a reply) (λ read. absurd (not_both (is_read a.pending.request.op) read e)) (attempt_touch k own a reply)
-    by_read true e =
+trying_is : (step : Attempting) → is_trying step ≡ true → step ≡ Tries
+unfolding is_trying
+trying_is Tries e = refl
+trying_is step e = cc
+
+not_trying : (step : Attempting) → is_trying step ≡ false → step ≡ Tries → ⊥
+unfolding is_trying
+not_trying Tries e at = cc
+not_trying step e at = cc
+
+-- one that doesn't try this read
+poll_spares : (k : Seat) (own reader : ℕ) (a : AttemptState) (reply : ℕ) → (a.step ≡ Tries → is_read a.pending.request.op ≡ true → own ≢ reader) → AllSpare reader (attempt_ghosts k own a reply)
+poll_spares k own reader a reply other = by_step (is_trying a.step) refl
+  where
+    by_step : (b : Bool) → is_trying a.step ≡ b → AllSpare reader (attempt_ghosts k own a reply)
+    by_step true e = touch_spares a.pending.request.op own reader (attempt_ghosts k own a reply) (other (trying_is a.step e)) (attempt_touch k own a reply)
+    by_step false e =
         let ask : Ask TryAnswer = attempt_ask k.places k.number (attempt_next k.places (bits_of k) (room_of k) k.number a reply) in
         both_spare reader (value_ghosts a.pending.request.op own ask) (tried_ghosts k own a a.step reply) (value_spares a.pending.request.op own reader ask)
-        (tried_spares k own reader a a.step reply (λ tries. not_both (is_read a.pending.request.op) e (none tries)))
+        (tried_spares k own reader a a.step reply (not_trying a.step e))
 
--- it has another read in hand, and polls try none
+-- it has another read in hand, and polls try others
 record SparesSo (k : Seat) (trace : List Traced) (s : SessionState) (reader : ℕ) : Type 0 where
   hand : is_busy s.step ≡ true → read_in_hand k.number trace ≢ reader
-  polls : (index : ℕ) → s.step ≡ Polls index → s.attempt.step ≡ Tries → is_read s.attempt.pending.request.op ≡ false
+  polls : (index : ℕ) → s.step ≡ Polls index → s.attempt.step ≡ Tries → is_read s.attempt.pending.request.op ≡ true → read_waiting k.number (ticket_of s.attempt.pending.name) trace ≢ reader
 
 sitting_spares : (k : Seat) (trace : List Traced) (s : SessionState) (step : Sitting) (reader reply : ℕ) → s.step ≡ step → SparesSo k trace s reader → AllSpare reader (sitting_ghosts k trace s step reply)
 sitting_spares k trace s (Attempts has_shifted) reader reply at so =
@@ -196,7 +209,13 @@ past_on opening [] before number reader its = its
 past_on opening (event ∷ later) before number reader its = past_then (run opening (later ++ before)) event number reader (past_on opening later before number reader its)
 
 -- ---- so it is in a life
-spares_all : (opening : World) (events : List Event) (number reader : ℕ) → IsOpenedWorld opening → PollsTryNoRead opening events → IsPast (run opening events) number reader → AllSo (run opening events) reader
+-- a read that a poll tries waits under its ticket, and is none of this session
+pub record PollsOthers (opening : World) (events : List Event) (number : ℕ) : Type 0 where
+  pub given : (session : ℕ) (s : SessionState) (index : ℕ) → slice_get (run opening events).now.sessions session ≡ Some s → s.step ≡ Polls index → is_read s.attempt.pending.request.op ≡ true
+      → is_given session (ticket_of s.attempt.pending.name) (run opening events).past.trace ≡ true
+  pub none : (s : SessionState) (index : ℕ) → slice_get (run opening events).now.sessions number ≡ Some s → s.step ≡ Polls index → s.attempt.step ≡ Tries → is_read s.attempt.pending.request.op ≡ true → ⊥
+
+spares_all : (opening : World) (events : List Event) (number reader : ℕ) → IsOpenedWorld opening → PollsOthers opening events number → IsPast (run opening events) number reader → AllSo (run opening events) reader
 unfolding AllSo
 spares_all opening events number reader opened polls past session s found = record {
   hand = λ busy same.
@@ -205,13 +224,17 @@ spares_all opening events number reader opened polls past session s found = reco
       let late : reader < read_in_hand session (run opening events).past.trace
       = subst (λ n. reader < read_in_hand n (run opening events).past.trace) (sym one) (past.later s (ap (slice_get (run opening events).now.sessions) (sym one) ∙ found) busy) in
       clash (read_in_hand session (run opening events).past.trace) same late;
-  polls = λ index at tries. polls session s index found at tries;
+  polls = λ index at tries read same.
+      let its : ℕ = read_waiting session (ticket_of s.attempt.pending.name) (run opening events).past.trace in
+      let own : IsOwn session its (run opening events).past.trace = (life_numbered opening events session s opened found).waits (ticket_of s.attempt.pending.name) (polls.given session s index found at read) in
+      let one : session ≡ number = own_same session number reader (run opening events).past.trace (subst (λ n. IsOwn session n (run opening events).past.trace) same own) past.own in
+      polls.none s index (ap (slice_get (run opening events).now.sessions) (sym one) ∙ found) at tries read;
 }
   where
     clash : (n : ℕ) → n ≡ reader → reader < n → ⊥
     clash n same late = omega (arith, same, late)
 
-pub event_spared : (opening : World) (before : List Event) (event : Event) (number reader : ℕ) → IsOpenedWorld opening → PollsTryNoRead opening before → IsPast (run opening before) number reader
+pub event_spared : (opening : World) (before : List Event) (event : Event) (number reader : ℕ) → IsOpenedWorld opening → PollsOthers opening before number → IsPast (run opening before) number reader
     → AllSpare reader (ghost_events (serials_in opening.now) (run opening before) event)
 event_spared opening before event number reader opened polls past = event_spares (serials_in opening.now) (run opening before) event reader (spares_all opening before number reader opened polls past)
 
@@ -221,7 +244,7 @@ pub record IsBehindSpared (opening : World) (later before : List Event) (reader 
   pub all : mapped opening (later ++ before) ≡ front ++ mapped opening before
   pub spared : AllSpare reader front
 
-pub behind_spared : (opening : World) (later before : List Event) (number reader : ℕ) → IsOpenedWorld opening → ((more front : List Event) → later ≡ front ++ more → PollsTryNoRead opening (more ++ before)) → IsPast (run opening before) number reader
+pub behind_spared : (opening : World) (later before : List Event) (number reader : ℕ) → IsOpenedWorld opening → ((more front : List Event) → later ≡ front ++ more → PollsOthers opening (more ++ before) number) → IsPast (run opening before) number reader
     → IsBehindSpared opening later before reader
 unfolding mapped
 behind_spared opening [] before number reader opened polls past = record { front = []; all = refl; spared = tt }

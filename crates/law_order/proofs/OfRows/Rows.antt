@@ -1,5 +1,5 @@
 -- What sessions know of the log beside a life goes on by each event.
-use Rattle.std.proofs.Common.{◌≡◌, ◌≢◌, ℕ, ◌<◌, ◌≤◌, ◌∙◌, List, ◌∷◌, refl, arith, ap, sym, subst, Bool, true, false, eqb-true}
+use Rattle.std.proofs.Common.{◌≡◌, ◌≢◌, ℕ, ◌<◌, ◌≤◌, ◌∙◌, List, ◌∷◌, refl, arith, ap, sym, subst, Bool, true, false, eqb-true, []}
 use Rattle.std.specs.Prelude.{Some, None, slice_get}
 use Rattle.fkv_map.specs.Map.{is_reserved}
 use Rattle.law_log.specs.Begins.{Live}
@@ -43,7 +43,7 @@ use Rattle.law_order.specs.Known.Floors.{GoesByBegin}
 use Rattle.law_order.specs.Known.Knows.{AllKnowBehind, AreKnown, SessionKnows}
 use Rattle.law_order.specs.Known.Told.{AreToldTruly, reply_in}
 use Rattle.law_commit.specs.Below.law_refine.Events.GhostEvents.{life_ghosts, mapped}
-use Rattle.law_order.proofs.OfKnown.Begins.{begin_fixed, begin_same, live_below}
+use Rattle.law_order.proofs.OfKnown.Begins.{begin_fixed, begin_rises, live_below}
 use Rattle.law_order.proofs.OfKnown.Newest.{known_now}
 use Rattle.law_opening.proofs.OfChanges.OfSessions.Attempting.{life_attempts}
 use Rattle.law_opening.proofs.OfChanges.OfSessions.Calm.{calm_known, is_calm, not_calm}
@@ -149,10 +149,9 @@ module _ (life : BegunLife) (before : List Event) (event : Event)
     floor_fixed : s.floor.0 ≤ L'.fixed
     floor_fixed =
         let own = (begin.floors session s was).own in
-        let first : begin_in W ≡ begin_in life.opening = begin_same life before in
-        let same : begin_in (run life.opening (event ∷ before)) ≡ begin_in life.opening = begin_same life (event ∷ before) in
+        let up : begin_in W ≤ begin_in (run life.opening (event ∷ before)) = begin_rises life (event ∷ []) before in
         let fixed = begin_fixed life (event ∷ before) in
-        omega (arith, own, first, same, fixed)
+        omega (arith, own, up, fixed)
 
     live : is_attempting s.step ≡ true → Live (floor_in s.attempt.pending.request) H L
     live attempting = live_below (begin_in W) (floor_in s.attempt.pending.request) H L ((begin.floors session s was).theirs.attempted attempting) begin.live

@@ -94,7 +94,7 @@ record_seeks p bits a its said pending =
     let holds : AttemptState = record a { pending = with_held a.pending (held_of a.pending.sought its said) } in
     either_seeks (is_seeking_read a) (read_on a its said) (tries p bits holds) (read_seeks a its said pending) (tries_seeks p bits holds (held_seeks a.pending (held_of a.pending.sought its said) pending))
 
-lost_seeks : (pending : PendingRequest) (begin : Addr) → pending.has_asked ≡ false → SeeksWhereAsked (without_gone pending begin)
+pub lost_seeks : (pending : PendingRequest) (begin : Addr) → pending.has_asked ≡ false → SeeksWhereAsked (without_gone pending begin)
 unfolding without_gone
 lost_seeks pending begin none = λ read asked. cc
 

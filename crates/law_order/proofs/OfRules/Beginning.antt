@@ -1,5 +1,6 @@
 -- The world with which the life of an opened store begins.
 use Rattle.std.proofs.Common.{◌∙◌, ap, sym, refl, ℕ, List}
+use Rattle.fkv_sweep.specs.Sweeping.{sweep_begun}
 use Rattle.law_opening.specs.Below.fkv_core.Openings.{IsOpeningWorld, beginning}
 use Rattle.law_commit.specs.Below.fkv_keeper.Keeping.{Finality}
 use Rattle.law_commit.specs.Below.fkv_keeper.KeeperRun.{is_in_hand}
@@ -24,6 +25,7 @@ world_opens o n bytes its = record {
         works = k.works;
         turns_rest = k.turns_rest;
         serves_from = k.serves_from ∙ sym (ap (λ (last : Finality). last.begin) k.newest);
+        none_swept = (n.shape, n.places, k.none_swept ∙ sym (ap (λ (last : Finality). sweep_begun n.shape n.places last.begin last.begin) k.newest));
       });
   sessions = λ number s found. (its.its_sessions number s found).opened;
 }

@@ -1,5 +1,5 @@
 -- A read that waits has its value settled, at a moment at which its session rests. So its answer is the value that it has by then.
-use Rattle.std.proofs.Common.{◌≡◌, ℕ, zero, suc, ◌≤◌, ◌∙◌, append_assoc, true, false, Option, List, [], ◌∷◌, ◌++◌, refl, sym, ap, subst}
+use Rattle.std.proofs.Common.{◌≡◌, ◌⊎◌, inl, inr, ℕ, zero, suc, Bool, ◌≤◌, ◌∙◌, append_assoc, true, false, Option, List, [], ◌∷◌, ◌++◌, refl, sym, ap, subst, arith}
 use Rattle.std.specs.Prelude.{None, Some, slice_get}
 use Rattle.std.specs.Option.{is_some}
 use Rattle.law_opening.specs.Below.fkv_core.Openings.{beginning}
@@ -10,13 +10,16 @@ use Rattle.fkv_map.specs.declared.operations.Reply.{Reply}
 use Rattle.law_opening.specs.Below.fkv_opening.TheOpened.{Opened}
 use Rattle.law_commit.specs.Below.fkv_ops.Requests.{is_read}
 use Rattle.law_commit.specs.Below.fkv_ops.DiskRecord.{DiskRecord}
+use Rattle.law_commit.specs.Below.fkv_pending.Attempting.{is_poll}
 use Rattle.law_commit.specs.Below.fkv_pending.PendingRequest.{PendingRequest}
 use Rattle.law_commit.specs.Below.fkv_pending.Ticket.{Ticket}
 use Rattle.law_commit.specs.Below.fkv_session.Sessions.{SessionState, is_busy}
 use Rattle.law_commit.specs.Below.fkv_session.Sitting.{Sitting}
 use Rattle.law_commit.specs.Below.fkv_session.Sitting.TheVariants.{Polls}
+use Rattle.law_commit.specs.Below.fkv_world.Opened.{IsOpenedWorld}
 use Rattle.law_commit.specs.Below.fkv_world.Runs.{World, run}
-use Rattle.law_commit.specs.Below.fkv_world.World.{Event, Now}
+use Rattle.law_commit.specs.Below.fkv_world.World.{Event, Now, seat_at}
+use Rattle.law_commit.specs.Below.law_local.Sessions.Inputs.{AttemptsBy, IsAttemptInPoll}
 use Rattle.law_commit.specs.Below.law_local.Tries.AttemptRows.{PendingKnows}
 use Rattle.law_commit.specs.Below.law_local.Tries.HeldRows.{SoughtKnows}
 use Rattle.law_commit.specs.Below.law_local.Tries.ReadRows.{SoughtReads}
@@ -28,16 +31,16 @@ use Rattle.law_log.specs.Trace.{AnswersRead, CallsRead, Effect, IsIn, history_of
 use Rattle.law_log.proofs.Shown.{HadValue, Held, IsSound, KnowsRead, enabled_before, run_held, run_sound}
 use Rattle.law_opening.specs.Log.Maps.{opening_map}
 use Rattle.law_opening.specs.Log.OpeningLog.{opening_ghosts}
-use Rattle.law_order.specs.Known.Begins.{BeginsLife, home_of_world}
+use Rattle.law_order.specs.Known.Begins.{BeginStays, BeginsLife, home_of_world}
 use Rattle.law_order.specs.OneHistory.Beside.{HasItsHistory}
 use Rattle.law_order.specs.OneHistory.EachLife.{InEachLife, IsLife, Life}
 use Rattle.law_order.specs.Ordered.Keeps.{KeepsItsOrder, KeepsOrder}
-use Rattle.law_order.specs.Ordered.Met.{PollsTryNoRead, SeeksItsReads}
-use Rattle.law_order.specs.Reads.Reads.{readings_of}
+use Rattle.law_order.specs.Ordered.Met.{SeeksItsReads, WasToldGone}
+use Rattle.law_order.specs.Reads.Reads.{SitsReads, readings_of}
 use Rattle.law_order.specs.Rules.InTime.{IsInTime}
 use Rattle.law_order.specs.Rules.Openings.{BeginsItsLife}
 use Rattle.law_order.specs.Rules.Ordered.{effects_so_far}
-use Rattle.law_order.specs.Rules.Waiting.{HasWaiting, WaitingReadsInTime, waiting_read}
+use Rattle.law_order.specs.Rules.Waiting.{HasWaiting, UntoldReadsInTime, WaitingReadsInTime, waiting_read}
 use Rattle.law_order.specs.Served.Fits.{CallsFit}
 use Rattle.law_order.specs.Tickets.Few.{HasFewCalls}
 use Rattle.law_order.proofs.OfKnown.Newest.{known_now}
@@ -45,11 +48,15 @@ use Rattle.law_order.proofs.OfReads.Life.{idle_waits}
 use Rattle.law_order.proofs.OfReads.LifeNumbers.{life_numbered}
 use Rattle.law_order.proofs.OfReads.LifeReads.{reads_now}
 use Rattle.law_order.proofs.OfReads.Settled.{AllSpare, Goes, Has, IsSettled, IsSettledAt, both_spare, fixed_from, run_settled, spare_behind}
-use Rattle.law_order.proofs.OfReads.Spared.{IsBehindSpared, IsPast, behind_spared, event_spared, past_on}
+use Rattle.law_order.proofs.OfReads.Spared.{IsBehindSpared, IsPast, PollsOthers, behind_spared, event_spared, past_on}
+use Rattle.law_order.proofs.OfOrdered.Seeking.{none_told, told_later}
 use Rattle.law_order.proofs.OfRules.InTime.{IsTold, behind, told}
 use Rattle.law_order.proofs.OfRules.ReadRuns.{WasCalled, had_in_time, run_so, walks_so}
+use Rattle.law_opening.proofs.OfChanges.OfSessions.Attempting.{life_attempts}
 use Rattle.law_order.proofs.OfTickets.Events.{before_few}
 use Rattle.law_commit.proofs.Below.law_refine.OfEvents.RequestNames.{life_named}
+use Rattle.law_commit.proofs.Below.law_refine.OfMail.GoneTold.{begin_above}
+use Rattle.law_commit.proofs.Below.law_world.OfKeeper.OwnRun.{keeper_goes_on}
 use Rattle.law_commit.specs.Below.law_refine.Calls.Calls.{event_adds}
 use Rattle.law_commit.specs.Below.law_refine.Events.GhostEvents.{ghost_events, life_ghosts, mapped, serials_in}
 use Rattle.law_commit.specs.Below.law_refine.Events.Lines.{read_waiting}
@@ -65,10 +72,10 @@ few_before : (later before : List Event) → HasFewCalls (later ++ before) → H
 few_before [] before few = few
 few_before (event ∷ later) before few = few_before later before (before_few event (later ++ before) few)
 
-abbrev life_of : List ℕ → Opened → Now → List Event → Life
+abbrev pub life_of : List ℕ → Opened → Now → List Event → Life
 life_of bytes o n events = record { bytes = bytes; opened = o; world = n; events = events }
 
-life_before : (bytes : List ℕ) (o : Opened) (n : Now) (later before : List Event) → IsLife (life_of bytes o n (later ++ before)) → IsLife (life_of bytes o n before)
+pub life_before : (bytes : List ℕ) (o : Opened) (n : Now) (later before : List Event) → IsLife (life_of bytes o n (later ++ before)) → IsLife (life_of bytes o n before)
 life_before bytes o n later before its = record { store = its.store; begins = its.begins; fits = fits_before later before its.fits; few = few_before later before its.few }
 
 -- ---- where a read waits
@@ -117,8 +124,8 @@ module _ (begins : BeginsItsLife) (keeps : InEachLife KeepsItsOrder) (seeks : In
     past : IsPast (run opening events) number (waiting_read n bytes events number ticket)
     settled : IsSettledHere home (life_ghosts opening ghosts events).log ((life_ghosts opening ghosts events).reads (waiting_read n bytes events number ticket))
 
-  settled_there : (events : List Event) → IsLife (life_of bytes o n events) → (number : ℕ) (ticket : Ticket) → HasWaiting (run opening events).now number ticket → IsSettledRead events number ticket
-  settled_there events is_life number ticket waiting = record {
+  settled_there : (events : List Event) → IsLife (life_of bytes o n events) → (number : ℕ) → ((begin : ℕ) → WasToldGone opening number events begin → ⊥) → (ticket : Ticket) → HasWaiting (run opening events).now number ticket → IsSettledRead events number ticket
+  settled_there events is_life number untold ticket waiting = record {
     past = record {
       own = (life_numbered opening events number waiting.s start.world waiting.found).waits ticket.0 given;
       later = λ s found busy. let same : slice_get (run opening events).now.sessions number ≡ Some waiting.s = waiting.found in at_rest s (sym same ∙ found) busy;
@@ -127,10 +134,15 @@ module _ (begins : BeginsItsLife) (keeps : InEachLife KeepsItsOrder) (seeks : In
         subst (λ (t : ℕ). IsSettledHere home (life_ghosts opening ghosts events).log ((life_ghosts opening ghosts events).reads (read_waiting number t (run opening events).past.trace))) its_ticket
         (sought_settled home map_of (life_ghosts opening ghosts events).log (floor_in waiting.pending.request) (key_in waiting.pending.request) (head_in waiting.s.seen) ((life_ghosts opening ghosts events).reads (read_waiting number (ticket_of waiting.pending.name) (run opening events).past.trace)) waiting.pending.sought
         (run_held home map_of o.number.0 ghosts (mapped opening events) start.log order.enabled)
-        ((seeks (life_of bytes o n events) is_life).0 number waiting.s waiting.index waiting.pending waiting.found waiting.got (not_polling waiting.s.step waiting.index waiting.idle) read)
+        (untold_seeks (is_some waiting.pending.sought) waiting.pending.request.floor.0 ((seeks (life_of bytes o n events) is_life).seek_or_told number waiting.s waiting.index waiting.pending waiting.found waiting.got (not_polling waiting.s.step waiting.index waiting.idle) read))
         so.1 knows.sought knows.request.low);
   }
     where
+      -- it was told of none that is gone, so it seeks one
+      untold_seeks : (some : Bool) (floor : ℕ) → (some ≡ true) ⊎ WasToldGone opening number events floor → some ≡ true
+      untold_seeks some floor (inl is) = is
+      untold_seeks some floor (inr told_so) = absurd (untold floor told_so)
+
       start : BeginsLife opening o.tail.0 (opening_lists o.entries.items) map_of o.number.0 ghosts
       start = begins bytes o n is_life.store is_life.begins
 
@@ -189,13 +201,27 @@ module _ (begins : BeginsItsLife) (keeps : InEachLife KeepsItsOrder) (seeks : In
       (subst (λ (k : ℕ). IsInTime map_of (history_of (ghost_run home ghosts last).log.history) (history_of (life_ghosts opening ghosts events).log.history) k reply) same.0
       (subst (λ (s : List Effect). IsInTime map_of (history_of s) (history_of (life_ghosts opening ghosts events).log.history) its.key reply) same.1 so))
 
+  -- A read that a poll tries waits under its ticket. It is none of a session that was told of no record that is gone.
+  polls_others : (events : List Event) → IsLife (life_of bytes o n events) → (number : ℕ) → ((begin : ℕ) → WasToldGone opening number events begin → ⊥) → PollsOthers opening events number
+  polls_others events is_life number untold = record {
+    given = λ session s index found at read.
+        let in_poll : IsAttemptInPoll (seat_at opening.now session) s index =
+        subst (AttemptsBy (seat_at opening.now session) s) at (life_attempts opening events session s (begins bytes o n is_life.store is_life.begins).world found) in
+        let sits : SitsReads (readings_of (life_ghosts opening ghosts events).reads (run opening events).past.trace session) s (Polls index) =
+        subst (SitsReads (readings_of (life_ghosts opening ghosts events).reads (run opening events).past.trace session) s) at (reads_now opening ghosts events (keeps (life_of bytes o n events) is_life).reads session s found) in
+        (sits.1 read).0 (ap is_poll in_poll.goes.its_occasion);
+    none = λ s index found at tries read.
+        let gone : WasToldGone opening number events s.attempt.pending.request.floor.0 = ((seeks (life_of bytes o n events) is_life).try_gone number s index found at tries read).1 in
+        untold s.attempt.pending.request.floor.0 gone;
+  }
+
   -- a search of it is none of what the log has between
-  value_there : (between since earlier : List Event) (call answer : Event) (number : ℕ) (ticket : Ticket) (reply : Reply) → IsLife (life_of bytes o n (answer ∷ (between ++ (since ++ call ∷ earlier))))
+  value_there : (between since earlier : List Event) (call answer : Event) (number : ℕ) (ticket : Ticket) (reply : Reply) → IsLife (life_of bytes o n (answer ∷ (between ++ (since ++ call ∷ earlier)))) → ((begin : ℕ) → WasToldGone opening number (between ++ (since ++ call ∷ earlier)) begin → ⊥)
       → (its : IsSettledRead (since ++ call ∷ earlier) number ticket)
       → IsIn (AnswersRead (waiting_read n bytes (since ++ call ∷ earlier) number ticket) reply) (event_adds opening (between ++ (since ++ call ∷ earlier)) answer)
       → reply ≡ reply_to_read (value_at ((life_ghosts opening ghosts (since ++ call ∷ earlier)).log.cells (first_from home (life_ghosts opening ghosts (since ++ call ∷ earlier)).log its.settled.key its.settled.from)))
   unfolding AreEnabled
-  value_there between since earlier call answer number ticket reply is_life its answers =
+  value_there between since earlier call answer number ticket reply is_life untold its answers =
       value_told (ghost_run home ghosts (its_answer.older ++ mapped opening upto)) its.settled.key its.settled.seen value reader reply
       (subst (λ (x : List GhostEvent). IsSettled home (ghost_run home ghosts x).log its.settled.key its.settled.seen value ((ghost_run home ghosts x).reads reader)) (sym parts)
       (run_settled home map_of o.number.0 ghosts (its_answer.older ++ front.front) (mapped opening there) its.settled.key its.settled.seen value reader start.log (subst (AreEnabled home ghosts) parts enabled.0) spared
@@ -223,36 +249,49 @@ module _ (begins : BeginsItsLife) (keeps : InEachLife KeepsItsOrder) (seeks : In
       enabled : AreEnabled home ghosts (Tells (AnswersRead reader reply) ∷ (its_answer.older ++ mapped opening upto))
       enabled = enabled_before home ghosts its_answer.newer _ (subst (AreEnabled home ghosts) its_answer.all (keeps (life_of bytes o n (answer ∷ upto)) is_life).enabled)
 
-      polls : (more front : List Event) → answer ∷ between ≡ front ++ more → PollsTryNoRead opening (more ++ there)
+      polls : (more front : List Event) → between ≡ front ++ more → PollsOthers opening (more ++ there) number
       polls more front so =
-          let whole : answer ∷ upto ≡ front ++ (more ++ there) = ap (λ (x : List Event). x ++ there) so ∙ append_assoc front more there in
-          (seeks (life_of bytes o n (more ++ there)) (life_before bytes o n front (more ++ there) (subst (λ (x : List Event). IsLife (life_of bytes o n x)) whole is_life))).1
+          let whole : upto ≡ front ++ (more ++ there) = ap (λ (x : List Event). x ++ there) so ∙ append_assoc front more there in
+          polls_others (more ++ there) (life_before bytes o n (answer ∷ front) (more ++ there) (subst (λ (x : List Event). IsLife (life_of bytes o n (answer ∷ x))) whole is_life)) number
+          (λ begin told_so. untold begin (subst (λ (x : List Event). WasToldGone opening number x begin) (sym whole) (told_later opening number front (more ++ there) begin told_so)))
 
       front : IsBehindSpared opening between there reader
-      front = behind_spared opening between there number reader start.world (λ more earlier so. polls more (answer ∷ earlier) (ap (λ (x : List Event). answer ∷ x) so)) its.past
+      front = behind_spared opening between there number reader start.world polls its.past
 
       parts : its_answer.older ++ mapped opening upto ≡ (its_answer.older ++ front.front) ++ mapped opening there
       parts = ap (λ (x : List GhostEvent). its_answer.older ++ x) front.all ∙ sym (append_assoc its_answer.older front.front (mapped opening there))
 
       last_spared : AllSpare reader (ghost_events (serials_in opening.now) (run opening upto) answer)
-      last_spared = event_spared opening upto answer number reader start.world (polls between (answer ∷ []) refl) (past_on opening between there number reader its.past)
+      last_spared = event_spared opening upto answer number reader start.world (polls between [] refl) (past_on opening between there number reader its.past)
 
       spared : AllSpare reader (its_answer.older ++ front.front)
       spared = both_spare reader its_answer.older front.front (spare_behind reader its_answer.newer (Tells (AnswersRead reader reply)) its_answer.older (subst (AllSpare reader) its_answer.its last_spared)) front.spared
 
-  pub waits_in_time : InEachLife HasItsHistory → (events : List Event) → IsLife (life_of bytes o n events) → WaitingReadsInTime o n bytes events
-  waits_in_time history events is_life = λ later between since earlier call answer number key ticket reply whole waiting calls answers.
+  pub waits_in_time : InEachLife HasItsHistory → (events : List Event) → IsLife (life_of bytes o n events) → UntoldReadsInTime o n bytes events
+  waits_in_time history events is_life = λ later between since earlier call answer number key ticket reply whole untold waiting calls answers.
       let there : List Event = since ++ call ∷ earlier in
       let at_answer : IsLife (life_of bytes o n (answer ∷ (between ++ there))) = life_before bytes o n later (answer ∷ (between ++ there)) (subst (λ (x : List Event). IsLife (life_of bytes o n x)) whole is_life) in
       let here : IsLife (life_of bytes o n there) = life_before bytes o n (answer ∷ between) there at_answer in
       let at_call : IsLife (life_of bytes o n (call ∷ earlier)) = life_before bytes o n since (call ∷ earlier) here in
-      let its = settled_there there here number ticket waiting in
-      let replied = value_there between since earlier call answer number ticket reply at_answer its answers in
+      let its = settled_there there here number (λ begin told_so. untold begin (told_later opening number between there begin told_so)) ticket waiting in
+      let replied = value_there between since earlier call answer number ticket reply at_answer untold its answers in
       let so =
       had_there since earlier call (waiting_read n bytes there number ticket) key (begins bytes o n is_life.store is_life.begins).log (keeps (life_of bytes o n there) here).enabled calls its.settled reply replied in
       subst (λ (x : List Effect). IsInTime map_of (history_of x) (history_of (effects_so_far n bytes there)) key reply) (history (life_of bytes o n (call ∷ earlier)) at_call)
       (subst (λ (x : List Effect). IsInTime map_of (history_of (life_ghosts opening ghosts (call ∷ earlier)).log.history) (history_of x) key reply) (history (life_of bytes o n there) here) so)
 
 -- so it is in each life
-pub waiting_reads : BeginsItsLife → InEachLife KeepsItsOrder → InEachLife SeeksItsReads → InEachLife HasItsHistory → InEachLife WaitingReadsInTime
-waiting_reads begins keeps seeks history = λ its is. waits_in_time begins keeps seeks its.bytes its.opened its.world history its.events is
+pub untold_reads : BeginsItsLife → InEachLife KeepsItsOrder → InEachLife SeeksItsReads → InEachLife HasItsHistory → InEachLife UntoldReadsInTime
+untold_reads begins keeps seeks history = λ its is. waits_in_time begins keeps seeks its.bytes its.opened its.world history its.events is
+
+-- where the begin has stayed, it had stayed before
+stayed_in : (opening : World) → IsOpenedWorld opening → (more before : List Event) → BeginStays opening (more ++ before) → BeginStays opening before
+stayed_in opening opened more before stays = let low = begin_above opening before opened in let up = keeper_goes_on opening more before opened in omega (arith, stays, low, up)
+
+-- and while the log begins where it did at first none is told so
+pub waiting_reads : BeginsItsLife → InEachLife UntoldReadsInTime → InEachLife WaitingReadsInTime
+waiting_reads begins untold = λ its is later between since earlier call answer number key ticket reply whole stays.
+    let opening : World = beginning its.world its.bytes in
+    let opened : IsOpenedWorld opening = (begins its.bytes its.opened its.world is.store is.begins).world in
+    let upto : List Event = between ++ (since ++ call ∷ earlier) in
+    untold its is later between since earlier call answer number key ticket reply whole (λ begin told_so. none_told opening upto number begin opened (stayed_in opening opened (answer ∷ []) upto stays) told_so)

@@ -1,4 +1,4 @@
--- What the laws of phases, latches, ends of versions and ends of commits say of a life.
+-- What the laws of phases, latches, ends of versions and ends of commits say of a life, and what goes on to hold of its log.
 use Rattle.law_commit.specs.Decided.Below.{IsLaterFromEnd, OfEachBegun}
 use Rattle.law_commit.specs.Decided.Ended.{CommitsHaveEnded}
 use Rattle.law_commit.specs.Floor.Stands.{FloorAlwaysStands, PaperHasFloor, PaperIsSound}
@@ -8,6 +8,8 @@ use Rattle.law_commit.specs.Quiet.{LatchesAtItsVersion, NoneIsLeft}
 use Rattle.law_commit.specs.Shares.Alone.{BitIsPastPrepare}
 use Rattle.law_commit.specs.Shares.Since.{OlderComeSharing}
 use Rattle.law_commit.specs.Shares.Waiting.{SharesInPrepare}
+use Rattle.law_log.specs.Begins.{EachVersionStaysLive, Live, LiveAtRest, StaysFromThere}
+use Rattle.law_commit.specs.Versions.Laws.{HasCellsUpto}
 use Rattle.law_commit.specs.Below.law_refine.Latches.InTries.{StandsBesideNone}
 
 pub record Given : Type 0 where
@@ -25,3 +27,7 @@ pub record Given : Type 0 where
   pub begun : BegunAreAsKept
   pub ended : CommitsHaveEnded
   pub later : OfEachBegun IsLaterFromEnd
+  pub stays : StaysFromThere Live
+  pub versions : EachVersionStaysLive
+  pub rest : LiveAtRest
+  pub cells : HasCellsUpto

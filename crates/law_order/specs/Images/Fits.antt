@@ -31,9 +31,9 @@ abbrev pub NamesItsLost : Opened → Now → BegunCommit → Type 0
 NamesItsLost o n c = NamesNone o c ⊎ NamesLost n c
 
 -- A commit of a life is newer than the opening's, and not of the last version. Its checkpoint is its own or an older one, and it lies in the window of that. Its log ends at or above the opened
--- tail and the address where the scan begins, and at or below the address up to which the log is flushed. Its log begins where that of the opened store does: at the
--- first record or above it, not above the address where the scan begins, and in a specified store at the first record. A checkpoint that it has made has room. If it
--- uses the checkpoint with which the store was opened, it names the lost ranges of then.
+-- tail and the address where the scan begins, and at or below the address up to which the log is flushed. Its log begins where that of the opened store does, or
+-- further on: not above the address where the scan begins, and in a specified store at the first record. A checkpoint that it has made has room. If it uses the
+-- checkpoint with which the store was opened, it names the lost ranges of then, and its log begins where it did then.
 pub record FitsLife (o : Opened) (n : Now) (flushed : ℕ) (c : BegunCommit) : Type 0 where
   pub few : c.number.0 < last_version
   pub newer : o.number.0 < c.number.0
@@ -43,13 +43,14 @@ pub record FitsLife (o : Opened) (n : Now) (flushed : ℕ) (c : BegunCommit) : T
   pub upwards : c.parts.checkpoint.first.0 ≤ c.parts.end.0
   pub later : o.tail.0 ≤ c.parts.end.0
   pub is_flushed : c.parts.end.0 ≤ flushed
-  pub begins : c.parts.begin ≡ o.begin
+  pub begins : o.begin.0 ≤ c.parts.begin.0
   pub some_begin : 1 ≤ c.parts.begin.0
   pub before_scan : c.parts.begin.0 ≤ c.parts.checkpoint.first.0
   pub whole : n.shape.class ≡ Specified → c.parts.begin.0 ≡ 1
   pub room : c.parts.kind ≡ Full → c.parts.checkpoint.triples ≤ most_triples n.shape
   pub lost : NamesItsLost o n c
   pub as_opened : c.parts.checkpoint ≡ n.keeper.last.checkpoint → c.parts.lost ≡ n.keeper.lost
+  pub begins_as_opened : c.parts.checkpoint ≡ n.keeper.last.checkpoint → c.parts.begin ≡ o.begin
 
 -- so does each that has begun, but the opening's
 abbrev pub AllFit : Opened → Now → List ℕ → List Event → Type 0

@@ -6,10 +6,13 @@ use Rattle.law_opening.specs.Below.fkv_opening.TheOpened.{Opened}
 use Rattle.law_commit.specs.Below.fkv_world.World.{Event, Now}
 use Rattle.law_commit.specs.Below.law_refine.Events.GhostEvents.{home_in}
 use Rattle.law_commit.specs.Versions.Laws.{version_now}
+use Rattle.law_commit.specs.BegunCommits.{BegunCommit}
 use Rattle.law_log.specs.Begins.{Live, LiveUpto}
 use Rattle.law_log.specs.Ghosts.{Log}
+use Rattle.law_log.specs.Trace.{IsIn}
 use Rattle.law_opening.specs.Log.Lives.{ghosts_beside}
 use Rattle.law_order.specs.Decided.Cut.{log_beside}
+use Rattle.law_order.specs.Images.Named.{begun_so_far}
 use Rattle.law_order.specs.Served.Fits.{CallsFit}
 use Rattle.law_order.specs.Tickets.Few.{HasFewCalls}
 
@@ -36,6 +39,10 @@ InEachLife P = (its : Life) → IsLife its → P its.opened its.world its.bytes 
 pub record IsLive (o : Opened) (n : Now) (bytes : List ℕ) (events : List Event) : Type 0 where
   pub now : (let beside = ghosts_beside o n bytes events in Live o.begin.0 (home_in n.shape.bucket_bits) beside.log)
   pub upto : (version : ℕ) → (let beside = ghosts_beside o n bytes events in LiveUpto version o.begin.0 (home_in n.shape.bucket_bits) beside.log)
+
+-- And it does without the records below where the log of a commit that has begun begins, in the versions up to the commit's.
+abbrev pub CommitsAreLive : Opened → Now → List ℕ → List Event → Type 0
+CommitsAreLive o n bytes events = (c : BegunCommit) → IsIn c (begun_so_far n bytes events) → LiveUpto c.number.0 c.parts.begin.0 (home_in n.shape.bucket_bits) (log_beside o n bytes events)
 
 -- ---- and of any other address at which the log may come to begin
 -- Behind these events all below the address is fixed: it lies at or below the safe read-only offset.

@@ -6,6 +6,7 @@ use Rattle.fkv_base.specs.declared.faults.Fault.TheVariants.{NoSession}
 use Rattle.fkv_base.specs.declared.phases.Phase.{Phase}
 use Rattle.fkv_base.specs.declared.phases.Phase.TheVariants as phase
 use Rattle.law_order.specs.Below.fkv_core.Openings.{beginning}
+use Rattle.law_order.specs.Below.fkv_core.Unswept.{UnsweptLivesKeepBegin}
 use Rattle.law_order.specs.Below.fkv_core.Worlds.{WorldModel}
 use Rattle.law_order.specs.Below.fkv_core.Event as events
 use Rattle.law_order.specs.Below.fkv_core.TheTold as tells
@@ -29,6 +30,7 @@ use Rattle.fkv_runs.specs.Below.fkv_playing.Telling.{Telling}
 use Rattle.fkv_runs.specs.Below.fkv_playing.Telling.TheVariants.{Finished, Whole}
 use Rattle.fkv_texts.specs.Keeper.{nothing_to_finish}
 use Rattle.fkv_texts.specs.Refusals.{session_refusal}
+use Rattle.law_order.specs.Below.fkv_world.Opened.{IsOpenedWorld}
 use Rattle.law_order.specs.Below.fkv_world.Runs.{World, run}
 use Rattle.law_order.specs.Below.fkv_world.World.{Calls, Event, Moves, Now}
 use Rattle.law_order.specs.OneHistory.EachLife.{InEachLife, IsLife}
@@ -53,6 +55,7 @@ use Rattle.law_program.proofs.OfPlayedCalls.Polled.{IsTraced, traced, updates_an
 use Rattle.law_program.proofs.OfPlayedCalls.PolledReads.{reads_answered}
 use Rattle.law_program.proofs.OfPlayedCalls.Replies.{at_rest_behind, missing_number, op_answered}
 use Rattle.law_program.proofs.OfPlayedCalls.Steps.{GoesByRules}
+use Rattle.law_program.proofs.OfPlayedCalls.Unswept.{call_unswept}
 use Rattle.law_program.proofs.OfPlayedCalls.Waiting.{seats_kept}
 use Rattle.law_order.specs.Below.law_refine.Results.Results.{NobodyCalls}
 
@@ -136,7 +139,7 @@ ends_so Answered = inr (inl refl)
 ends_so other = inl refl
 
 -- ---- a call that is played alone
-module _ {D : Type 0} (legal : InEachLife HasLegalHistory) (ordered : InEachLife OrdersItsCalls) (fresh : InEachLife ReadsFreshly) (waiting : InEachLife WaitingReadsInTime) (whole : AnswersWholeCalls) (tells_finished : InEachLife TellsFinished) (seen : D → List ℕ) (may_leave : D → List ℕ → Type 0)
+module _ {D : Type 0} (legal : InEachLife HasLegalHistory) (ordered : InEachLife OrdersItsCalls) (fresh : InEachLife ReadsFreshly) (waiting : InEachLife WaitingReadsInTime) (unswept : UnsweptLivesKeepBegin) (whole : AnswersWholeCalls) (tells_finished : InEachLife TellsFinished) (seen : D → List ℕ) (may_leave : D → List ℕ → Type 0)
     (engine : events.Event → WorldModel D → WorldModel D → Option tells.Told → Bool → Type 0) (rules : GoesByRules engine) (leads : LeadsLives seen may_leave engine) where
   -- what is printed, and where the life goes
   pub record IsPlayed (telling : Telling) (its : ActorCall) (bytes : List ℕ) (o : Opened) (first : Now) (life : List Event) (before after : PlayerState D) (text : List ℕ) : Type 0 where
@@ -145,7 +148,7 @@ module _ {D : Type 0} (legal : InEachLife HasLegalHistory) (ordered : InEachLife
     pub few : calls_in later ≡ calls_in (begun_by its ∷ life)
 
   shows_first : (bytes : List ℕ) (o : Opened) (first : Now) (life : List Event) (before : PlayerState D) → IsLifeOver seen may_leave bytes o first life before → ShowsBoth seen may_leave (beginning first bytes) life before.world
-  shows_first bytes o first life before over = record { shows = over.quiet.shows; device = over.device }
+  shows_first bytes o first life before over = record { shows = over.quiet.shows; unswept = over.quiet.unswept; device = over.device }
 
   -- of a session
   call_answered : (telling : Telling) (number count : ℕ) (asked : Call) (bytes : List ℕ) (o : Opened) (first : Now) (life : List Event) (before after : PlayerState D) (text : List ℕ) → IsLifeOver seen may_leave bytes o first life before
@@ -155,11 +158,13 @@ module _ {D : Type 0} (legal : InEachLife HasLegalHistory) (ordered : InEachLife
       let answered = ends.answered in
       let is_life : IsLife (record { bytes = bytes; opened = o; world = first; events = called_alone number count asked life })
       = record { store = over.quiet.store; begins = over.quiet.opening; fits = calls_fit number count asked life fits over.quiet.fits; few = calls_few number count asked life few } in
+      let opened : IsOpenedWorld (beginning first bytes) = world_opens o first bytes over.quiet.opening in
+      let never = call_unswept (beginning first bytes) number count asked life opened over.quiet.unswept in
       record {
         answer = answered.answer;
         same = answered.same;
         updates = updates_answered legal ordered number count asked bytes o first life answered.its answered.s.finished answered.answer at is_life answered.is_told;
-        reads = reads_answered fresh waiting bytes o first life number count asked answered.its answered.s.finished at is_life (world_opens o first bytes over.quiet.opening) before.seats answered.answer answered.is_told over.keeps;
+        reads = reads_answered fresh waiting bytes o first life number count asked answered.its answered.s.finished at is_life unswept never opened before.seats answered.answer answered.is_told over.keeps;
       }
 
   told_in_life : (telling : Telling) (number count : ℕ) (asked : Call) (bytes : List ℕ) (o : Opened) (first : Now) (life : List Event) (before after : PlayerState D) (text : List ℕ) → IsLifeOver seen may_leave bytes o first life before
@@ -260,6 +265,7 @@ module _ {D : Type 0} (legal : InEachLife HasLegalHistory) (ordered : InEachLife
               opening = over.quiet.opening;
               fits = is_life.fits;
               few = is_life.few;
+              unswept = shown.unswept;
               shows = shown.shows;
             };
             device = shown.device;

@@ -3,7 +3,8 @@ use Rattle.std.proofs.Common.{◌≡◌, ◌∙◌, ℕ, zero, suc, List, [], �
 use Rattle.std.specs.Prelude.{Option, Some, None, ⊤}
 use Rattle.law_order.specs.Below.fkv_core.Lives.{IsAnswerSaid, IsSaid, LeadsOn, answers_of}
 use Rattle.law_order.specs.Below.fkv_core.Told.{IsKeepingTold, IsTold, keeper_told}
-use Rattle.law_order.specs.Below.fkv_core.Worlds.{WorldModel, took_place}
+use Rattle.law_order.specs.Below.fkv_core.Unswept.{NeverSweeps}
+use Rattle.law_order.specs.Below.fkv_core.Worlds.{BeginsNoSweep, WorldModel, took_place}
 use Rattle.law_order.specs.Below.fkv_core.Event as events
 use Rattle.law_order.specs.Below.fkv_core.TheTold as tells
 use Rattle.law_order.specs.Below.fkv_core.TheTold.TheVariants as told
@@ -39,14 +40,16 @@ use Rattle.law_order.specs.Below.fkv_world.Runs.{World, run}
 use Rattle.law_order.specs.Below.fkv_world.World.{Event, Moves, Now}
 use Rattle.law_program.specs.PlayedCalls.EachLine.{AreMovesOf, IsMoveOf, IsOfKeeper, begun_by}
 use Rattle.law_program.proofs.OfPlayedCalls.Beats.{HasEnded, ended_heard, unheard, unheard_then, untold}
+use Rattle.law_program.proofs.OfPlayedCalls.Unswept.{step_unswept}
 
 -- ---- by the engine's rules
--- A step leads on each life of an opened store that shows the world and the device before it, and tells what its event gives.
+-- A step leads on each life of an opened store that shows the world and the device before it, and tells what its event gives. It begins no sweep.
 pub record IsLeading {D : Type 0} (seen : D → List ℕ) (may_leave : D → List ℕ → Type 0) (its : events.Event) (world after : WorldModel D) (said : Option tells.Told) : Type 0 where
   pub granted : Bool
   pub done : Bool
   pub leads : LeadsOn world.now after.now (took_place its granted done) said (seen world.device) (seen after.device) (may_leave world.device) (may_leave after.device)
   pub tells : IsTold world.now.crashed world.now after.now (took_place its granted done) said
+  pub no_sweep : BeginsNoSweep world.now.keeper after.now.keeper
 
 abbrev pub LeadsLives : {D : Type 0} → (D → List ℕ) → (D → List ℕ → Type 0) → (events.Event → WorldModel D → WorldModel D → Option tells.Told → Bool → Type 0) → Type 0
 LeadsLives {D} seen may_leave engine =
@@ -55,7 +58,7 @@ LeadsLives {D} seen may_leave engine =
 pub engine_leads : {D : Type 0} (honest : D → Type 0) (seen : D → List ℕ) (may_leave : D → List ℕ → Type 0) (failed : D → ℕ) (refuses : D → ℕ → Bool) (expects : D → List Kind → Foretold) (broken : D → Bool) → ((device : D) → honest device)
     → LeadsLives seen may_leave (EngineStep honest seen may_leave failed refuses expects broken)
 engine_leads honest seen may_leave failed refuses expects broken all = λ its world after said is_broken step.
-    record { granted = step.0.granted; done = step.0.done; leads = step.0.life (all world.device); tells = step.0.tells }
+    record { granted = step.0.granted; done = step.0.done; leads = step.0.life (all world.device); tells = step.0.tells; no_sweep = step.0.no_sweep }
 
 -- ---- the event of a beat
 abbrev pub IsEventAt : Stage → ActorCall → Event → Type 0
@@ -115,9 +118,10 @@ seats_kept asked seats (told.Commit begun) by_keeper = refl
 seats_kept asked seats (told.Turn its) by_keeper = refl
 
 -- ---- beat by beat
--- a life shows the world and the device
+-- a life shows the world and the device, and its keeper has swept nothing
 pub record ShowsBoth {D : Type 0} (seen : D → List ℕ) (may_leave : D → List ℕ → Type 0) (opening : World) (life : List Event) (world : WorldModel D) : Type 0 where
   pub shows : (run opening life).now ≡ world.now
+  pub unswept : NeverSweeps opening life
   pub device : IsAfter (run opening life).past.opened (run opening life).past.calls (seen world.device) (may_leave world.device)
 
 -- It shows them behind a beat.
@@ -178,7 +182,12 @@ module _ {D : Type 0} (seen : D → List ℕ) (may_leave : D → List ℕ → Ty
   one_on opening opened at life before after outcome text was beat =
       let led = leads (event_of at its) before.world after.world beat.its beat.broken beat.step in
       let on = led.leads opening life opened was.shows was.device in
-      record { event = took_place (event_of at its) led.granted led.done; is_at = took_at at its led.granted led.done; shows = record { shows = on.shows; device = on.device } }
+      let event : Event = took_place (event_of at its) led.granted led.done in
+      record {
+        event = event;
+        is_at = took_at at its led.granted led.done;
+        shows = record { shows = on.shows; unswept = step_unswept opening event life before.world.now after.world.now opened was.unswept was.shows on.shows led.no_sweep; device = on.device };
+      }
 
   pub told_last : (opening : World) → IsOpenedWorld opening → (at : Stage) (count : ℕ) (life : List Event) (before after : PlayerState D) (outcome : Outcome) (text : List ℕ) → ShowsBoth seen may_leave opening life before.world → HasEnded outcome
       → InTurn (IsBeat engine telling its) GoesOn (at ∷ replicate count stage.Moves) before after outcome text → IsToldLast seen may_leave telling its opening at count life before after text
@@ -199,7 +208,11 @@ module _ {D : Type 0} (seen : D → List ℕ) (may_leave : D → List ℕ → Ty
           moves = [];
           are_moves = tt;
           many = refl;
-          shows = record { shows = on.shows; device = on.device };
+          shows = record {
+            shows = on.shows;
+            unswept = step_unswept opening (took_place (event_of at its) led.granted led.done) life before.world.now after.world.now opened was.unswept was.shows on.shows led.no_sweep;
+            device = on.device;
+          };
         };
         one = one_said opening life (took_place (event_of at its) led.granted led.done) beat.its end.said end.was on.says;
       }
@@ -214,7 +227,8 @@ module _ {D : Type 0} (seen : D → List ℕ) (may_leave : D → List ℕ → Ty
       let event : Event = took_place (event_of at its) leading.granted leading.done in
       let unsaid : answers_of (run opening (event ∷ life)).past.trace ≡ answers_of (run opening life).past.trace
       = none_said beat.its _ _ (untold (is_struck before.waits beat.broken) beat.its beat.ends) on.says in
-      let rest = told_last opening opened stage.Moves count (event ∷ life) between after outcome beats.2 (record { shows = on.shows; device = on.device }) ended beats.4 in
+      let unswept : NeverSweeps opening (event ∷ life) = step_unswept opening event life before.world.now between.world.now opened was.unswept was.shows on.shows leading.no_sweep in
+      let rest = told_last opening opened stage.Moves count (event ∷ life) between after outcome beats.2 (record { shows = on.shows; unswept = unswept; device = on.device }) ended beats.4 in
       let led = rest.led in
       let same : led.moves ++ led.event ∷ event ∷ life ≡ (led.moves ++ led.event ∷ []) ++ event ∷ life = sym (append_assoc led.moves (led.event ∷ []) (event ∷ life)) in
       let last = rest.one in

@@ -49,6 +49,7 @@ use Rattle.law_program.specs.PlayedCalls.Noted.{IsNoted}
 use Rattle.law_program.proofs.OfPlayedCalls.Beats.{unheard}
 use Rattle.law_program.proofs.OfPlayedCalls.Interleaved.{event_fits}
 use Rattle.law_program.proofs.OfPlayedCalls.Led.{IsEventAt, LeadsLives, took_at}
+use Rattle.law_program.proofs.OfPlayedCalls.Unswept.{step_unswept}
 
 -- ---- histories, the oldest first
 abbrev in_order : List HistoryEntry → List HistoryEntry
@@ -262,7 +263,7 @@ module _ {D : Type 0} (seen : D → List ℕ) (may_leave : D → List ℕ → Ty
       record {
         event = event;
         is_at = is;
-        shown = record { store = was.store; opening = was.opening; fits = (event_fits at call event fit is, was.fits); shows = on.shows; device = on.device };
+        shown = record { store = was.store; opening = was.opening; fits = (event_fits at call event fit is, was.fits); unswept = step_unswept opening event life before.world.now after.world.now (world_opens o first bytes was.opening) was.unswept was.shows on.shows led.no_sweep; shows = on.shows; device = on.device };
         keeps = keeps;
         noted = record {
           goes_on = ap (λ (x : Now). x.crashed) (sym on.shows) ∙ (ap (λ (x : World). x.now.crashed) same ∙ happens_alive at call event w is alive);

@@ -5,6 +5,7 @@ use Rattle.std.proofs.lemmas.List.{append-nil}
 use Rattle.fkv_base.specs.declared.numbers.Key.{Key}
 use Rattle.fkv_base.specs.declared.numbers.Value.{Value}
 use Rattle.law_order.specs.Below.fkv_core.Openings.{beginning}
+use Rattle.law_order.specs.Below.fkv_core.Unswept.{NeverSweeps, UnsweptLivesKeepBegin}
 use Rattle.fkv_map.specs.History.{content}
 use Rattle.fkv_map.specs.Map.{Map, reply_to}
 use Rattle.fkv_map.specs.declared.history.HistoryEntry.{HistoryEntry}
@@ -29,6 +30,7 @@ use Rattle.law_order.specs.Below.fkv_world.Past.{Answered, Called, Traced}
 use Rattle.law_order.specs.Below.fkv_world.Runs.{run}
 use Rattle.law_order.specs.Below.fkv_world.World.{Calls, Event, Moves, Now}
 use Rattle.law_log.specs.Trace.{AnswersRead, CallsRead, Effect, IsIn, TraceLine, history_of}
+use Rattle.law_order.specs.Known.Begins.{BeginStays}
 use Rattle.law_order.specs.OneHistory.EachLife.{InEachLife, IsLife, Life}
 use Rattle.law_order.specs.Below.law_opening.Log.Maps.{opening_map}
 use Rattle.law_order.specs.Rules.InTime.{IsInTime}
@@ -46,6 +48,7 @@ use Rattle.law_program.proofs.OfPlayedCalls.InLife.{was_there}
 use Rattle.law_program.proofs.OfPlayedCalls.ReadCalls.{called_before}
 use Rattle.law_program.proofs.OfPlayedCalls.ToldToWait.{call_adds_none}
 use Rattle.law_program.proofs.OfPlayedCalls.Tickets.{accounted, key_of_given, ticket_given}
+use Rattle.law_program.proofs.OfPlayedCalls.Unswept.{unswept_before}
 use Rattle.law_program.proofs.OfWholeCalls.InLists.{in_right}
 
 -- a line stands between others
@@ -69,7 +72,8 @@ alone_so m effects key reply its =
     ∙ ap (λ (x : List HistoryEntry). reply_to (content m x) (Read key)) (ap (λ (x : List HistoryEntry). history_of effects ++ x) (none_more (history_of effects) its.between its.newer its.all) ∙ append-nil (history_of effects))
 
 module _ (fresh : InEachLife ReadsFreshly) (waiting : InEachLife WaitingReadsInTime) (bytes : List ℕ) (o : Opened) (first : Now) (life : List Event) (number count : ℕ) (asked : Call) (its : Told) (list : List Finished)
-    (at : IsTraced bytes first life number count asked its list) (is_life : IsLife (record { bytes = bytes; opened = o; world = first; events = called_alone number count asked life })) where
+    (at : IsTraced bytes first life number count asked its list) (is_life : IsLife (record { bytes = bytes; opened = o; world = first; events = called_alone number count asked life }))
+    (unswept : UnsweptLivesKeepBegin) (never : NeverSweeps (beginning first bytes) (called_alone number count asked life)) where
   abbrev later : List Event
   later = called_alone number count asked life
 
@@ -139,6 +143,12 @@ module _ (fresh : InEachLife ReadsFreshly) (waiting : InEachLife WaitingReadsInT
       whole : later ≡ at.given.behind ++ at.given.answer ∷ ((at.given.between ++ read.since) ++ there)
       whole = at.given.so ∙ ap (λ (x : List Event). at.given.behind ++ at.given.answer ∷ x) mid
 
+      -- its keeper has swept nothing, so its log begins where it did
+      stays : BeginStays (beginning first bytes) (at.given.answer ∷ ((at.given.between ++ read.since) ++ there))
+      stays =
+          unswept (beginning first bytes) (at.given.answer ∷ ((at.given.between ++ read.since) ++ there)) at.opened
+          (unswept_before (beginning first bytes) at.given.behind (at.given.answer ∷ ((at.given.between ++ read.since) ++ there)) (subst (NeverSweeps (beginning first bytes)) whole never))
+
       told_there : IsIn (AnswersRead (waiting_read first bytes there number ticket) (read_reply value)) (event_adds (beginning first bytes) ((at.given.between ++ read.since) ++ there) at.given.answer)
       told_there =
           subst (λ (n : ℕ). IsIn (AnswersRead n (read_reply value)) (event_adds (beginning first bytes) ((at.given.between ++ read.since) ++ there) at.given.answer)) (sym read.its_number)
@@ -146,7 +156,7 @@ module _ (fresh : InEachLife ReadsFreshly) (waiting : InEachLife WaitingReadsInT
 
       by_law : IsInTime (opening_map bytes o) (history_of (effects_so_far first bytes (calls ∷ read.earlier))) (history_of (effects_so_far first bytes there)) key.0 (read_reply value)
       by_law =
-          waiting lived is_life at.given.behind (at.given.between ++ read.since) (replicate read.moves (Moves number)) read.earlier calls at.given.answer number key.0 ticket (read_reply value) whole read.waits
+          waiting lived is_life at.given.behind (at.given.between ++ read.since) (replicate read.moves (Moves number)) read.earlier calls at.given.answer number key.0 ticket (read_reply value) whole stays read.waits
           (subst (λ (n : ℕ). IsIn (CallsRead n key.0) (event_adds (beginning first bytes) read.earlier calls)) (sym read.its_number) read.line) told_there
 
       so : IsInTime (opening_map bytes o) (history_of (effects_so_far first bytes read.earlier)) (history_of (effects_so_far first bytes read.earlier)) key.0 (read_reply value)

@@ -1,6 +1,6 @@
 -- The keeper spares each part, but the mailbox that it is at and the durable word that it stores.
 use Rattle.std.proofs.Common.{◌≡◌, ℕ, refl, sym, subst, List, [], ◌∷◌, Bool, true, false}
-use Rattle.std.specs.Prelude.{if◌then◌else◌, ⊤, Option, Some, None, ◌||◌}
+use Rattle.std.specs.Prelude.{if◌then◌else◌, ⊤, Option, Some, None, ◌&&◌, ◌||◌}
 use Rattle.fkv_base.specs.declared.faults.Fault.TheVariants as fault
 use Rattle.fkv_base.specs.declared.phases.Phase.TheVariants as phase
 use Rattle.fkv_base.specs.declared.shapes.Shape.{Shape}
@@ -9,12 +9,17 @@ use Rattle.fkv_words.specs.declared.phase_words.PhaseSaid.TheVariants.{Says, Spo
 use Rattle.fkv_words.specs.PhaseWords.{phase_said}
 use Rattle.fkv_plane.specs.declared.actions.Action.{Action}
 use Rattle.fkv_plane.specs.declared.asks.Ask.{Ask}
-use Rattle.fkv_plane.specs.declared.asks.Ask.TheVariants.{Done}
+use Rattle.fkv_plane.specs.declared.asks.Ask.TheVariants.{Load, Store, Swap, Cas, Add, Max, Put, Take, Done}
 use Rattle.fkv_plane.specs.declared.places.Places.{Places}
 use Rattle.fkv_plane.specs.Passing.{passed}
+use Rattle.fkv_sweep.specs.declared.sweeping.SweepAnswer.{SweepAnswer}
+use Rattle.fkv_sweep.specs.declared.sweeping.SweepAnswer.TheVariants as sweep
+use Rattle.fkv_sweep.specs.Swept.{IsLoadOrEnd}
+use Rattle.fkv_sweep.specs.Sweeping.{is_sweeping, sweep_ask, sweep_next, sweep_read}
+use Rattle.fkv_sweep.specs.Sweeping as sweeping
 use Rattle.law_world.specs.Below.fkv_checkpoint.CopyStep.{CopyStep}
 use Rattle.law_world.specs.Below.fkv_checkpoint.CopyStep.TheVariants as copy
-use Rattle.law_world.specs.Below.fkv_checkpoint.Copying.{Copier, copy_step_ask, copy_begun}
+use Rattle.law_world.specs.Below.fkv_checkpoint.Copying.{Copier, copy_step_ask}
 use Rattle.law_world.specs.Below.fkv_commit.Commit.{Commit}
 use Rattle.fkv_base.specs.declared.commits.CommitKind.{CommitKind}
 use Rattle.law_world.specs.Below.fkv_commit.EnterAnswer.{EnterAnswer}
@@ -40,8 +45,8 @@ use Rattle.law_world.specs.Below.fkv_maintain.Maintaining.{MaintainState, is_flu
 use Rattle.law_world.specs.Below.fkv_keeper.KeeperTold.{KeeperTold}
 use Rattle.law_world.specs.Below.fkv_keeper.KeeperTold.TheVariants.{TurnRefused, CommitRefused}
 use Rattle.law_world.specs.Below.fkv_keeper.TheKeeping.{Keeping}
-use Rattle.law_world.specs.Below.fkv_keeper.TheKeeping.TheVariants.{Ended, Starts, Maintains, LoadsPhase, Enters, Copies, Seeks, Waits, Writes, Finishes}
-use Rattle.law_world.specs.Below.fkv_keeper.Keeping.{KeeperState, copy_asked, device_passed, write_asked, keeping_ask, keeper_ask, ended, turned, commit_asked, turn_asked, start_ledto, maintain_ledto, copies, copies_next, parts_begun, serves_alone, part_begun, writes_taken_up, unless_flush_rests, phase_ledto, enter_ledto, copy_ledto, seek_ledto, writes_begun, wait_ledto, finished, finish_ledto, copy_driven, keeping_next, keeping_given, must_rest, write_ledto, writes_called, keeping_called, copy_taken, is_copy_resting, asked_for}
+use Rattle.law_world.specs.Below.fkv_keeper.TheKeeping.TheVariants.{Ended, Starts, Maintains, LoadsPhase, Enters, Copies, Seeks, Waits, Writes, Finishes, Sweeps}
+use Rattle.law_world.specs.Below.fkv_keeper.Keeping.{KeeperState, copy_asked, device_passed, sweep_passed, sweeps_next, sweep_ledto, sweep_called, write_asked, keeping_ask, keeper_ask, ended, turned, commit_asked, turn_asked, start_ledto, maintain_ledto, copies, copies_next, parts_begun, serves_alone, part_begun, writes_taken_up, unless_flush_rests, phase_ledto, enter_ledto, copy_ledto, seek_ledto, writes_begun, wait_ledto, finished, finish_ledto, copy_driven, keeping_next, keeping_given, must_rest, write_ledto, writes_called, keeping_called, copy_taken, is_copy_resting, asked_for}
 use Rattle.law_world.specs.Below.fkv_keeper.KeeperRun.{KeeperEvent, BeginsTurn, BeginsCommit, Replies, Gets, Calls, IsOpened, is_in_hand, begins, keeper_happens, keeper_run}
 use Rattle.law_refine.specs.Mail.Servers.{keeper_serving}
 use Rattle.law_refine.specs.Footprint.{Part, ThePhase, HasSeats, Spares}
@@ -88,6 +93,20 @@ write_spares part p write.Device told = tt
 write_spares part p write.Written told = tt
 write_spares part p (write.Broken why) told = tt
 
+-- a sweep asks for loads alone
+sweep_spares : (part : Part) (p : Places) (ask : Ask SweepAnswer) (told : KeeperTold) → IsLoadOrEnd ask → Spares part p (sweep_passed ask told)
+unfolding sweep_passed passed
+sweep_spares part p (Load place) told loads = tt
+sweep_spares part p (Done sweep.Device) told loads = tt
+sweep_spares part p (Done sweep.Through) told loads = tt
+sweep_spares part p (Store place new) told loads = absurd loads
+sweep_spares part p (Swap place new) told loads = absurd loads
+sweep_spares part p (Cas place old new) told loads = absurd loads
+sweep_spares part p (Add place k) told loads = absurd loads
+sweep_spares part p (Max place k) told loads = absurd loads
+sweep_spares part p (Put slot action) told loads = absurd loads
+sweep_spares part p (Take slot) told loads = absurd loads
+
 -- it is about to store a phase
 abbrev pub keeper_stores : KeeperState → Keeping → Bool
 keeper_stores s Starts = start_stores s.start.step
@@ -98,23 +117,24 @@ keeper_stores s step = false
 
 -- what it asks for
 keeping_spares : (part : Part) (shape : Shape) (p : Places) (n : ℕ) (s : KeeperState) (step : Keeping) → (part ≡ ThePhase → keeper_stores s step ≡ false) → HasSeats part p n → HasSeats part p s.finish.sessions → KeeperBounds n s step → IsServedNot part (keeper_serving s step)
-    → (step ≡ Finishes → IsStoredNot part s.finish.step) → Spares part p (keeping_ask shape p s step)
+    → (step ≡ Finishes → IsStoredNot part s.finish.step) → IsLoadOrEnd (sweep_ask s.sweep) → Spares part p (keeping_ask shape p s step)
 unfolding keeping_ask
-keeping_spares part shape p n s (Ended its) apart few its_few bounds none other = tt
-keeping_spares part shape p n s Starts apart few its_few bounds none other = passed_spares part p _ _ (start_spares part p s.start apart bounds)
-keeping_spares part shape p n s Maintains apart few its_few bounds none other = device_spares part p (maintain_ask shape p s.maintain) _ (maintain_spares part shape p n s.maintain apart few bounds none)
-keeping_spares part shape p n s LoadsPhase apart few its_few bounds none other = tt
-keeping_spares part shape p n s Enters apart few its_few bounds none other = passed_spares part p _ _ (enter_spares part p s.enter bounds)
-keeping_spares part shape p n s Copies apart few its_few bounds none other = passed_spares part p _ _ (copy_spares part p s.copy)
-keeping_spares part shape p n s Seeks apart few its_few bounds none other = passed_spares part p _ _ (seek_spares part p s.seek apart bounds)
-keeping_spares part shape p n s Waits apart few its_few bounds none other = passed_spares part p _ _ (wait_spares part p s.wait)
-keeping_spares part shape p n s Writes apart few its_few bounds none other = write_spares part p (commit_answer s.writes) _
-keeping_spares part shape p n s Finishes apart few its_few bounds none other = passed_spares part p _ _ (finish_spares part p s.seek.points s.finish apart its_few bounds (other refl))
+keeping_spares part shape p n s (Ended its) apart few its_few bounds none other loads = tt
+keeping_spares part shape p n s Starts apart few its_few bounds none other loads = passed_spares part p _ _ (start_spares part p s.start apart bounds)
+keeping_spares part shape p n s Maintains apart few its_few bounds none other loads = device_spares part p (maintain_ask shape p s.maintain) _ (maintain_spares part shape p n s.maintain apart few bounds none)
+keeping_spares part shape p n s LoadsPhase apart few its_few bounds none other loads = tt
+keeping_spares part shape p n s Enters apart few its_few bounds none other loads = passed_spares part p _ _ (enter_spares part p s.enter bounds)
+keeping_spares part shape p n s Copies apart few its_few bounds none other loads = passed_spares part p _ _ (copy_spares part p s.copy)
+keeping_spares part shape p n s Seeks apart few its_few bounds none other loads = passed_spares part p _ _ (seek_spares part p s.seek apart bounds)
+keeping_spares part shape p n s Waits apart few its_few bounds none other loads = passed_spares part p _ _ (wait_spares part p s.wait)
+keeping_spares part shape p n s Writes apart few its_few bounds none other loads = write_spares part p (commit_answer s.writes) _
+keeping_spares part shape p n s Finishes apart few its_few bounds none other loads = passed_spares part p _ _ (finish_spares part p s.seek.points s.finish apart its_few bounds (other refl))
+keeping_spares part shape p n s Sweeps apart few its_few bounds none other loads = sweep_spares part p (sweep_ask s.sweep) _ loads
 
 -- where each session that it serves and finishes commits for has its seat
 pub keeper_asks_spares : (part : Part) (shape : Shape) (p : Places) (count : ℕ) (s : KeeperState) → (part ≡ ThePhase → keeper_stores s s.step ≡ false) → HasSeats part p shape.sessions → HasSeats part p count → IsKeeperSparing shape.sessions count s → IsServedNot part (keeper_serving s s.step)
-    → (s.step ≡ Finishes → IsStoredNot part s.finish.step) → Spares part p (keeper_ask shape p s)
-keeper_asks_spares part shape p count s apart few all its none other = keeping_spares part shape p shape.sessions s s.step apart few (subst (λ (x : ℕ). HasSeats part p x) (sym its.counts) all) its.bounds none other
+    → (s.step ≡ Finishes → IsStoredNot part s.finish.step) → IsLoadOrEnd (sweep_ask s.sweep) → Spares part p (keeper_ask shape p s)
+keeper_asks_spares part shape p count s apart few all its none other loads = keeping_spares part shape p shape.sessions s s.step apart few (subst (λ (x : ℕ). HasSeats part p x) (sym its.counts) all) its.bounds none other loads
 
 -- where a reply leads, for commits of so many sessions
 module _ (count : ℕ) where
@@ -164,9 +184,19 @@ module _ (count : ℕ) where
   lets_spares : (n : ℕ) (s : KeeperState) (granted : Bool) (its : KeeperState) → s.finish.sessions ≡ count → IsKeeperSparing n count its → IsKeeperSparing n count (unless_flush_rests s granted its)
   lets_spares n s granted its counts led = either_spares (is_flush_resting s.maintain) n (turned (record s { is_granted = granted })) its (record { counts = counts; bounds = tt }) led
 
+  -- with no commit in hand a sweep may go on
+  sweeps_spares : (n : ℕ) (s : KeeperState) (granted : Bool) → s.finish.sessions ≡ count → IsKeeperSparing n count (sweeps_next s granted)
+  sweeps_spares n s granted counts =
+      either_spares (granted && is_sweeping s.sweep) n (record s { sweep = sweeping.turn_begun s.sweep; is_granted = true; step = Sweeps }) (turned (record s { is_granted = granted })) (record { counts = counts; bounds = tt }) (record { counts = counts; bounds = tt })
+
+  swept_spares : (n : ℕ) (s : KeeperState) (ask : Ask SweepAnswer) → s.step ≡ Sweeps → s.finish.sessions ≡ count → IsKeeperSparing n count (sweep_ledto s ask)
+  unfolding sweep_ledto
+  swept_spares n s (Done sweep.Through) at counts = ended_spares n s _ counts
+  swept_spares n s ask at counts = stays_spares n s Sweeps at counts tt
+
   phase_spares : (p : Places) (n : ℕ) (s : KeeperState) (found : Option Commit) (said : PhaseSaid) (granted : Bool) → s.finish.sessions ≡ count → IsKeeperSparing n count (phase_ledto p s found said granted)
   unfolding phase_ledto
-  phase_spares p n s None said granted counts = lets_spares n s granted (turned s) counts (ended_spares n s _ counts)
+  phase_spares p n s None said granted counts = lets_spares n s granted (sweeps_next s granted) counts (sweeps_spares n s granted counts)
   phase_spares p n s (Some c) said granted counts =
       either_spares s.rests n (writes_taken_up s granted) (unless_flush_rests s granted (part_begun p s c said granted))
       (either_spares granted n (record s { rests = false; is_granted = true; step = Writes }) (turned (record s { is_granted = false })) (record { counts = counts; bounds = tt }) (record { counts = counts; bounds = tt }))
@@ -227,6 +257,7 @@ module _ (count : ℕ) where
   next_spares shape p s Waits reply granted at counts bounds = waited_spares shape shape.sessions (record s { wait = wait_next s.wait reply }) _ at counts
   next_spares shape p s Writes reply granted at counts bounds = stays_spares shape.sessions s Writes at counts tt
   next_spares shape p s Finishes reply granted at counts bounds = finish_ledto_spares shape.sessions (record s { finish = finish_next s.finish reply }) _ at counts (finish_next_spares s.finish reply)
+  next_spares shape p s Sweeps reply granted at counts bounds = swept_spares shape.sessions (record s { sweep = sweep_next s.sweep reply }) _ at counts
 
   -- each action, and each call of the device
   given_spares : (shape : Shape) (p : Places) (n : ℕ) (s : KeeperState) (step : Keeping) (action : Action) → s.step ≡ step → s.finish.sessions ≡ count → KeeperBounds n s step → IsKeeperSparing n count (keeping_given shape p s step action)
@@ -245,10 +276,15 @@ module _ (count : ℕ) where
   writes_called_spares n s true at counts = written_spares n (record s { writes = commit_next s.writes true }) s.commit (commit_answer (commit_next s.writes true)) at counts
   writes_called_spares n s false at counts = record { counts = counts; bounds = tt }
 
+  sweep_called_spares : (n : ℕ) (s : KeeperState) (done : Bool) (bytes : List ℕ) → s.step ≡ Sweeps → s.finish.sessions ≡ count → IsKeeperSparing n count (sweep_called s done bytes)
+  sweep_called_spares n s true bytes at counts = swept_spares n (record s { sweep = sweep_read s.sweep bytes }) (sweep_ask (sweep_read s.sweep bytes)) at counts
+  sweep_called_spares n s false bytes at counts = record { counts = counts; bounds = tt }
+
   called_spares : (shape : Shape) (p : Places) (n : ℕ) (s : KeeperState) (step : Keeping) (done : Bool) (bytes : List ℕ) → s.step ≡ step → s.finish.sessions ≡ count → KeeperBounds n s step → IsKeeperSparing n count (keeping_called shape p s step done bytes)
   unfolding keeping_called
   called_spares shape p n s Maintains done bytes at counts bounds = maintained_spares n (record s { maintain = maintain_called shape p s.maintain done bytes }) _ at counts (maintain_called_spares shape p n s.maintain done bytes bounds)
   called_spares shape p n s Writes done bytes at counts bounds = writes_called_spares n s done at counts
+  called_spares shape p n s Sweeps done bytes at counts bounds = sweep_called_spares n s done bytes at counts
   called_spares shape p n s step done bytes at counts bounds = stays_spares n s step at counts bounds
 
   -- what is begun

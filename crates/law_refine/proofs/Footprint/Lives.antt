@@ -4,6 +4,9 @@ use Rattle.std.proofs.Common.{◌≡◌, ℕ, ◌∙◌, refl, sym, subst, List,
 use Rattle.std.specs.Prelude.{Option, Some, None, slice_get}
 use Rattle.fkv_base.specs.declared.shapes.Shape.{Shape}
 use Rattle.fkv_plane.specs.declared.places.Places.{Places}
+use Rattle.fkv_sweep.proofs.Shown.{IsLoading, sweep_loads}
+use Rattle.fkv_sweep.specs.Swept.{IsLoadOrEnd}
+use Rattle.fkv_sweep.specs.Sweeping.{sweep_ask}
 use Rattle.law_world.specs.Below.fkv_keeper.TheKeeping.TheVariants.{Finishes}
 use Rattle.law_world.specs.Below.fkv_keeper.KeeperRun as keeper
 use Rattle.law_world.specs.Below.fkv_keeper.Keeping.{KeeperState, keeper_ask}
@@ -12,6 +15,7 @@ use Rattle.law_world.specs.Below.fkv_session.SessionRun.{session_run}
 use Rattle.law_world.specs.Below.fkv_world.OwnEvents.{keeper_events, session_events}
 use Rattle.law_world.specs.Below.fkv_world.Runs.{World, run}
 use Rattle.law_world.specs.Below.fkv_world.World.{Event, seat_at}
+use Rattle.law_world.proofs.Below.fkv_keeper.Shown.{run_loading}
 use Rattle.law_world.proofs.Below.fkv_world.Shown.{keeper_runs, session_runs, same_seat, places_stay, shape_stays}
 use Rattle.law_world.proofs.OfRuns.Nothing.{none_ever}
 use Rattle.law_refine.specs.Footprint.{Part, ThePhase, HasSeats, Spares}
@@ -47,11 +51,17 @@ keeper_spared opening events opened =
     let ran = keeper_run_spares count opening.now.shape opening.now.places opening.now.keeper (keeper_events opening events) opened refl in
     subst (λ (s : KeeperState). IsKeeperSparing opening.now.shape.sessions count s) (sym (keeper_runs opening events)) ran
 
+-- its sweep asks for loads alone
+sweep_loaded : (opening : World) (events : List Event) → keeper.IsOpened opening.now.keeper → IsLoadOrEnd (sweep_ask (run opening events).now.keeper.sweep)
+sweep_loaded opening events opened =
+    let loads = run_loading opening.now.shape opening.now.places opening.now.keeper (keeper_events opening events) opened in
+    sweep_loads (run opening events).now.keeper.sweep (subst (λ (s : KeeperState). IsLoading s.sweep) (sym (keeper_runs opening events)) loads)
+
 pub keeper_spares : (part : Part) (opening : World) (events : List Event) → (part ≡ ThePhase → keeper_stores (run opening events).now.keeper (run opening events).now.keeper.step ≡ false) → keeper.IsOpened opening.now.keeper → HasSeats part opening.now.places opening.now.shape.sessions → HasSeats part opening.now.places opening.now.keeper.finish.sessions
     → IsServedNot part (serving_of (run opening events).now.keeper) → ((run opening events).now.keeper.step ≡ Finishes → IsStoredNot part (run opening events).now.keeper.finish.step)
     → Spares part (run opening events).now.places (keeper_ask (run opening events).now.shape (run opening events).now.places (run opening events).now.keeper)
 keeper_spares part opening events apart opened served finished none other =
     let s : KeeperState = (run opening events).now.keeper in
-    let its : Spares part opening.now.places (keeper_ask opening.now.shape opening.now.places s) = keeper_asks_spares part opening.now.shape opening.now.places opening.now.keeper.finish.sessions s apart served finished (keeper_spared opening events opened) none other in
+    let its : Spares part opening.now.places (keeper_ask opening.now.shape opening.now.places s) = keeper_asks_spares part opening.now.shape opening.now.places opening.now.keeper.finish.sessions s apart served finished (keeper_spared opening events opened) none other (sweep_loaded opening events opened) in
     subst (λ (shape : Shape). Spares part (run opening events).now.places (keeper_ask shape (run opening events).now.places s)) (sym (shape_stays opening events))
     (subst (λ (p : Places). Spares part p (keeper_ask opening.now.shape p s)) (sym (places_stay opening events)) its)

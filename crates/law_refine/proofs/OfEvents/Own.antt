@@ -10,7 +10,6 @@ use Rattle.fkv_plane.specs.declared.places.Places.{Places}
 use Rattle.fkv_plane.specs.Asked.{reply_to}
 use Rattle.law_world.specs.Below.fkv_log.ReserveAnswer.{ReserveAnswer}
 use Rattle.law_world.specs.Below.fkv_log.ReserveAnswer.TheVariants.{Reserved}
-use Rattle.fkv_index.specs.declared.finding.Found.{Found}
 use Rattle.law_world.specs.Below.fkv_ops.TryAnswer.{TryAnswer}
 use Rattle.law_world.specs.Below.fkv_ops.TryAnswer.TheVariants as answer
 use Rattle.law_world.specs.Below.fkv_ops.TheAppending.{Appending}

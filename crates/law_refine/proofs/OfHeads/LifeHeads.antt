@@ -253,7 +253,7 @@ found_head entry head Full leads found = tt
 found_head entry head Kept leads found = tt
 found_head entry head Contended leads found = tt
 
-answered_head : (entry head : ℕ) (ask : Ask FindAnswer) → entry_addr entry ≡ head → IsEntryAnswered entry ask → IsHeadAnswered head ask
+pub answered_head : (entry head : ℕ) (ask : Ask FindAnswer) → entry_addr entry ≡ head → IsEntryAnswered entry ask → IsHeadAnswered head ask
 answered_head entry head (Done its) leads found = found_head entry head its.found leads found
 answered_head entry head ask leads found = tt
 

@@ -14,7 +14,7 @@ use Rattle.law_world.specs.Below.fkv_maintain.MaintainRun.{MaintainEvent, mainta
 use Rattle.law_world.specs.Below.fkv_maintain.Maintaining.{MaintainState, maintain_ask, maintain_next, maintain_given, maintain_called}
 use Rattle.law_world.specs.Below.fkv_keeper.KeeperTold.TheVariants.{TurnRefused, CommitRefused}
 use Rattle.law_world.specs.Below.fkv_keeper.TheKeeping.{Keeping}
-use Rattle.law_world.specs.Below.fkv_keeper.TheKeeping.TheVariants.{Ended, Starts, Maintains, LoadsPhase, Enters, Copies, Seeks, Waits, Writes, Finishes}
+use Rattle.law_world.specs.Below.fkv_keeper.TheKeeping.TheVariants.{Ended, Starts, Maintains, LoadsPhase, Enters, Copies, Seeks, Waits, Writes, Finishes, Sweeps}
 use Rattle.law_world.specs.Below.fkv_keeper.CheckpointLaws.{MayFollow, MayStep}
 use Rattle.law_world.specs.Below.fkv_keeper.KeeperRun.{KeeperEvent, BeginsTurn, BeginsCommit, Replies, Gets, Calls, is_in_hand, begins, keeper_happens}
 use Rattle.law_world.specs.Below.fkv_keeper.Keeping.{KeeperState, ended, commit_asked, parts_begun, serves_alone, turn_asked, maintain_ledto, keeping_next, keeping_given, keeping_called, asked_for}
@@ -65,6 +65,7 @@ module _ (Q : MaintainState → Type 0) where
   follows_with a Waits Maintains other follows = absurd follows
   follows_with a Writes Maintains other follows = absurd follows
   follows_with a Finishes Maintains other follows = absurd follows
+  follows_with a Sweeps Maintains other follows = absurd follows
   follows_with a step next other follows = tt
 
   else_with : (shape : Shape) (p : Places) (s : KeeperState) (event : KeeperEvent) (step : Keeping) → s.step ≡ step → IsElse step → IsInTurn Q (keeper_happens shape p s event)
@@ -119,6 +120,7 @@ module _ (Q : MaintainState → Type 0) where
   from_step shape p s event Waits at was begun goes = else_with shape p s event Waits at tt
   from_step shape p s event Writes at was begun goes = else_with shape p s event Writes at tt
   from_step shape p s event Finishes at was begun goes = else_with shape p s event Finishes at tt
+  from_step shape p s event Sweeps at was begun goes = else_with shape p s event Sweeps at tt
 
   -- each event
   pub happens_with : (shape : Shape) (p : Places) (s : KeeperState) (event : KeeperEvent) → IsInTurn Q s → Q (parts_begun (serves_alone s) s.maintain) → GoesWith shape p s → IsInTurn Q (keeper_happens shape p s event)

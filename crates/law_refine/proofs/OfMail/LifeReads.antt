@@ -11,6 +11,7 @@ use Rattle.fkv_plane.specs.declared.asks.Ask.TheVariants.{Load, Store, Swap, Cas
 use Rattle.law_world.specs.Below.fkv_flush.TheServing.{Serving}
 use Rattle.law_world.specs.Below.fkv_flush.TheServing.TheVariants as serve
 use Rattle.law_world.specs.Below.fkv_flush.Serving.{mail_place}
+use Rattle.law_world.specs.Below.fkv_keeper.KeeperAsks.{keeping_read}
 use Rattle.law_world.specs.Below.fkv_keeper.KeeperRun.{is_in_hand}
 use Rattle.law_world.specs.Below.fkv_keeper.Keeping.{KeeperState, keeper_ask}
 use Rattle.law_world.specs.Below.fkv_pending.MailRecord.{MailRecord}
@@ -148,9 +149,11 @@ module _ (opening : World) (session : ℕ) (opened : IsOpened opening.now sessio
 
   -- what the device gives
   given_there : (v : World) (number addr : ℕ) → is_at_serve v.now.keeper v.now.keeper.step ≡ true → serving_of v.now.keeper ≡ serve.Reads number addr → record_read (read_by_keeper v) ≡ record_there v addr
-  unfolding mail_place
+  unfolding mail_place keeping_read
   given_there v number addr last at =
-      ap (λ (x : Serving). record_read (bytes_at (reads_as v.past.opened v.past.calls) (mail_place v.now.shape x) 24)) (ap (λ (x : KeeperState). x.maintain.serving) (is_at v.now.keeper last) ∙ at)
+      let bytes : List ℕ = reads_as v.past.opened v.past.calls in
+      ap (λ (x : KeeperState). record_read (keeping_read (record { shape = v.now.shape; places = v.now.places; state = x }) x.step bytes)) (is_at v.now.keeper last)
+      ∙ ap (λ (x : Serving). record_read (bytes_at bytes (mail_place v.now.shape x) 24)) at
 
   read_now : (granted done : Bool) (before : List Event) (number addr : ℕ) → is_at_serve (run opening before).now.keeper (run opening before).now.keeper.step ≡ true → serving_of (run opening before).now.keeper ≡ serve.Reads number addr → number ≡ session
       → (seen_by_mailbox opening session before).keeping ≡ Reads (record { 0 = addr }) → ReadAt (KeeperMoves granted done ∷ before) (mapped opening session before)

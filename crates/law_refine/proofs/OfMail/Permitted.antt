@@ -5,7 +5,7 @@ use Rattle.std.specs.Prelude.{Option, Some, None, slice_get}
 use Rattle.fkv_base.specs.declared.shapes.Shape.{Shape}
 use Rattle.fkv_plane.specs.declared.places.Places.{Places}
 use Rattle.law_world.specs.Below.fkv_keeper.TheKeeping.{Keeping}
-use Rattle.law_world.specs.Below.fkv_keeper.TheKeeping.TheVariants.{Ended, Starts, Maintains, LoadsPhase, Enters, Copies, Seeks, Waits, Writes, Finishes}
+use Rattle.law_world.specs.Below.fkv_keeper.TheKeeping.TheVariants.{Ended, Starts, Maintains, LoadsPhase, Enters, Copies, Seeks, Waits, Writes, Finishes, Sweeps}
 use Rattle.law_world.specs.Below.fkv_keeper.KeeperRun.{IsOpened as IsKeeperOpened, is_in_hand, keeper_run}
 use Rattle.law_world.specs.Below.fkv_keeper.Keeping.{KeeperState, keeper_ask}
 use Rattle.law_world.proofs.Below.fkv_keeper.Shown.{IsSound, run_sound}
@@ -76,6 +76,7 @@ refused shape failed s w number sound broken = by_step s.step refl
     by_step Waits at = absurd ((never Waits at).broken broken)
     by_step Writes at = absurd ((never Writes at).broken broken)
     by_step Finishes at = absurd ((never Finishes at).broken broken)
+    by_step Sweeps at = absurd ((never Sweeps at).broken broken)
 
 pub broken_rests : (opening : World) (events : List Event) → IsKeeperOpened opening.now.keeper → (run opening events).now.keeper.is_broken ≡ true → is_in_hand (run opening events).now.keeper.step ≡ false
 broken_rests opening events opened broken =

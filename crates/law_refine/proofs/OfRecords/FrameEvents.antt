@@ -23,7 +23,7 @@ use Rattle.fkv_index.specs.declared.publishing.Publishing.{Publishing}
 use Rattle.fkv_index.specs.declared.publishing.Publishing.TheVariants.{AtRest, SwapsEntry}
 use Rattle.law_world.specs.Below.fkv_flush.GuardAsks.{writes}
 use Rattle.law_world.specs.Below.fkv_flush.GuardSeen.{LastSeen}
-use Rattle.law_world.specs.Below.fkv_flush.GuardWorld.{Actor, Work, Fills, Invalidates, GuardTask, GuardWorld, GuardEvent, Begins, Resumes, Moves, Publishes, Shifts, is_idle, shift_rests, turn_rests}
+use Rattle.law_world.specs.Below.fkv_flush.GuardWorld.{Actor, Work, Fills, Invalidates, GuardWorld, GuardEvent, Moves, Publishes, Shifts, is_idle, shift_rests, turn_rests}
 use Rattle.law_world.specs.Below.fkv_flush.GuardWorld as guard
 use Rattle.law_world.specs.Below.fkv_flush.Guarded.{event_writes}
 use Rattle.law_world.proofs.Below.fkv_flush.Shown.{IsSound, FitsWork}

@@ -56,7 +56,7 @@ use Rattle.law_world.specs.Below.fkv_session.CatchingUp.{catch_ask, refresh_begu
 use Rattle.law_world.specs.Below.fkv_session.OwnTurns.{own_turn_ask, own_turn_begun, own_turn_given}
 use Rattle.law_world.specs.Below.fkv_session.Sessions.{SessionState, Seat, bits_of, room_of, is_busy, sitting_ask, session_ask, answers, refuses, answers_after_turn, request_in_hand, attempts, polls_request, polls_at, refusal_of, op_begun, refresh_call, poll_begun, poll_call, sleep_call, wake_call, call_begun, session_begun, attempt_left, poll_left, serial_taken, update_done, is_no_room, with_request, ticket_after, accepts, shifts, attempted, attempt_ledto, catch_ledto, clear_ledto, is_finished, is_owed, request_finished, finishes_request, lacks_room, keeps_request, poll_ledto, turn_ledto, leave_ledto, attempt_moved, caught, own_turn_moved, sitting_next, is_word_ask, asks_after, session_next, sitting_given}
 use Rattle.law_local.specs.Sessions.Known.{is_attempting, attempt_after, catch_after, caught_up_at, with_op, KeepsKnown}
-use Rattle.law_local.proofs.OfSessions.Known.{begun_known, given_known, opened_known, next_known}
+use Rattle.law_local.proofs.OfSessions.Known.{begun_known, given_known, opened_known, next_known, stays_known}
 use Rattle.law_world.specs.Below.fkv_world.Actors.{is_of_session, session_goes}
 use Rattle.law_world.specs.Below.fkv_world.Moves.{Near, session_gets, session_settled, session_replied, session_asks}
 use Rattle.law_world.specs.Below.fkv_world.Runs.{World, happens, run}
@@ -444,3 +444,13 @@ module _ (begin : ℕ) where
   unfolding run
   floors_lie opening [] opens tells = opened_has opening.now opens
   floors_lie opening (event ∷ before) opens tells = floors_stay opening before event tells.0 (floors_lie opening before opens tells.1)
+
+-- ---- where the begin has risen, they lie below it as well
+pub floors_rise : (begin later : ℕ) (n : Now) → begin ≤ later → HaveFloorsUpto begin n → HaveFloorsUpto later n
+floors_rise begin later n on have session s there =
+    let its = have session s there in
+    let own = its.own in
+    record {
+      own = omega (arith, own, on);
+      theirs = stays_known (GoesUpto begin) (GoesUpto later) (TriesUpto begin) (TriesUpto later) s (λ pending low. omega (arith, low, on)) (λ attempts low. omega (arith, low, on)) its.theirs;
+    }

@@ -1,5 +1,5 @@
 -- What a session takes from its mailbox, and what was given for it.
-use Rattle.std.specs.Prelude.{◌≡◌, ◌⊎◌, ◌<◌, ℕ, false, true, List, ◌∷◌, ◌++◌, slice_get, Some}
+use Rattle.std.specs.Prelude.{◌≡◌, ◌⊎◌, ◌<◌, ◌≤◌, ℕ, false, true, List, ◌∷◌, ◌++◌, slice_get, Some}
 use Rattle.fkv_base.specs.declared.numbers.Addr.{Addr}
 use Rattle.fkv_record.specs.Places.{record_place}
 use Rattle.fkv_disk.specs.Bytes.{bytes_at}
@@ -77,17 +77,19 @@ abbrev pub TakesWhatWasRead : Type 0
 TakesWhatWasRead = (opening : World) (session : ℕ) (events : List Event) (its : MailRecord) → IsOpened opening.now session → (run opening events).now.crashed ≡ false
     → IsTaking (run opening events).now session its → HasTakenRead opening session events its
 
--- That a record is gone is told by the log's begin, above the address that was asked for.
-pub record TellsBegin (begin : ℕ) (addr : Addr) (its : MailRecord) : Type 0 where
+-- That a record is gone is told by a begin of the log, above the address that was asked for. It is no lower than where the log began at first, and no higher than
+-- where it begins now.
+pub record TellsBegin (first begin : ℕ) (addr : Addr) (its : MailRecord) : Type 0 where
   pub gone : is_gone its ≡ true
-  pub key : its.key.0 ≡ begin
-  pub above : addr.0 < begin
+  pub from : first ≤ its.key.0
+  pub key : its.key.0 ≤ begin
+  pub above : addr.0 < its.key.0
 
--- Over a life that is the begin of the opening.
+-- Over a life these are the begins of the newest finished commits, of the opening and of now.
 abbrev pub GoneTellsBegin : Type 0
 GoneTellsBegin =
     (opening : World) (session : ℕ) (events : List Event) (addr : Addr) (its : MailRecord) (asked : List MailNote) → IsOpenedWorld opening
-    → GoneSince opening session events addr its asked → TellsBegin opening.now.keeper.last.begin.0 addr its
+    → GoneSince opening session events addr its asked → TellsBegin opening.now.keeper.last.begin.0 (run opening events).now.keeper.last.begin.0 addr its
 
 -- What an event does to the mailbox: its session alone leaves the states empty and ready, and the keeper alone the one between.
 abbrev pub ChangesBy : ℕ → Event → Mailbox → Mailbox → Type 0

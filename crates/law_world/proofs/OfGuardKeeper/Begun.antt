@@ -13,6 +13,7 @@ use Rattle.fkv_flush.specs.Serving.{mailbox_from}
 use Rattle.fkv_flush.specs.GuardWorld.{Actor, Rests, Serves, GuardNow, Begins, ToDo, ToServe}
 use Rattle.fkv_flush.proofs.Shown.{Fits}
 use Rattle.fkv_keeper.specs.Keeping.{KeeperState, commit_asked, turn_asked, serves_alone}
+use Rattle.law_world.specs.GuardKeeper.KeeperShown.{OfStore}
 use Rattle.law_world.specs.GuardKeeper.Followed.{KeeperLed, likeness}
 use Rattle.law_world.specs.GuardKeeper.KeeperEvents.{turn_task}
 use Rattle.law_world.proofs.OfGuardKeeper.Led.{then_begins}
@@ -24,7 +25,7 @@ unfolding mailbox_from
 first_loads shape = rw (lt-ltb 0 shape.sessions shape.limits.some_session) refl
 
 -- where writes rest a turn serves
-serves_begins : (n : GuardNow) (a : ℕ) (x : Actor) (seen : LastSeen) (s : KeeperState) → slice_get n.actors a ≡ Some x → Fits (likeness seen None None) x → s.finish.sessions ≡ n.places.sessions → s.is_broken ≡ false → serves_alone s ≡ true
+serves_begins : (n : GuardNow) (a : ℕ) (x : Actor) (seen : LastSeen) (s : KeeperState) → slice_get n.actors a ≡ Some x → Fits (likeness seen None None) x → OfStore n.places s → s.is_broken ≡ false → serves_alone s ≡ true
     → KeeperLed n a (Begins a (ToServe s.maintain.begin.0) ∷ []) seen (turn_asked s) n.words n.actions
 serves_begins n a x seen s got fits same works rests = rw (works, rests) (record {
   follows = record {
@@ -32,11 +33,11 @@ serves_begins n a x seen s got fits same works rests = rw (works, rests) (record
     same = then_begins n a x x [] n.words n.actions (ToServe s.maintain.begin.0) got (stays n a x got) fits.machine fits.work refl;
     fits = record { machine = fits.machine; work = ap (λ (first : Serving). Serves s.maintain.begin.0 first) (first_loads n.shape); seen = fits.seen; undecided = fits.undecided };
   };
-  knows = record { sessions = same; its = refl };
+  knows = record { sessions = same.0; loads = same.1; its = refl };
 })
 
 -- and else it scans first
-scans_begins : (n : GuardNow) (a : ℕ) (x : Actor) (seen : LastSeen) (s : KeeperState) → slice_get n.actors a ≡ Some x → Fits (likeness seen None None) x → s.finish.sessions ≡ n.places.sessions → s.is_broken ≡ false → serves_alone s ≡ false
+scans_begins : (n : GuardNow) (a : ℕ) (x : Actor) (seen : LastSeen) (s : KeeperState) → slice_get n.actors a ≡ Some x → Fits (likeness seen None None) x → OfStore n.places s → s.is_broken ≡ false → serves_alone s ≡ false
     → KeeperLed n a (Begins a (ToDo ToScan) ∷ []) seen (turn_asked s) n.words n.actions
 scans_begins n a x seen s got fits same works awake = rw (works, awake) (record {
   follows = record {
@@ -44,10 +45,10 @@ scans_begins n a x seen s got fits same works awake = rw (works, awake) (record 
     same = then_begins n a x x [] n.words n.actions (ToDo ToScan) got (stays n a x got) fits.machine fits.work refl;
     fits = record { machine = refl; work = refl; seen = fits.seen; undecided = fits.undecided };
   };
-  knows = record { sessions = same; its = refl };
+  knows = record { sessions = same.0; loads = same.1; its = refl };
 })
 
-pub turn_begins : (n : GuardNow) (a : ℕ) (x : Actor) (seen : LastSeen) (s : KeeperState) → slice_get n.actors a ≡ Some x → Fits (likeness seen None None) x → s.finish.sessions ≡ n.places.sessions → s.is_broken ≡ false
+pub turn_begins : (n : GuardNow) (a : ℕ) (x : Actor) (seen : LastSeen) (s : KeeperState) → slice_get n.actors a ≡ Some x → Fits (likeness seen None None) x → OfStore n.places s → s.is_broken ≡ false
     → KeeperLed n a (Begins a (turn_task s.maintain.begin.0 (serves_alone s)) ∷ []) seen (turn_asked s) n.words n.actions
 turn_begins n a x seen s got fits same works = by (serves_alone s) refl
   where
@@ -56,17 +57,17 @@ turn_begins n a x seen s got fits same works = by (serves_alone s) refl
     by false awake = scans_begins n a x seen s got fits same works awake
 
 -- a device that has failed is never used again
-pub turn_refused : (n : GuardNow) (a : ℕ) (x : Actor) (seen : LastSeen) (s : KeeperState) → slice_get n.actors a ≡ Some x → Fits (likeness seen None None) x → s.finish.sessions ≡ n.places.sessions → s.is_broken ≡ true
+pub turn_refused : (n : GuardNow) (a : ℕ) (x : Actor) (seen : LastSeen) (s : KeeperState) → slice_get n.actors a ≡ Some x → Fits (likeness seen None None) x → OfStore n.places s → s.is_broken ≡ true
     → KeeperLed n a [] seen (turn_asked s) n.words n.actions
-turn_refused n a x seen s got fits same broken = rw broken (record { follows = record { actor = x; same = stays n a x got; fits = fits }; knows = record { sessions = same; its = tt } })
+turn_refused n a x seen s got fits same broken = rw broken (record { follows = record { actor = x; same = stays n a x got; fits = fits }; knows = record { sessions = same.0; loads = same.1; its = tt } })
 
 -- a commit loads the phase first, or is refused
-commit_at : (b rests : Bool) (n : GuardNow) (a : ℕ) (x : Actor) (seen : LastSeen) (s : KeeperState) (kind : CommitKind) → s.is_broken ≡ b → s.rests ≡ rests → slice_get n.actors a ≡ Some x → Fits (likeness seen None None) x → s.finish.sessions ≡ n.places.sessions
+commit_at : (b rests : Bool) (n : GuardNow) (a : ℕ) (x : Actor) (seen : LastSeen) (s : KeeperState) (kind : CommitKind) → s.is_broken ≡ b → s.rests ≡ rests → slice_get n.actors a ≡ Some x → Fits (likeness seen None None) x → OfStore n.places s
     → KeeperLed n a [] seen (commit_asked s kind) n.words n.actions
-commit_at true rests n a x seen s kind e at got fits same = rw e (record { follows = record { actor = x; same = stays n a x got; fits = fits }; knows = record { sessions = same; its = tt } })
-commit_at false true n a x seen s kind e at got fits same = rw (e, at) (record { follows = record { actor = x; same = stays n a x got; fits = fits }; knows = record { sessions = same; its = tt } })
-commit_at false false n a x seen s kind e at got fits same = rw (e, at) (record { follows = record { actor = x; same = stays n a x got; fits = fits }; knows = record { sessions = same; its = tt } })
+commit_at true rests n a x seen s kind e at got fits same = rw e (record { follows = record { actor = x; same = stays n a x got; fits = fits }; knows = record { sessions = same.0; loads = same.1; its = tt } })
+commit_at false true n a x seen s kind e at got fits same = rw (e, at) (record { follows = record { actor = x; same = stays n a x got; fits = fits }; knows = record { sessions = same.0; loads = same.1; its = tt } })
+commit_at false false n a x seen s kind e at got fits same = rw (e, at) (record { follows = record { actor = x; same = stays n a x got; fits = fits }; knows = record { sessions = same.0; loads = same.1; its = tt } })
 
-pub commit_begins : (n : GuardNow) (a : ℕ) (x : Actor) (seen : LastSeen) (s : KeeperState) (kind : CommitKind) → slice_get n.actors a ≡ Some x → Fits (likeness seen None None) x → s.finish.sessions ≡ n.places.sessions
+pub commit_begins : (n : GuardNow) (a : ℕ) (x : Actor) (seen : LastSeen) (s : KeeperState) (kind : CommitKind) → slice_get n.actors a ≡ Some x → Fits (likeness seen None None) x → OfStore n.places s
     → KeeperLed n a [] seen (commit_asked s kind) n.words n.actions
 commit_begins n a x seen s kind got fits same = commit_at s.is_broken s.rests n a x seen s kind refl refl got fits same

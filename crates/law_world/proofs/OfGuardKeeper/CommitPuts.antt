@@ -1,5 +1,5 @@
 -- Where a part of a commit gives an action to a slot, this is empty: the epoch was raised for it.
-use Rattle.std.proofs.Common.{◌≡◌, ℕ, ◌∙◌, inl, inr, refl, ap, subst, false, List, [], ◌∷◌, ◌++◌, max}
+use Rattle.std.proofs.Common.{◌≡◌, ℕ, ◌∙◌, inl, inr, refl, ap, subst, false, List, max}
 use Rattle.std.specs.Prelude.{not, Option, Some, slice_get, length, nat_lt, nat_le, ◌==◌, ◌+◌}
 use Rattle.fkv_base.specs.declared.phases.Phase.TheVariants.{Rest, InProgress, WaitPending}
 use Rattle.fkv_base.specs.declared.numbers.Addr.{Addr}

@@ -16,6 +16,7 @@ use Rattle.fkv_flush.proofs.Shown.{Follows}
 use Rattle.fkv_keeper.specs.declared.keepers.Keeping.TheVariants as keeping
 use Rattle.fkv_keeper.specs.Keeping.{KeeperState, keeping_ask, keeping_next, keeping_given, enter_ledto, turn_over}
 use Rattle.fkv_world.specs.Moves.{keeper_gets}
+use Rattle.law_world.specs.GuardKeeper.KeeperShown.{OfStore}
 use Rattle.law_world.specs.GuardKeeper.Settled.{settled, actions_settled, is_of_slot, takes_none}
 use Rattle.law_world.proofs.OfGuardKeeper.Ends.{enter_over}
 use Rattle.law_world.specs.GuardKeeper.Followed.{KeeperLed, likeness}
@@ -32,21 +33,21 @@ enter_ends : (n : GuardNow) (a : ℕ) (seen : LastSeen) (events : List GuardEven
 enter_ends n a seen events t words actions its e led = rest_follows n a events seen (enter_machine t) None words actions (enter_over (levels_of words) t t.step its led.knows e) refl led.follows
 
 -- by what it asks next
-enter_shows : (n : GuardNow) (a : ℕ) (seen : LastSeen) (events : List GuardEvent) (s : KeeperState) (t : EnterState) (words : List ℕ) (actions : List (Option Action)) (ask : Ask EnterAnswer) → s.finish.sessions ≡ n.places.sessions → enter_ask t ≡ ask
+enter_shows : (n : GuardNow) (a : ℕ) (seen : LastSeen) (events : List GuardEvent) (s : KeeperState) (t : EnterState) (words : List ℕ) (actions : List (Option Action)) (ask : Ask EnterAnswer) → OfStore n.places s → enter_ask t ≡ ask
     → PartLed n a events seen enter_machine (EnterKnown words) t words actions → KeeperLed n a events seen (enter_ledto (in_enter s t) ask) words actions
 unfolding enter_ledto
-enter_shows n a seen events s t words actions (Done answer.Entered) same e led = record { follows = enter_ends n a seen events t words actions answer.Entered e led; knows = record { sessions = same; its = tt } }
-enter_shows n a seen events s t words actions (Done answer.DrainFull) same e led = record { follows = enter_ends n a seen events t words actions answer.DrainFull e led; knows = record { sessions = same; its = tt } }
-enter_shows n a seen events s t words actions (Done answer.EpochsSpent) same e led = record { follows = enter_ends n a seen events t words actions answer.EpochsSpent e led; knows = record { sessions = same; its = tt } }
-enter_shows n a seen events s t words actions (Done answer.Idle) same e led = record { follows = enter_ends n a seen events t words actions answer.Idle e led; knows = record { sessions = same; its = tt } }
-enter_shows n a seen events s t words actions ask same e led = record { follows = led.follows; knows = record { sessions = same; its = led.knows } }
+enter_shows n a seen events s t words actions (Done answer.Entered) same e led = record { follows = enter_ends n a seen events t words actions answer.Entered e led; knows = record { sessions = same.0; loads = same.1; its = tt } }
+enter_shows n a seen events s t words actions (Done answer.DrainFull) same e led = record { follows = enter_ends n a seen events t words actions answer.DrainFull e led; knows = record { sessions = same.0; loads = same.1; its = tt } }
+enter_shows n a seen events s t words actions (Done answer.EpochsSpent) same e led = record { follows = enter_ends n a seen events t words actions answer.EpochsSpent e led; knows = record { sessions = same.0; loads = same.1; its = tt } }
+enter_shows n a seen events s t words actions (Done answer.Idle) same e led = record { follows = enter_ends n a seen events t words actions answer.Idle e led; knows = record { sessions = same.0; loads = same.1; its = tt } }
+enter_shows n a seen events s t words actions ask same e led = record { follows = led.follows; knows = record { sessions = same.0; loads = same.1; its = led.knows } }
 
 enter_gets : (n : GuardNow) (s : KeeperState) (t : EnterState) (found : Option Action) → keeper_gets n.shape n.places (in_enter s t) found ≡ in_enter s t
 unfolding keeping_given
 enter_gets n s t None = refl
 enter_gets n s t (Some action) = refl
 
-pub enter_kept : (n : GuardNow) (a : ℕ) (seen : LastSeen) (events : List GuardEvent) (s : KeeperState) (granted : Bool) (t : EnterState) (words : List ℕ) (ask : Ask EnterAnswer) → s.finish.sessions ≡ n.places.sessions → enter_ask t ≡ ask
+pub enter_kept : (n : GuardNow) (a : ℕ) (seen : LastSeen) (events : List GuardEvent) (s : KeeperState) (granted : Bool) (t : EnterState) (words : List ℕ) (ask : Ask EnterAnswer) → OfStore n.places s → enter_ask t ≡ ask
     → PartLed n a events seen enter_machine (EnterKnown words) (settled enter_next takes_none n.actions t ask) words (actions_settled n.actions ask)
     → StepLed n a events seen granted (enter_ledto (in_enter s t) ask) words
 unfolding enter_ledto keeping_ask keeping_next passed

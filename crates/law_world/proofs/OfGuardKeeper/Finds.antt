@@ -36,8 +36,9 @@ use Rattle.fkv_maintain.specs.Maintaining.{MaintainState, maintain_ask, maintain
 use Rattle.fkv_keeper.specs.declared.answers.KeeperTold.{KeeperTold}
 use Rattle.fkv_keeper.specs.declared.keepers.Keeping.{Keeping}
 use Rattle.fkv_keeper.specs.declared.keepers.Keeping.TheVariants as keeping
-use Rattle.fkv_keeper.specs.Keeping.{KeeperState, copy_driven, copy_ledto, device_passed, enter_ledto, finish_ledto, finished, keeper_ask, keeper_next, keeping_ask, keeping_next, maintain_ledto, phase_ledto, seek_ledto, start_ledto, turn_over, wait_ledto, copy_told}
+use Rattle.fkv_keeper.specs.Keeping.{KeeperState, copy_driven, copy_ledto, device_passed, enter_ledto, finish_ledto, finished, keeper_ask, keeper_next, keeping_ask, keeping_next, maintain_ledto, phase_ledto, seek_ledto, start_ledto, sweep_ledto, turn_over, wait_ledto, copy_told}
 use Rattle.fkv_commit.specs.Waiting.{wait_ask, wait_next}
+use Rattle.fkv_sweep.specs.Sweeping.{sweep_ask, sweep_next}
 use Rattle.fkv_words.specs.PhaseWords.{phase_said}
 use Rattle.fkv_world.specs.Actors.{slot_asked}
 use Rattle.fkv_world.specs.Moves.{keeper_gets}
@@ -47,7 +48,7 @@ use Rattle.law_world.specs.GuardKeeper.MaintainShown.{maintaining_machine}
 use Rattle.law_world.specs.GuardKeeper.Settled.{is_of_slot}
 use Rattle.law_world.proofs.OfGuardKeeper.HandsOver.{taken_asks, takes_up, truth}
 use Rattle.law_world.proofs.OfGuardKeeper.CommitPuts.{start_puts, enter_puts, seek_puts}
-use Rattle.law_world.proofs.OfGuardKeeper.EndKept.{copy_quiet, wait_quiet, finish_quiet, finish_slot}
+use Rattle.law_world.proofs.OfGuardKeeper.EndKept.{copy_quiet, wait_quiet, finish_quiet, finish_slot, sweep_replied_quiet}
 use Rattle.law_world.proofs.OfGuardKeeper.KeeperLed.{keeper_settles}
 use Rattle.law_world.proofs.OfGuardKeeper.Kept.{replied_to, turn_step}
 use Rattle.law_world.proofs.OfGuardSessions.Movers.{clash}
@@ -181,6 +182,9 @@ puts_at w a x seen s keeping.Writes reply granted sound got fits k same slot e =
 puts_at w a x seen s keeping.Finishes reply granted sound got fits k same slot e =
     let t : FinishState = finish_next s.finish reply in
     puts_none w.now.actions (keeper_ask w.now.shape w.now.places (finish_ledto (record s { finish = t; step = keeping.Finishes }) (finish_ask s.seek.points t))) (finish_off w.now.actions w.now.shape w.now.places s t (finish_ask s.seek.points t)) slot e
+puts_at w a x seen s keeping.Sweeps reply granted sound got fits k same slot e =
+    let there : KeeperState = sweep_ledto (record s { sweep = sweep_next s.sweep reply; step = keeping.Sweeps }) (sweep_ask (sweep_next s.sweep reply)) in
+    puts_none w.now.actions (keeper_ask w.now.shape w.now.places there) (quiet_slot w.now.shape w.now.places there (sweep_replied_quiet s reply).quiet) slot e
 
 -- where the keeper's ask leads, before what goes with it
 abbrev pub keeper_after_reply : GuardWorld → Bool → KeeperState → KeeperState

@@ -51,6 +51,9 @@ use Rattle.fkv_commit.specs.Finishing.{finish_ask, finish_next}
 use Rattle.fkv_commit.specs.Seeking.{seek_ask, seek_next}
 use Rattle.fkv_commit.specs.Starting.{start_ask, start_next}
 use Rattle.fkv_commit.specs.Waiting.{wait_ask, wait_next}
+use Rattle.fkv_sweep.specs.declared.sweeping.SweepAnswer.{SweepAnswer}
+use Rattle.fkv_sweep.specs.declared.sweeping.SweepAnswer.TheVariants as swept
+use Rattle.fkv_sweep.specs.Sweeping.{is_sweeping, sweep_ask, sweep_next, sweep_read}
 use Rattle.fkv_manifest.specs.declared.answers.WriteAnswer.{WriteAnswer}
 use Rattle.fkv_manifest.specs.declared.answers.WriteAnswer.TheVariants as write
 use Rattle.fkv_manifest.specs.Committing.{commit_answer, commit_next}
@@ -58,7 +61,7 @@ use Rattle.fkv_keeper.specs.declared.answers.KeeperTold.{KeeperTold}
 use Rattle.fkv_keeper.specs.declared.answers.KeeperTold.TheVariants as told
 use Rattle.fkv_keeper.specs.declared.keepers.Keeping.{Keeping}
 use Rattle.fkv_keeper.specs.declared.keepers.Keeping.TheVariants as keeping
-use Rattle.fkv_keeper.specs.Keeping.{KeeperState, commit_asked, copies, copies_next, copy_driven, copy_ledto, copy_told, device_passed, enter_ledto, finish_ledto, finished, is_copy_resting, keeper_ask, keeper_called, keeper_next, keeping_ask, keeping_called, keeping_given, keeping_next, maintain_ledto, must_rest, part_begun, parts_begun, phase_ledto, seek_ledto, serves_alone, start_ledto, turn_asked, turn_over, turned, wait_ledto, write_ledto, writes_begun, writes_called}
+use Rattle.fkv_keeper.specs.Keeping.{KeeperState, commit_asked, copies, copies_next, copy_driven, copy_ledto, copy_told, device_passed, enter_ledto, finish_ledto, finished, is_copy_resting, keeper_ask, keeper_called, keeper_next, keeping_ask, keeping_called, keeping_given, keeping_next, maintain_ledto, must_rest, part_begun, parts_begun, phase_ledto, seek_ledto, serves_alone, start_ledto, sweep_called, sweep_ledto, turn_asked, turn_over, turned, wait_ledto, write_ledto, writes_begun, writes_called}
 use Rattle.fkv_world.specs.Moves.{Near, keeper_asks, keeper_gets, keeper_replied, keeper_settled}
 use Rattle.fkv_world.specs.World.{keeper_asked}
 use Rattle.law_world.specs.GuardKeeper.KeeperActors.{aside_work, is_aside, keeping_aside, maintaining_aside, work_by}
@@ -205,7 +208,7 @@ turn_keeps shape p s m (Done answer.Spent) e keeps = over_keeps shape p s m answ
 turn_keeps shape p s m (Done answer.Broken) e keeps = over_keeps shape p s m answer.Broken e refl keeps
 turn_keeps shape p s m ask e keeps = keeps
 
--- ---- what is no turn leaves the parts
+-- ---- what is no turn leaves the flush, and its bytes
 abbrev is_turning : Keeping → Bool
 is_turning keeping.Maintains = true
 is_turning step = false
@@ -215,8 +218,11 @@ calm_aside s keeping.Maintains calm = cc
 calm_aside s step calm = refl
 
 module _ (m : MaintainState) where
+  abbrev HasFlush : MaintainState → Type 0
+  HasFlush its = (its.flushing ≡ m.flushing) × (its.bytes ≡ m.bytes)
+
   abbrev Still : KeeperState → Type 0
-  Still s = (s.maintain ≡ m) × (is_turning s.step ≡ false)
+  Still s = HasFlush s.maintain × (is_turning s.step ≡ false)
 
   either : (c : Bool) (a b : KeeperState) → Still a → Still b → Still (if c then a else b)
   either true a b one other = one
@@ -243,7 +249,7 @@ module _ (m : MaintainState) where
 
   phase_still : (p : Places) (s : KeeperState) (found : Option Commit) (said : PhaseSaid) (granted : Bool) → Still s → Still (phase_ledto p s found said granted)
   unfolding phase_ledto
-  phase_still p s None said granted was = either (is_flush_resting s.maintain) _ _ (was.0, refl) (was.0, refl)
+  phase_still p s None said granted was = either (is_flush_resting s.maintain) _ _ (was.0, refl) (either (granted && is_sweeping s.sweep) _ _ (was.0, refl) (was.0, refl))
   phase_still p s (Some c) said granted was =
       either s.rests _ _ (either granted _ _ (was.0, refl) (was.0, refl)) (either (is_flush_resting s.maintain) _ _ (was.0, refl) (part_still p s c said granted was))
 
@@ -300,6 +306,15 @@ module _ (m : MaintainState) where
   written_still s true was = write_still (record s { writes = commit_next s.writes true }) s.commit (commit_answer (commit_next s.writes true)) was
   written_still s false was = (was.0, refl)
 
+  sweep_still : (s : KeeperState) (ask : Ask SweepAnswer) → Still s → Still (sweep_ledto s ask)
+  unfolding sweep_ledto
+  sweep_still s (Done swept.Through) was = (was.0, refl)
+  sweep_still s ask was = was
+
+  swept_still : (s : KeeperState) (done : Bool) (bytes : List ℕ) → Still s → Still (sweep_called s done bytes)
+  swept_still s true bytes was = sweep_still (record s { sweep = sweep_read s.sweep bytes }) (sweep_ask (sweep_read s.sweep bytes)) was
+  swept_still s false bytes was = (was.0, refl)
+
   reply_still : (shape : Shape) (p : Places) (s : KeeperState) (step : Keeping) (reply : ℕ) (granted : Bool) → is_turning step ≡ false → Still s → Still (keeping_next shape p s step reply granted)
   unfolding keeping_next
   reply_still shape p s (keeping.Ended its) reply granted calm was = was
@@ -312,12 +327,17 @@ module _ (m : MaintainState) where
   reply_still shape p s keeping.Waits reply granted calm was = wait_still shape (record s { wait = wait_next s.wait reply }) (wait_ask (wait_next s.wait reply)) was
   reply_still shape p s keeping.Writes reply granted calm was = was
   reply_still shape p s keeping.Finishes reply granted calm was = finish_still (record s { finish = finish_next s.finish reply }) (finish_ask s.seek.points (finish_next s.finish reply)) was
+  reply_still shape p s keeping.Sweeps reply granted calm was = sweep_still (record s { sweep = sweep_next s.sweep reply }) (sweep_ask (sweep_next s.sweep reply)) was
 
 -- so it keeps the actors
 still_keeps : (s its : KeeperState) → is_turning s.step ≡ false → Still s.maintain its → Keeps s its
 still_keeps s its calm still =
-    let same = calm_aside its its.step still.1 ∙ (ap is_flush_resting still.0 ∙ sym (calm_aside s s.step calm)) in
-    (same, ap (λ (b : Bool). work_by b its.maintain) same ∙ ap (λ (m : MaintainState). work_by (is_aside s) m) still.0)
+    let same = calm_aside its its.step still.1 ∙ (ap is_sync_due still.0.0 ∙ sym (calm_aside s s.step calm)) in (
+      same,
+      ap (λ (b : Bool). work_by b its.maintain) same
+          ∙ ap (λ (flushing : Flushing). work_by (is_aside s) (record its.maintain { flushing = flushing })) still.0.0
+          ∙ ap (λ (bytes : List ℕ). work_by (is_aside s) (record s.maintain { bytes = bytes })) still.0.1,
+    )
 
 -- ---- the keeper's step
 next_at : (shape : Shape) (p : Places) (s : KeeperState) (step : Keeping) (calm : Bool) (reply : ℕ) (granted : Bool) → is_turning step ≡ calm → takes_up s step reply ≡ false
@@ -327,7 +347,7 @@ next_at shape p s keeping.Maintains calm reply granted is plain =
     let next : MaintainState = maintain_next shape p s.maintain reply in
     turn_keeps shape p s next (maintain_ask shape p next) refl (part_next shape p s.maintain s.maintain.step reply plain)
 next_at shape p s step true reply granted is plain = cc
-next_at shape p s step false reply granted is plain = still_keeps (record s { step = step }) (keeping_next shape p (record s { step = step }) step reply granted) is (reply_still s.maintain shape p (record s { step = step }) step reply granted is (refl, is))
+next_at shape p s step false reply granted is plain = still_keeps (record s { step = step }) (keeping_next shape p (record s { step = step }) step reply granted) is (reply_still s.maintain shape p (record s { step = step }) step reply granted is ((refl, refl), is))
 
 pub next_keeps : (shape : Shape) (p : Places) (s : KeeperState) (reply : ℕ) (granted : Bool) → takes_up s s.step reply ≡ false → Keeps s (keeper_next shape p s reply granted)
 next_keeps shape p s reply granted plain = next_at shape p s s.step (is_turning s.step) reply granted refl plain
@@ -338,7 +358,9 @@ unfolding keeping_called
 called_at shape p s keeping.Maintains done bytes plain =
     let next : MaintainState = maintain_called shape p s.maintain done bytes in
     turn_keeps shape p s next (maintain_ask shape p next) refl (part_called shape p s.maintain s.maintain.step done bytes plain)
-called_at shape p s keeping.Writes done bytes plain = still_keeps (record s { step = keeping.Writes }) (writes_called (record s { step = keeping.Writes }) done) refl (written_still s.maintain (record s { step = keeping.Writes }) done (refl, refl))
+called_at shape p s keeping.Writes done bytes plain = still_keeps (record s { step = keeping.Writes }) (writes_called (record s { step = keeping.Writes }) done) refl (written_still s.maintain (record s { step = keeping.Writes }) done ((refl, refl), refl))
+called_at shape p s keeping.Sweeps done bytes plain =
+    still_keeps (record s { step = keeping.Sweeps }) (sweep_called (record s { step = keeping.Sweeps }) done bytes) refl (swept_still s.maintain (record s { step = keeping.Sweeps }) done bytes ((refl, refl), refl))
 called_at shape p s step done bytes plain = (refl, refl)
 
 called_keeps : (shape : Shape) (p : Places) (s : KeeperState) (done : Bool) (bytes : List ℕ) → lets_rest shape s s.step done ≡ false → Keeps s (keeper_called shape p s done bytes)

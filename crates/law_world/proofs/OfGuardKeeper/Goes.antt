@@ -36,6 +36,7 @@ use Rattle.fkv_keeper.specs.declared.keepers.Keeping.TheVariants as keeping
 use Rattle.fkv_keeper.specs.Keeping.{KeeperState, commit_asked, device_passed, keeper_ask, keeper_called, keeper_next, keeping_ask, keeping_called, keeping_next, maintain_ledto, turn_asked, turn_over}
 use Rattle.fkv_world.specs.Moves.{Near, keeper_asks, keeper_moved, keeper_replied, keeper_settled}
 use Rattle.fkv_world.specs.World.{keeper_asked}
+use Rattle.law_world.specs.GuardKeeper.KeeperShown.{OfStore}
 use Rattle.law_world.specs.GuardKeeper.Followed.{IsAside, IsKeepers, KeeperGoes, KeeperLed, aside_likeness, likeness, near_keeper}
 use Rattle.law_world.specs.GuardKeeper.KeeperActors.{actor_by, keeper_actor, other_actor, other_by}
 use Rattle.law_world.specs.GuardKeeper.KeeperEvents.{keeper_events_at, keeper_move_events, keeping_called_events, keeping_events, turn_asked_events}
@@ -103,7 +104,7 @@ other_suc : (k : ℕ) → k ≡ suc k → ⊥
 other_suc k e = absurd (omega (arith, e))
 
 takes_to : (n : GuardNow) (k : ℕ) (x y : Actor) (seen : LastSeen) (s : KeeperState) (end : ℕ) (next : Claiming) (words : List ℕ) → slice_get n.actors (suc k) ≡ Some x → slice_get n.actors k ≡ Some y
-    → is_idle x.work ≡ true → x.undecided ≡ None → Fits (likeness y.seen None (Some (Flushes (flush.Syncs end) s.maintain.bytes))) y → s.finish.sessions ≡ n.places.sessions → is_at_rest (Claims next) ≡ true
+    → is_idle x.work ≡ true → x.undecided ≡ None → Fits (likeness y.seen None (Some (Flushes (flush.Syncs end) s.maintain.bytes))) y → OfStore n.places s → is_at_rest (Claims next) ≡ true
     → runs_now n (Moves (suc k) ∷ []) ≡ put_near n (suc k) (near words n.actions (record x { machine = Claims next })) → TakenUp n k s end next words (Moves (suc k) ∷ [])
 takes_to n k x y seen s end next words got behind idle none fits sessions rest led =
     let other : Actor = record x { machine = Claims next } in
@@ -115,7 +116,7 @@ takes_to n k x y seen s end next words got behind idle none fits sessions rest l
       same = led ∙ ap (λ (all : List Actor). record n { words = words; actors = all }) (sym (set_same actors k y (item_spared n.actors (suc k) k other (other_suc k) ∙ behind)));
       fits = record { machine = fits.machine; work = fits.work; seen = refl; undecided = fits.undecided };
       aside = record { machine = rest; work = idle; seen = refl; undecided = none };
-      knows = record { sessions = sessions; its = refl };
+      knows = record { sessions = sessions.0; loads = sessions.1; its = refl };
     }
 
 -- by what the claims ask then
@@ -195,7 +196,7 @@ taken_goes w k x seen s end granted done read keeps aside up =
     let words : List ℕ = words_after n.words (claim_ask c) in
     let next : Claiming = claim_next c (reply_to n.words (claim_ask c)) in
     takes_by n.shape n.places n k s end next words (claim_ask next) over
-    (takes_to n k x aside.other seen s end next words keeps.got aside.got keeps.fits.work keeps.fits.undecided aside.fits keeps.knows.sessions (claim_ended next over)
+    (takes_to n k x aside.other seen s end next words keeps.got aside.got keeps.fits.work keeps.fits.undecided aside.fits (keeps.knows.sessions, keeps.knows.loads) (claim_ended next over)
     (ended_led n (suc k) x words next over (one_ask n (suc k) x (Claims c) keeps.got keeps.fits.machine keeps.fits.work refl))))) up)
 
 -- ---- a flush comes to rest
@@ -204,7 +205,7 @@ Resting n k s end bytes events =
     KeeperGoes n k events (record s { maintain = record s.maintain { bytes = bytes; flushing = flush.Syncs end; shift = shift_begun; step = maintain.Shifts }; step = keeping.Maintains }) n.words n.actions
 
 rests_to : (n : GuardNow) (k : ℕ) (x y : Actor) (s : KeeperState) (end : ℕ) (bytes : List ℕ) (done : GuardEvent) → slice_get n.actors k ≡ Some x → slice_get n.actors (suc k) ≡ Some y → is_at_rest x.machine ≡ true → x.undecided ≡ None
-    → Fits (likeness y.seen None None) y → s.finish.sessions ≡ n.places.sessions → runs_now n (done ∷ []) ≡ put_near n k (near n.words n.actions (record x { work = Flushes (flush.Syncs end) bytes }))
+    → Fits (likeness y.seen None None) y → OfStore n.places s → runs_now n (done ∷ []) ≡ put_near n k (near n.words n.actions (record x { work = Flushes (flush.Syncs end) bytes }))
     → Resting n k s end bytes (Begins (suc k) ToShift ∷ done ∷ [])
 rests_to n k x y s end bytes done got beside rest none fits sessions led =
     let other : Actor = record x { work = Flushes (flush.Syncs end) bytes } in
@@ -217,7 +218,7 @@ rests_to n k x y s end bytes done got beside rest none fits sessions led =
       same = ap (λ (v : GuardNow). guard_happens_now v (Begins (suc k) ToShift)) led ∙ begins m (suc k) y there ToShift fits.machine fits.work refl;
       fits = record { machine = fits.machine; work = refl; seen = refl; undecided = fits.undecided };
       aside = record { machine = rest; work = refl; seen = refl; undecided = none };
-      knows = record { sessions = sessions; its = refl };
+      knows = record { sessions = sessions.0; loads = sessions.1; its = refl };
     }
 
 -- by what the flush is told
@@ -231,7 +232,7 @@ due_so true b e = e
 due_so false b e = cc
 
 rests_by : (n : GuardNow) (k : ℕ) (x y : Actor) (s : KeeperState) (next : Flushing) (bytes : List ℕ) (done : GuardEvent) → is_sync_due next ≡ true → slice_get n.actors k ≡ Some x → slice_get n.actors (suc k) ≡ Some y → is_at_rest x.machine ≡ true
-    → x.undecided ≡ None → Fits (likeness y.seen None None) y → s.finish.sessions ≡ n.places.sessions → runs_now n (done ∷ []) ≡ put_near n k (near n.words n.actions (record x { work = Flushes next bytes }))
+    → x.undecided ≡ None → Fits (likeness y.seen None None) y → OfStore n.places s → runs_now n (done ∷ []) ≡ put_near n k (near n.words n.actions (record x { work = Flushes next bytes }))
     → KeeperGoes n k (flush_events (shifter k next) done (Done device.Through)) (flush_told_to n.shape n.places s bytes next (Done device.Through)) n.words n.actions
 unfolding flush_ledto maintain_ledto maintaining_ask shifting_ask passed
 rests_by n k x y s (flush.Syncs end) bytes done is got beside rest none fits sessions led = rests_to n k x y s end bytes done got beside rest none fits sessions led
@@ -270,7 +271,7 @@ rested_goes w k x seen s granted read keeps aside rests =
     let told : flush_told n.shape n.places next ≡ Done device.Through = ap (λ (b : Bool). if b then Done device.Through else flush_ask n.places next) rests in
     called_goes w k here granted true read (keeper_ask n.shape n.places here) (ap (λ (ask : Ask MaintainAnswer). device_passed ask (turn_over here)) (resting_calls n.places n.shape.page m.flushing is))
     (subst (λ (ask : Ask DeviceAnswer). KeeperGoes n k (flush_events (shifter k next) (Calls k true) ask) (flush_told_to n.shape n.places s bytes next ask) n.words n.actions) (sym told)
-    (rests_by n k x aside.other s next bytes (Calls k true) is keeps.got aside.got keeps.fits.machine keeps.fits.undecided aside.fits keeps.knows.sessions (calls n k x keeps.got m.flushing m.bytes true keeps.fits.work)))
+    (rests_by n k x aside.other s next bytes (Calls k true) is keeps.got aside.got keeps.fits.machine keeps.fits.undecided aside.fits (keeps.knows.sessions, keeps.knows.loads) (calls n k x keeps.got m.flushing m.bytes true keeps.fits.work)))
 
 -- ---- each step
 -- where a flush is taken up, the claims are under way

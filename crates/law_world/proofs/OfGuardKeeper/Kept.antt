@@ -28,17 +28,20 @@ use Rattle.fkv_manifest.specs.Committing.{commit_call, commit_answer}
 use Rattle.fkv_maintain.specs.declared.maintaining.MaintainAnswer.{MaintainAnswer}
 use Rattle.fkv_maintain.specs.declared.maintaining.MaintainAnswer.TheVariants as answer
 use Rattle.fkv_maintain.specs.Maintaining.{MaintainState, maintain_ask, maintain_next, maintain_called}
+use Rattle.fkv_sweep.specs.declared.sweeping.SweepAnswer.{SweepAnswer}
+use Rattle.fkv_sweep.specs.declared.sweeping.SweepAnswer.TheVariants as swept
+use Rattle.fkv_sweep.specs.Sweeping.{sweep_ask}
 use Rattle.fkv_keeper.specs.declared.answers.KeeperTold.{KeeperTold}
 use Rattle.fkv_keeper.specs.declared.answers.KeeperTold.TheVariants as told
 use Rattle.fkv_keeper.specs.declared.keepers.Keeping.{Keeping}
 use Rattle.fkv_keeper.specs.declared.keepers.Keeping.TheVariants as keeping
-use Rattle.fkv_keeper.specs.Keeping.{KeeperState, copy_asked, device_passed, end_told, keeping_ask, keeping_next, keeping_called, keeper_ask, keeper_next, keeper_called, turn_over, write_asked}
+use Rattle.fkv_keeper.specs.Keeping.{KeeperState, copy_asked, device_passed, end_told, keeping_ask, keeping_next, keeping_called, keeper_ask, keeper_next, keeper_called, sweep_passed, turn_over, write_asked}
 use Rattle.law_world.specs.GuardKeeper.CommitEvents.{starting_events, entering_events, seeking_events, finishing_events}
 use Rattle.law_world.specs.GuardKeeper.KeeperEvents.{keeping_events, keeping_called_events}
-use Rattle.law_world.specs.GuardKeeper.KeeperShown.{keeping_machine, keeping_work, keeper_machine, keeper_work, KeepingKnows, KeeperKnows}
+use Rattle.law_world.specs.GuardKeeper.KeeperShown.{keeping_machine, keeping_work, keeper_machine, keeper_work, KeepingKnows, KeeperKnows, OfStore}
 use Rattle.law_world.specs.GuardKeeper.MaintainEvents.{maintain_events, maintain_called_events}
 use Rattle.law_world.proofs.OfGuardKeeper.HandsOver.{lets_rest, maintain_takes_up, takes_up}
-use Rattle.law_world.proofs.OfGuardKeeper.EndKept.{copies_kept, waits_kept, finishes_kept, writes_kept}
+use Rattle.law_world.proofs.OfGuardKeeper.EndKept.{copies_kept, waits_kept, finishes_kept, sweep_called_kept, sweeps_kept, writes_kept}
 use Rattle.law_world.proofs.OfGuardKeeper.EnterKept.{enter_kept}
 use Rattle.law_world.proofs.OfGuardKeeper.Entered.{entered_to}
 use Rattle.law_world.proofs.OfGuardKeeper.Finished.{finish_known, finished_at}
@@ -62,6 +65,12 @@ turn_step P words (Done answer.Spent) its p = p
 turn_step P words (Done answer.Broken) its p = p
 turn_step P words ask its p = passed_step P words ask its p
 
+sweep_step : (P : ℕ → List ℕ → Type 0) (words : List ℕ) (ask : Ask SweepAnswer) (its : KeeperTold) → P (reply_to words ask) (words_after words ask) → P (reply_to words (sweep_passed ask its)) (words_after words (sweep_passed ask its))
+unfolding sweep_passed passed
+sweep_step P words (Done swept.Device) its p = p
+sweep_step P words (Done swept.Through) its p = p
+sweep_step P words ask its p = passed_step P words ask its p
+
 turn_under : (ask : Ask MaintainAnswer) (its : KeeperTold) → is_done (device_passed ask its) ≡ false → is_done ask ≡ false
 unfolding device_passed passed
 turn_under (Done answer.Device) its e = cc
@@ -79,7 +88,7 @@ never_under write.Written other e = cc
 never_under (write.Broken why) other e = cc
 
 replied_at : (w : GuardWorld) (a : ℕ) (x : Actor) (seen : LastSeen) (s : KeeperState) (step : Keeping) (granted : Bool) → IsSound w → slice_get w.now.actors a ≡ Some x
-    → Fits (likeness seen (keeping_machine s step) (keeping_work s step)) x → KeepingKnows (levels_of w.now.words) s step → s.finish.sessions ≡ w.now.places.sessions → is_done (keeping_ask w.now.shape w.now.places s step) ≡ false
+    → Fits (likeness seen (keeping_machine s step) (keeping_work s step)) x → KeepingKnows (levels_of w.now.words) s step → OfStore w.now.places s → is_done (keeping_ask w.now.shape w.now.places s step) ≡ false
     → takes_up s step (reply_to w.now.words (keeping_ask w.now.shape w.now.places s step)) ≡ false
     → (let n : GuardNow = w.now in let here : KeeperState = record s { step = step } in let reply : ℕ = reply_to n.words (keeper_ask n.shape n.places here) in
     StepLed n a (keeping_events a n.shape n.places s step reply granted) seen granted (keeper_next n.shape n.places here reply granted) (words_after n.words (keeper_ask n.shape n.places here)))
@@ -130,7 +139,11 @@ replied_at w a x seen s keeping.Finishes granted sound got fits k same e plain =
     let reply : ℕ = reply_to n.words ask in
     passed_step (λ reply words. StepLed n a (finishing_events a s.seek.points s.finish s.finish.step) seen granted (keeper_next n.shape n.places here reply granted) words) n.words ask (turn_over s)
     (finishes_kept n a seen (finishing_events a s.seek.points s.finish s.finish.step) s granted (finish_next s.finish reply) (words_after n.words ask) (finish_ask s.seek.points (finish_next s.finish reply)) same
-    (finish_known s.finish (finish_next s.finish reply).step s.finish.step) (finished_at n a x seen s.finish s.seek.points s.finish.step same got fits k (under ask (turn_over s) e)))
+    (finish_known s.finish (finish_next s.finish reply).step s.finish.step) (finished_at n a x seen s.finish s.seek.points s.finish.step same.0 got fits k (under ask (turn_over s) e)))
+replied_at w a x seen s keeping.Sweeps granted sound got fits k same e plain =
+    let n : GuardNow = w.now in let here : KeeperState = record s { step = keeping.Sweeps } in
+    sweep_step (λ reply words. StepLed n a [] seen granted (keeper_next n.shape n.places here reply granted) words) n.words (sweep_ask s.sweep) (turn_over s)
+    (sweeps_kept n a x seen s granted (reply_to n.words (sweep_ask s.sweep)) got fits same)
 
 -- where the reply to its ask leads, and what is settled behind it
 pub replied_to : (w : GuardWorld) (a : ℕ) (x : Actor) (seen : LastSeen) (s : KeeperState) (granted : Bool) → IsSound w → slice_get w.now.actors a ≡ Some x
@@ -138,7 +151,7 @@ pub replied_to : (w : GuardWorld) (a : ℕ) (x : Actor) (seen : LastSeen) (s : K
     → takes_up s s.step (reply_to w.now.words (keeper_ask w.now.shape w.now.places s)) ≡ false
     → (let n : GuardNow = w.now in let reply : ℕ = reply_to n.words (keeper_ask n.shape n.places s) in
     StepLed n a (keeping_events a n.shape n.places s s.step reply granted) seen granted (keeper_next n.shape n.places s reply granted) (words_after n.words (keeper_ask n.shape n.places s)))
-replied_to w a x seen s granted sound got fits knows e plain = replied_at w a x seen s s.step granted sound got fits knows.its knows.sessions e plain
+replied_to w a x seen s granted sound got fits knows e plain = replied_at w a x seen s s.step granted sound got fits knows.its (knows.sessions, knows.loads) e plain
 
 -- what a machine that calls no device is told at its end is no call
 told_so : {A : Type 0} (ask : Ask A) (its other : KeeperTold) → passed ask its ≡ Done other → its ≡ other
@@ -167,8 +180,8 @@ turn_device (Done answer.Spent) finished full e = cc
 turn_device (Done answer.Broken) finished full e = cc
 turn_device ask finished full e = cc
 
--- the turn itself and a commit's writes alone call the device
-calls_at : (shape : Shape) (p : Places) (s : KeeperState) (step : Keeping) → keeping_ask shape p s step ≡ Done told.Device → (step ≡ keeping.Maintains) ⊎ (step ≡ keeping.Writes)
+-- the turn itself, a commit's writes and a sweep alone call the device
+calls_at : (shape : Shape) (p : Places) (s : KeeperState) (step : Keeping) → keeping_ask shape p s step ≡ Done told.Device → (step ≡ keeping.Maintains) ⊎ ((step ≡ keeping.Writes) ⊎ (step ≡ keeping.Sweeps))
 unfolding keeping_ask
 calls_at shape p s (keeping.Ended its) e = ended_call its false s.is_drain_full e
 calls_at shape p s keeping.Starts e = no_begin (told_so (start_ask s.start) (told.CommitRefused fault.CommitRunning) told.Device e)
@@ -178,8 +191,9 @@ calls_at shape p s keeping.Enters e = no_call false s.is_drain_full (told_so (en
 calls_at shape p s keeping.Copies e = no_call false s.is_drain_full (told_so (copy_asked s.copy) (turn_over s) told.Device e)
 calls_at shape p s keeping.Seeks e = no_call false s.is_drain_full (told_so (seek_ask s.seek) (turn_over s) told.Device e)
 calls_at shape p s keeping.Waits e = no_call false s.is_drain_full (told_so (wait_ask s.wait) (turn_over s) told.Device e)
-calls_at shape p s keeping.Writes e = inr refl
+calls_at shape p s keeping.Writes e = inr (inl refl)
 calls_at shape p s keeping.Finishes e = no_call false s.is_drain_full (told_so (finish_ask s.seek.points s.finish) (turn_over s) told.Device e)
+calls_at shape p s keeping.Sweeps e = inr (inr refl)
 
 -- what a call of the device at this step leads to
 LedAt : GuardWorld → ℕ → LastSeen → KeeperState → Bool → List ℕ → Keeping → Type 0
@@ -189,7 +203,7 @@ LedAt w a seen s done read step =
 
 -- a call of the device in the turn itself leads where the turn goes
 maintains_called_at : (w : GuardWorld) (a : ℕ) (x : Actor) (seen : LastSeen) (s : KeeperState) (done : Bool) (read : List ℕ) → IsSound w → slice_get w.now.actors a ≡ Some x
-    → Fits (likeness seen (keeping_machine s keeping.Maintains) (keeping_work s keeping.Maintains)) x → s.finish.sessions ≡ w.now.places.sessions → keeping_ask w.now.shape w.now.places s keeping.Maintains ≡ Done told.Device
+    → Fits (likeness seen (keeping_machine s keeping.Maintains) (keeping_work s keeping.Maintains)) x → OfStore w.now.places s → keeping_ask w.now.shape w.now.places s keeping.Maintains ≡ Done told.Device
     → lets_rest w.now.shape s keeping.Maintains done ≡ false → LedAt w a seen s done read keeping.Maintains
 unfolding keeping_ask keeping_called keeping_called_events LedAt
 maintains_called_at w a x seen s done read sound got fits same e plain =
@@ -201,23 +215,30 @@ maintains_called_at w a x seen s done read sound got fits same e plain =
     (unsettled_led n a events seen there n.words (called_slot n.shape n.places s.maintain done read its) (called_to n a x seen s.maintain done read got fits its plain))
 
 writes_called_at : (w : GuardWorld) (a : ℕ) (x : Actor) (seen : LastSeen) (s : KeeperState) (done : Bool) (read : List ℕ) → slice_get w.now.actors a ≡ Some x → Fits (likeness seen (keeping_machine s keeping.Writes) (keeping_work s keeping.Writes)) x
-    → s.finish.sessions ≡ w.now.places.sessions → LedAt w a seen s done read keeping.Writes
+    → OfStore w.now.places s → LedAt w a seen s done read keeping.Writes
 unfolding keeping_called keeping_called_events LedAt
 writes_called_at w a x seen s done read got fits same = writes_kept w.now a x seen s (commit_call s.writes done) done got fits same
 
+sweeps_called_at : (w : GuardWorld) (a : ℕ) (x : Actor) (seen : LastSeen) (s : KeeperState) (done : Bool) (read : List ℕ) → slice_get w.now.actors a ≡ Some x → Fits (likeness seen (keeping_machine s keeping.Sweeps) (keeping_work s keeping.Sweeps)) x
+    → OfStore w.now.places s → LedAt w a seen s done read keeping.Sweeps
+unfolding keeping_called keeping_called_events LedAt
+sweeps_called_at w a x seen s done read got fits same = sweep_called_kept w.now a x seen s done read got fits same
+
 called_by : (w : GuardWorld) (a : ℕ) (x : Actor) (seen : LastSeen) (s : KeeperState) (step : Keeping) (done : Bool) (read : List ℕ) → IsSound w → slice_get w.now.actors a ≡ Some x
-    → Fits (likeness seen (keeping_machine s step) (keeping_work s step)) x → s.finish.sessions ≡ w.now.places.sessions → keeping_ask w.now.shape w.now.places s step ≡ Done told.Device
-    → (step ≡ keeping.Maintains) ⊎ (step ≡ keeping.Writes) → lets_rest w.now.shape s step done ≡ false → LedAt w a seen s done read step
+    → Fits (likeness seen (keeping_machine s step) (keeping_work s step)) x → OfStore w.now.places s → keeping_ask w.now.shape w.now.places s step ≡ Done told.Device
+    → (step ≡ keeping.Maintains) ⊎ ((step ≡ keeping.Writes) ⊎ (step ≡ keeping.Sweeps)) → lets_rest w.now.shape s step done ≡ false → LedAt w a seen s done read step
 called_by w a x seen s step done read sound got fits same e (inl its) plain =
     subst (LedAt w a seen s done read) (sym its) (maintains_called_at w a x seen s done read sound got
     (subst (λ (step : Keeping). Fits (likeness seen (keeping_machine s step) (keeping_work s step)) x) its fits) same (subst (λ (step : Keeping). keeping_ask w.now.shape w.now.places s step ≡ Done told.Device) its e)
     (subst (λ (step : Keeping). lets_rest w.now.shape s step done ≡ false) its plain))
-called_by w a x seen s step done read sound got fits same e (inr its) plain =
+called_by w a x seen s step done read sound got fits same e (inr (inl its)) plain =
     subst (LedAt w a seen s done read) (sym its) (writes_called_at w a x seen s done read got (subst (λ (step : Keeping). Fits (likeness seen (keeping_machine s step) (keeping_work s step)) x) its fits) same)
+called_by w a x seen s step done read sound got fits same e (inr (inr its)) plain =
+    subst (LedAt w a seen s done read) (sym its) (sweeps_called_at w a x seen s done read got (subst (λ (step : Keeping). Fits (likeness seen (keeping_machine s step) (keeping_work s step)) x) its fits) same)
 
 -- where its call of the device leads
 pub device_called_to : (w : GuardWorld) (a : ℕ) (x : Actor) (seen : LastSeen) (s : KeeperState) (done : Bool) (read : List ℕ) → IsSound w → slice_get w.now.actors a ≡ Some x
     → Fits (likeness seen (keeper_machine s) (keeper_work s)) x → KeeperKnows (levels_of w.now.words) w.now.places s → keeper_ask w.now.shape w.now.places s ≡ Done told.Device → lets_rest w.now.shape s s.step done ≡ false
     → (let n : GuardNow = w.now in KeeperLed n a (keeping_called_events a n.shape n.places s s.step done read) seen (keeper_called n.shape n.places s done read) n.words n.actions)
 unfolding LedAt
-device_called_to w a x seen s done read sound got fits knows e plain = called_by w a x seen s s.step done read sound got fits knows.sessions e (calls_at w.now.shape w.now.places s s.step e) plain
+device_called_to w a x seen s done read sound got fits knows e plain = called_by w a x seen s s.step done read sound got fits (knows.sessions, knows.loads) e (calls_at w.now.shape w.now.places s s.step e) plain

@@ -16,6 +16,7 @@ use Rattle.fkv_flush.proofs.Shown.{Follows}
 use Rattle.fkv_keeper.specs.declared.keepers.Keeping.TheVariants as keeping
 use Rattle.fkv_keeper.specs.Keeping.{KeeperState, keeping_ask, keeping_next, keeping_given, seek_ledto, turn_over}
 use Rattle.fkv_world.specs.Moves.{keeper_gets}
+use Rattle.law_world.specs.GuardKeeper.KeeperShown.{OfStore}
 use Rattle.law_world.specs.GuardKeeper.Settled.{settled, actions_settled, is_of_slot, takes_none}
 use Rattle.law_world.proofs.OfGuardKeeper.Ends.{seek_over}
 use Rattle.law_world.specs.GuardKeeper.Followed.{KeeperLed, likeness}
@@ -32,22 +33,22 @@ seek_ends : (n : GuardNow) (a : ℕ) (seen : LastSeen) (events : List GuardEvent
 seek_ends n a seen events t words actions its e led = rest_follows n a events seen (seek_machine t) None words actions (seek_over (levels_of words) t t.step its led.knows e) refl led.follows
 
 -- by what it asks next
-seek_shows : (n : GuardNow) (a : ℕ) (seen : LastSeen) (events : List GuardEvent) (s : KeeperState) (t : SeekState) (words : List ℕ) (actions : List (Option Action)) (ask : Ask SeekAnswer) → s.finish.sessions ≡ n.places.sessions → seek_ask t ≡ ask
+seek_shows : (n : GuardNow) (a : ℕ) (seen : LastSeen) (events : List GuardEvent) (s : KeeperState) (t : SeekState) (words : List ℕ) (actions : List (Option Action)) (ask : Ask SeekAnswer) → OfStore n.places s → seek_ask t ≡ ask
     → PartLed n a events seen seek_machine (SeekKnown words) t words actions → KeeperLed n a events seen (seek_ledto (in_seek s t) ask) words actions
 unfolding seek_ledto
-seek_shows n a seen events s t words actions (Done (answer.Taken end epoch)) same e led = record { follows = seek_ends n a seen events t words actions (answer.Taken end epoch) e led; knows = record { sessions = same; its = tt } }
-seek_shows n a seen events s t words actions (Done answer.DrainFull) same e led = record { follows = seek_ends n a seen events t words actions answer.DrainFull e led; knows = record { sessions = same; its = tt } }
-seek_shows n a seen events s t words actions (Done answer.EpochsSpent) same e led = record { follows = seek_ends n a seen events t words actions answer.EpochsSpent e led; knows = record { sessions = same; its = tt } }
-seek_shows n a seen events s t words actions (Done answer.Owing) same e led = record { follows = seek_ends n a seen events t words actions answer.Owing e led; knows = record { sessions = same; its = tt } }
-seek_shows n a seen events s t words actions (Done answer.Idle) same e led = record { follows = seek_ends n a seen events t words actions answer.Idle e led; knows = record { sessions = same; its = tt } }
-seek_shows n a seen events s t words actions ask same e led = record { follows = led.follows; knows = record { sessions = same; its = led.knows } }
+seek_shows n a seen events s t words actions (Done (answer.Taken end epoch)) same e led = record { follows = seek_ends n a seen events t words actions (answer.Taken end epoch) e led; knows = record { sessions = same.0; loads = same.1; its = tt } }
+seek_shows n a seen events s t words actions (Done answer.DrainFull) same e led = record { follows = seek_ends n a seen events t words actions answer.DrainFull e led; knows = record { sessions = same.0; loads = same.1; its = tt } }
+seek_shows n a seen events s t words actions (Done answer.EpochsSpent) same e led = record { follows = seek_ends n a seen events t words actions answer.EpochsSpent e led; knows = record { sessions = same.0; loads = same.1; its = tt } }
+seek_shows n a seen events s t words actions (Done answer.Owing) same e led = record { follows = seek_ends n a seen events t words actions answer.Owing e led; knows = record { sessions = same.0; loads = same.1; its = tt } }
+seek_shows n a seen events s t words actions (Done answer.Idle) same e led = record { follows = seek_ends n a seen events t words actions answer.Idle e led; knows = record { sessions = same.0; loads = same.1; its = tt } }
+seek_shows n a seen events s t words actions ask same e led = record { follows = led.follows; knows = record { sessions = same.0; loads = same.1; its = led.knows } }
 
 seek_gets : (n : GuardNow) (s : KeeperState) (t : SeekState) (found : Option Action) → keeper_gets n.shape n.places (in_seek s t) found ≡ in_seek s t
 unfolding keeping_given
 seek_gets n s t None = refl
 seek_gets n s t (Some action) = refl
 
-pub seek_kept : (n : GuardNow) (a : ℕ) (seen : LastSeen) (events : List GuardEvent) (s : KeeperState) (granted : Bool) (t : SeekState) (words : List ℕ) (ask : Ask SeekAnswer) → s.finish.sessions ≡ n.places.sessions → seek_ask t ≡ ask
+pub seek_kept : (n : GuardNow) (a : ℕ) (seen : LastSeen) (events : List GuardEvent) (s : KeeperState) (granted : Bool) (t : SeekState) (words : List ℕ) (ask : Ask SeekAnswer) → OfStore n.places s → seek_ask t ≡ ask
     → PartLed n a events seen seek_machine (SeekKnown words) (settled seek_next takes_none n.actions t ask) words (actions_settled n.actions ask)
     → StepLed n a events seen granted (seek_ledto (in_seek s t) ask) words
 unfolding seek_ledto keeping_ask keeping_next passed

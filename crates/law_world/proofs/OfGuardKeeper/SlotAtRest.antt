@@ -175,3 +175,4 @@ keeper_rest shape p l d s keeping.LoadsPhase k part = inl refl
 keeper_rest shape p l d s keeping.Copies k part = inl (quiet_slot_at shape p s keeping.Copies refl)
 keeper_rest shape p l d s keeping.Waits k part = inl (quiet_slot_at shape p s keeping.Waits refl)
 keeper_rest shape p l d s keeping.Writes k part = inl (quiet_slot_at shape p s keeping.Writes refl)
+keeper_rest shape p l d s keeping.Sweeps k part = inl (quiet_slot_at shape p s keeping.Sweeps refl)

@@ -1,5 +1,5 @@
 -- A step of a commit that seeks its points, and makes the log read-only up to its end.
-use Rattle.std.proofs.Common.{◌≡◌, ℕ, ◌≤◌, ◌<◌, List, [], ◌∷◌, ◌++◌, inl, inr, refl, ap, sym, subst, ◌∙◌, true, false, arith, max}
+use Rattle.std.proofs.Common.{◌≡◌, ℕ, ◌≤◌, ◌<◌, List, [], ◌∷◌, inl, inr, refl, ap, sym, subst, ◌∙◌, true, false, arith, max}
 use Rattle.std.specs.Prelude.{not, Option, Some, None, slice_get, slice_set, length, nat_lt, nat_le, ◌==◌, ◌+◌}
 use Rattle.std.proofs.lemmas.Bool.Decides.{nat_tests}
 use Rattle.std.proofs.lemmas.List.{set-get_or}

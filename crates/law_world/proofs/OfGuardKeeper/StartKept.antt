@@ -18,6 +18,7 @@ use Rattle.fkv_keeper.specs.declared.answers.KeeperTold.TheVariants.{CommitRefus
 use Rattle.fkv_keeper.specs.declared.keepers.Keeping.TheVariants as keeping
 use Rattle.fkv_keeper.specs.Keeping.{KeeperState, keeping_ask, keeping_next, keeping_given, start_ledto}
 use Rattle.fkv_world.specs.Moves.{keeper_gets}
+use Rattle.law_world.specs.GuardKeeper.KeeperShown.{OfStore}
 use Rattle.law_world.specs.GuardKeeper.Settled.{settled, actions_settled, is_of_slot, takes_none}
 use Rattle.law_world.proofs.OfGuardKeeper.Ends.{start_over}
 use Rattle.law_world.specs.GuardKeeper.Followed.{KeeperLed, likeness}
@@ -34,20 +35,20 @@ start_ends : (n : GuardNow) (a : ℕ) (seen : LastSeen) (events : List GuardEven
 start_ends n a seen events t words actions its e led = rest_follows n a events seen (start_machine t) None words actions (start_over (levels_of words) t t.step its led.knows e) refl led.follows
 
 -- by what it asks next
-start_shows : (n : GuardNow) (a : ℕ) (seen : LastSeen) (events : List GuardEvent) (s : KeeperState) (t : StartState) (words : List ℕ) (actions : List (Option Action)) (ask : Ask StartAnswer) → s.finish.sessions ≡ n.places.sessions → start_ask t ≡ ask
+start_shows : (n : GuardNow) (a : ℕ) (seen : LastSeen) (events : List GuardEvent) (s : KeeperState) (t : StartState) (words : List ℕ) (actions : List (Option Action)) (ask : Ask StartAnswer) → OfStore n.places s → start_ask t ≡ ask
     → PartLed n a events seen start_machine (StartKnown words) t words actions → KeeperLed n a events seen (start_ledto (in_start s t) ask) words actions
 unfolding start_ledto
-start_shows n a seen events s t words actions (Done (answer.Begun number first)) same e led = record { follows = start_ends n a seen events t words actions (answer.Begun number first) e led; knows = record { sessions = same; its = tt } }
-start_shows n a seen events s t words actions (Done (answer.Refused why)) same e led = record { follows = start_ends n a seen events t words actions (answer.Refused why) e led; knows = record { sessions = same; its = tt } }
-start_shows n a seen events s t words actions (Done answer.Idle) same e led = record { follows = start_ends n a seen events t words actions answer.Idle e led; knows = record { sessions = same; its = tt } }
-start_shows n a seen events s t words actions ask same e led = record { follows = led.follows; knows = record { sessions = same; its = led.knows } }
+start_shows n a seen events s t words actions (Done (answer.Begun number first)) same e led = record { follows = start_ends n a seen events t words actions (answer.Begun number first) e led; knows = record { sessions = same.0; loads = same.1; its = tt } }
+start_shows n a seen events s t words actions (Done (answer.Refused why)) same e led = record { follows = start_ends n a seen events t words actions (answer.Refused why) e led; knows = record { sessions = same.0; loads = same.1; its = tt } }
+start_shows n a seen events s t words actions (Done answer.Idle) same e led = record { follows = start_ends n a seen events t words actions answer.Idle e led; knows = record { sessions = same.0; loads = same.1; its = tt } }
+start_shows n a seen events s t words actions ask same e led = record { follows = led.follows; knows = record { sessions = same.0; loads = same.1; its = led.knows } }
 
 start_gets : (n : GuardNow) (s : KeeperState) (t : StartState) (found : Option Action) → keeper_gets n.shape n.places (in_start s t) found ≡ in_start s t
 unfolding keeping_given
 start_gets n s t None = refl
 start_gets n s t (Some action) = refl
 
-pub start_kept : (n : GuardNow) (a : ℕ) (seen : LastSeen) (events : List GuardEvent) (s : KeeperState) (granted : Bool) (t : StartState) (words : List ℕ) (ask : Ask StartAnswer) → s.finish.sessions ≡ n.places.sessions → start_ask t ≡ ask
+pub start_kept : (n : GuardNow) (a : ℕ) (seen : LastSeen) (events : List GuardEvent) (s : KeeperState) (granted : Bool) (t : StartState) (words : List ℕ) (ask : Ask StartAnswer) → OfStore n.places s → start_ask t ≡ ask
     → PartLed n a events seen start_machine (StartKnown words) (settled start_next takes_none n.actions t ask) words (actions_settled n.actions ask)
     → StepLed n a events seen granted (start_ledto (in_start s t) ask) words
 unfolding start_ledto keeping_ask keeping_next passed

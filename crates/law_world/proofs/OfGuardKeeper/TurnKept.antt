@@ -16,6 +16,7 @@ use Rattle.fkv_maintain.specs.declared.maintaining.MaintainAnswer.{MaintainAnswe
 use Rattle.fkv_maintain.specs.declared.maintaining.MaintainAnswer.TheVariants as answer
 use Rattle.fkv_maintain.specs.Maintaining.{MaintainState, maintain_ask, maintain_next, maintain_given}
 use Rattle.fkv_world.specs.Moves.{keeper_gets}
+use Rattle.law_world.specs.GuardKeeper.KeeperShown.{OfStore}
 use Rattle.law_world.specs.GuardKeeper.MaintainShown.{maintain_machine, maintain_work}
 use Rattle.law_world.specs.GuardKeeper.Settled.{settled, actions_settled, is_of_slot, maintain_gets}
 use Rattle.law_world.proofs.OfGuardKeeper.Ends.{IsTurnOver, follows_known, part_known, is_device, turn_over_at}
@@ -38,17 +39,17 @@ turn_ends w a x seen events m words actions its sound got led e f =
 
 -- by what the turn asks next
 pub turn_shows : (w : GuardWorld) (a : ℕ) (x : Actor) (seen : LastSeen) (events : List GuardEvent) (s : KeeperState) (m : MaintainState) (words : List ℕ) (actions : List (Option Action)) (ask : Ask MaintainAnswer) → IsSound w
-    → slice_get w.now.actors a ≡ Some x → s.finish.sessions ≡ w.now.places.sessions → maintain_ask w.now.shape w.now.places m ≡ ask → Led w.now a events seen (maintain_machine m) (maintain_work m) words actions
+    → slice_get w.now.actors a ≡ Some x → OfStore w.now.places s → maintain_ask w.now.shape w.now.places m ≡ ask → Led w.now a events seen (maintain_machine m) (maintain_work m) words actions
     → KeeperLed w.now a events seen (maintain_ledto (in_turn s m) ask) words actions
 unfolding maintain_ledto
-turn_shows w a x seen events s m words actions (Done answer.Through) sound got same e led = record { follows = turn_ends w a x seen events m words actions answer.Through sound got led e refl; knows = record { sessions = same; its = tt } }
-turn_shows w a x seen events s m words actions (Done answer.Spent) sound got same e led = record { follows = turn_ends w a x seen events m words actions answer.Spent sound got led e refl; knows = record { sessions = same; its = tt } }
-turn_shows w a x seen events s m words actions (Done answer.Broken) sound got same e led = record { follows = turn_ends w a x seen events m words actions answer.Broken sound got led e refl; knows = record { sessions = same; its = tt } }
-turn_shows w a x seen events s m words actions ask sound got same e led = record { follows = led.follows; knows = record { sessions = same; its = led.busy } }
+turn_shows w a x seen events s m words actions (Done answer.Through) sound got same e led = record { follows = turn_ends w a x seen events m words actions answer.Through sound got led e refl; knows = record { sessions = same.0; loads = same.1; its = tt } }
+turn_shows w a x seen events s m words actions (Done answer.Spent) sound got same e led = record { follows = turn_ends w a x seen events m words actions answer.Spent sound got led e refl; knows = record { sessions = same.0; loads = same.1; its = tt } }
+turn_shows w a x seen events s m words actions (Done answer.Broken) sound got same e led = record { follows = turn_ends w a x seen events m words actions answer.Broken sound got led e refl; knows = record { sessions = same.0; loads = same.1; its = tt } }
+turn_shows w a x seen events s m words actions ask sound got same e led = record { follows = led.follows; knows = record { sessions = same.0; loads = same.1; its = led.busy } }
 
 -- an action that comes out of its slot goes to the turn
 turn_takes : (w : GuardWorld) (a : ℕ) (x : Actor) (seen : LastSeen) (events : List GuardEvent) (s : KeeperState) (m : MaintainState) (words : List ℕ) (slot : ℕ) (found : Option Action) → IsSound w → slice_get w.now.actors a ≡ Some x
-    → s.finish.sessions ≡ w.now.places.sessions → maintain_ask w.now.shape w.now.places m ≡ Take slot
+    → OfStore w.now.places s → maintain_ask w.now.shape w.now.places m ≡ Take slot
     → (let its : MaintainState = maintain_gets m found in Led w.now a events seen (maintain_machine its) (maintain_work its) words (slice_set w.now.actions slot None))
     → KeeperLed w.now a events seen (keeper_gets w.now.shape w.now.places (in_turn s m) found) words (slice_set w.now.actions slot None)
 unfolding keeping_given maintain_ledto
@@ -57,7 +58,7 @@ turn_takes w a x seen events s m words slot (Some action) sound got same e led =
     turn_shows w a x seen events s (maintain_given m action) words (slice_set w.now.actions slot None) (maintain_ask w.now.shape w.now.places (maintain_given m action)) sound got same refl led
 
 pub turn_kept : (w : GuardWorld) (a : ℕ) (x : Actor) (seen : LastSeen) (events : List GuardEvent) (s : KeeperState) (granted : Bool) (m : MaintainState) (words : List ℕ) (ask : Ask MaintainAnswer) → IsSound w → slice_get w.now.actors a ≡ Some x
-    → s.finish.sessions ≡ w.now.places.sessions → maintain_ask w.now.shape w.now.places m ≡ ask
+    → OfStore w.now.places s → maintain_ask w.now.shape w.now.places m ≡ ask
     → (let its : MaintainState = settled (maintain_next w.now.shape w.now.places) maintain_gets w.now.actions m ask in Led w.now a events seen (maintain_machine its) (maintain_work its) words (actions_settled w.now.actions ask))
     → StepLed w.now a events seen granted (maintain_ledto (in_turn s m) ask) words
 unfolding maintain_ledto keeping_ask keeping_next device_passed passed

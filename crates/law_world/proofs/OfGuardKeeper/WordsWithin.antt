@@ -1,8 +1,9 @@
 -- The word that the keeper's ask names is one that there is: by what it is at, and by what its machine of the epochs asks.
-use Rattle.std.proofs.Common.{◌≡◌, ℕ, ◌+◌, ◌<◌, ◌≤◌, refl, subst, arith, List}
+use Rattle.std.proofs.Common.{◌≡◌, ℕ, ◌+◌, ◌<◌, ◌≤◌, refl, sym, subst, arith, List}
 use Rattle.std.specs.Prelude.{Option, Some, None, length}
 use Rattle.fkv_base.specs.declared.numbers.Serial.{Serial}
 use Rattle.fkv_plane.specs.declared.places.SessionWord.TheVariants as own
+use Rattle.fkv_plane.specs.declared.places.RecordWord.TheVariants as rec
 use Rattle.fkv_index.specs.Slots.{bucket_slots}
 use Rattle.fkv_checkpoint.specs.declared.copying.CopyStep.{CopyStep}
 use Rattle.fkv_checkpoint.specs.declared.copying.CopyStep.TheVariants as copy
@@ -16,7 +17,7 @@ use Rattle.fkv_commit.specs.declared.waiting.Waiting.{Waiting}
 use Rattle.fkv_commit.specs.declared.waiting.Waiting.TheVariants as wait
 use Rattle.fkv_commit.specs.Finishing.{FinishState, finishing_ask}
 use Rattle.fkv_commit.specs.Waiting.{wait_ask, waiting_ask}
-use Rattle.fkv_plane.specs.Places.{word_count}
+use Rattle.fkv_plane.specs.Places.{record_place, word_count}
 use Rattle.fkv_flush.specs.declared.flushing.Flushing.{Flushing}
 use Rattle.fkv_flush.specs.declared.flushing.Flushing.TheVariants as flush
 use Rattle.fkv_flush.specs.declared.serving.Serving.{Serving}
@@ -32,16 +33,23 @@ use Rattle.fkv_manifest.specs.declared.answers.WriteAnswer.{WriteAnswer}
 use Rattle.fkv_manifest.specs.declared.answers.WriteAnswer.TheVariants as write
 use Rattle.fkv_manifest.specs.Committing.{commit_answer}
 use Rattle.fkv_maintain.specs.Maintaining.{device_asked}
-use Rattle.fkv_keeper.specs.Keeping.{copy_asked, keeper_ask, write_asked}
+use Rattle.fkv_keeper.specs.Keeping.{copy_asked, keeper_ask, sweep_passed, write_asked}
+use Rattle.fkv_index.specs.Finding.{find_ask}
+use Rattle.fkv_sweep.specs.declared.sweeping.SweepAnswer.{SweepAnswer}
+use Rattle.fkv_sweep.specs.declared.sweeping.SweepAnswer.TheVariants as swept
+use Rattle.fkv_sweep.specs.declared.sweeping.Sweeping.{Sweeping}
+use Rattle.fkv_sweep.specs.declared.sweeping.Sweeping.TheVariants as sweep
+use Rattle.fkv_sweep.specs.Sweeping.{Sweeper, sweep_ask, sweeping_ask}
 use Rattle.law_world.specs.GuardKeeper.CommitShown.{FinishKnows, deferring_machine, entering_machine, seeking_machine, starting_machine}
 use Rattle.law_world.specs.GuardKeeper.Followed.{IsKeepers}
 use Rattle.law_world.specs.GuardKeeper.KeeperShown.{KeepingKnows, keeping_machine, keeping_work}
 use Rattle.law_world.specs.GuardKeeper.MaintainShown.{maintaining_machine, maintaining_work}
 use Rattle.law_world.proofs.OfGuarded.KeeperPlaces.{CopierRow, CopyRow, IsAtBucket, IsKeeperRow, KeeperRow, SeekRow}
-use Rattle.law_world.proofs.OfGuardSessions.WordsWithin.{IsWithin, MachineWithin, machine_within, own_within, passed_within, record_within, shift_within, turn_within}
+use Rattle.law_world.proofs.OfGuarded.SweepPlaces.{SweepRow}
+use Rattle.law_world.proofs.OfGuardSessions.WordsWithin.{IsWithin, MachineWithin, find_within, machine_within, own_within, passed_within, record_within, shift_within, turn_within}
 use Rattle.fkv_base.specs.declared.shapes.Shape.{Shape}
 use Rattle.fkv_plane.specs.declared.asks.Ask.{Ask}
-use Rattle.fkv_plane.specs.declared.asks.Ask.TheVariants.{Put, Take, Done}
+use Rattle.fkv_plane.specs.declared.asks.Ask.TheVariants.{Load, Put, Take, Done}
 use Rattle.fkv_plane.specs.declared.places.Places.{Places}
 use Rattle.fkv_plane.specs.Passing.{passed}
 use Rattle.fkv_epoch.specs.Arming.{arm_ask}
@@ -193,6 +201,25 @@ write_within p write.Device told = tt
 write_within p write.Written told = tt
 write_within p (write.Broken why) told = tt
 
+sweep_within : (p : Places) (w : Sweeper) (step : Sweeping) → w.places ≡ p → SweepRow p w step → IsWithin p (sweeping_ask w step)
+unfolding sweeping_ask
+sweep_within p w sweep.AtRest same row = tt
+sweep_within p w sweep.LoadsHead same row = omega arith
+sweep_within p w sweep.Takes same row = omega arith
+sweep_within p w sweep.Meets same row = tt
+sweep_within p w (sweep.Finds key) same row = passed_within p (find_ask w.finding) _ (find_within p w.finding w.finding.step row row.links)
+sweep_within p w (sweep.LoadsKey key addr) same row = subst (λ (q : Places). IsWithin {A = SweepAnswer} p (Load (record_place q addr.0 rec.Key))) (sym same) (record_within p addr.0 rec.Key)
+sweep_within p w (sweep.LoadsHeader key addr) same row = subst (λ (q : Places). IsWithin {A = SweepAnswer} p (Load (record_place q addr.0 rec.Header))) (sym same) (record_within p addr.0 rec.Header)
+sweep_within p w (sweep.Reads key addr) same row = tt
+
+swept_within : (p : Places) (ask : Ask SweepAnswer) (told : KeeperTold) → IsWithin p ask → IsWithin p (sweep_passed ask told)
+unfolding sweep_passed passed
+swept_within p (Done swept.Device) told within = tt
+swept_within p (Done swept.Through) told within = tt
+swept_within p (Put slot action) told within = tt
+swept_within p (Take slot) told within = tt
+swept_within p ask told within = within
+
 module _ (w : GuardWorld) (a : ℕ) (x : Actor) (seen : LastSeen) (s : KeeperState) (keeps : IsKeepers w a x seen s) where
   abbrev P : Places
   P = w.now.places
@@ -230,6 +257,7 @@ module _ (w : GuardWorld) (a : ℕ) (x : Actor) (seen : LastSeen) (s : KeeperSta
   keeping_within keeping.Waits machine work knows few row = passed_within P (wait_ask s.wait) _ (wait_within P s.wait.step)
   keeping_within keeping.Writes machine work knows few row = write_within P (commit_answer s.writes) _
   keeping_within keeping.Finishes machine work knows few row = passed_within P (finish_ask s.seek.points s.finish) _ (finish_within P s.seek.points s.finish s.finish.step keeps.knows.sessions knows)
+  keeping_within keeping.Sweeps machine work knows few row = swept_within P (sweep_ask s.sweep) _ (sweep_within P s.sweep s.sweep.step row.0 row.1)
 
 pub keeper_within : (w : GuardWorld) (a : ℕ) (x : Actor) (seen : LastSeen) (s : KeeperState) → IsKeepers w a x seen s → s.seek.sessions ≤ w.now.places.sessions → IsKeeperRow w.now.places s → IsWithin w.now.places (keeper_ask w.now.shape w.now.places s)
 keeper_within w a x seen s keeps few row = keeping_within w a x seen s keeps s.step keeps.fits.machine keeps.fits.work keeps.knows.its few row

@@ -3,7 +3,7 @@ use Rattle.std.proofs.Common.{◌≡◌, ℕ, arith, List, true}
 use Rattle.std.specs.Prelude.{Option, Some, None}
 use Rattle.fkv_base.specs.declared.numbers.Serial.{Serial}
 use Rattle.fkv_plane.specs.declared.asks.Ask.{Ask}
-use Rattle.fkv_plane.specs.declared.asks.Ask.TheVariants.{Put, Take, Done}
+use Rattle.fkv_plane.specs.declared.asks.Ask.TheVariants.{Load, Put, Take, Done}
 use Rattle.fkv_plane.specs.declared.places.Places.{Places}
 use Rattle.fkv_plane.specs.declared.places.SessionWord.TheVariants as own
 use Rattle.fkv_plane.specs.Passing.{passed}
@@ -53,10 +53,15 @@ use Rattle.fkv_maintain.specs.declared.maintaining.MaintainAnswer.TheVariants as
 use Rattle.fkv_maintain.specs.declared.maintaining.Maintaining.{Maintaining}
 use Rattle.fkv_maintain.specs.declared.maintaining.Maintaining.TheVariants as maintain
 use Rattle.fkv_maintain.specs.Maintaining.{MaintainState, device_asked, maintain_ask, maintaining_ask}
+use Rattle.fkv_sweep.specs.declared.sweeping.SweepAnswer.{SweepAnswer}
+use Rattle.fkv_sweep.specs.declared.sweeping.SweepAnswer.TheVariants as swept
+use Rattle.fkv_sweep.specs.Sweeping.{sweep_ask}
+use Rattle.fkv_sweep.specs.Swept.{IsLoadOrEnd}
+use Rattle.fkv_sweep.proofs.Shown.{sweep_loads}
 use Rattle.fkv_keeper.specs.declared.answers.KeeperTold.{KeeperTold}
 use Rattle.fkv_keeper.specs.declared.keepers.Keeping.{Keeping}
 use Rattle.fkv_keeper.specs.declared.keepers.Keeping.TheVariants as keeping
-use Rattle.fkv_keeper.specs.Keeping.{KeeperState, copy_asked, device_passed, keeper_ask, keeping_ask, write_asked}
+use Rattle.fkv_keeper.specs.Keeping.{KeeperState, copy_asked, device_passed, keeper_ask, keeping_ask, sweep_passed, write_asked}
 use Rattle.law_world.specs.GuardKeeper.CommitShown.{FinishKnows, deferring_machine, entering_machine, seeking_machine, starting_machine}
 use Rattle.law_world.specs.GuardKeeper.Followed.{IsKeepers}
 use Rattle.law_world.specs.GuardKeeper.KeeperShown.{KeepingKnows, keeping_machine, keeping_work}
@@ -103,6 +108,13 @@ copy_open w base copy.LoadsLink = tt
 copier_open : (w : GuardWorld) (m : Option Copier) → WritesOpen w (writes (copy_asked m))
 copier_open w None = tt
 copier_open w (Some m) = copy_open w m.copying.base m.copying.step
+
+sweep_open : (w : GuardWorld) (ask : Ask SweepAnswer) (told : KeeperTold) → IsLoadOrEnd ask → WritesOpen w (writes (sweep_passed ask told))
+unfolding sweep_passed passed
+sweep_open w (Load place) told loads = tt
+sweep_open w (Done swept.Device) told loads = tt
+sweep_open w (Done swept.Through) told loads = tt
+sweep_open w ask told loads = absurd loads
 
 finish_open : (w : GuardWorld) (points : List Serial) (s : FinishState) (step : Finishing) → s.sessions ≡ w.now.places.sessions → FinishKnows s step → WritesOpen w (writes (finishing_ask points s step))
 unfolding finishing_ask
@@ -179,6 +191,7 @@ module _ (w : GuardWorld) (a : ℕ) (x : Actor) (seen : LastSeen) (s : KeeperSta
   keeping_open keeping.Waits machine work knows = passed_open w (wait_ask s.wait) _ (wait_open w s.wait.step)
   keeping_open keeping.Writes machine work knows = write_open w (commit_answer s.writes) _
   keeping_open keeping.Finishes machine work knows = passed_open w (finish_ask s.seek.points s.finish) _ (finish_open w s.seek.points s.finish s.finish.step keeps.knows.sessions knows)
+  keeping_open keeping.Sweeps machine work knows = sweep_open w (sweep_ask s.sweep) _ (sweep_loads s.sweep (record { reads = keeps.knows.loads }))
 
 pub keeper_open : (w : GuardWorld) (a : ℕ) (x : Actor) (seen : LastSeen) (s : KeeperState) → IsKeepers w a x seen s → WritesOpen w (writes (keeper_ask w.now.shape w.now.places s))
 keeper_open w a x seen s keeps = keeping_open w a x seen s keeps s.step keeps.fits.machine keeps.fits.work keeps.knows.its

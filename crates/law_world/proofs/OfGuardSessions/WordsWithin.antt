@@ -288,7 +288,7 @@ invalidate_within p (invalidating.StoresHeader addr header) = record_within p ad
 bucket_within : (p : Places) (f : Finding) (slot : ℕ) → IsAtBucket p f → slot < 8 → f.base + slot < word_count p
 bucket_within p f slot its low = let base = its.its_base in let few = its.few in omega (arith, base, few, low)
 
-find_within : (p : Places) (f : Finding) (step : FindStep) → IsAtBucket p f → StepLinks f.spare step → IsWithin p (find_step_ask f step)
+pub find_within : (p : Places) (f : Finding) (step : FindStep) → IsAtBucket p f → StepLinks f.spare step → IsWithin p (find_step_ask f step)
 unfolding find_step_ask
 find_within p f find.AtRest its links = tt
 find_within p f (find.LoadsSlot slot) its links = bucket_within p f slot its (omega (arith, links))

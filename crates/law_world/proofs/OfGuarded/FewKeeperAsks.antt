@@ -12,10 +12,10 @@ use Rattle.fkv_maintain.specs.Maintaining.{MaintainState, maintain_begun}
 use Rattle.fkv_maintain.proofs.Shown.{maintain_begun_left, maintain_serving_left}
 use Rattle.fkv_keeper.specs.declared.keepers.Keeping.{Keeping}
 use Rattle.fkv_keeper.specs.declared.keepers.Keeping.TheVariants.{Ended}
-use Rattle.fkv_keeper.specs.KeeperAsks.{keeper_asks_left, keeping_asks_left, most_part_asks}
+use Rattle.fkv_keeper.specs.KeeperAsks.{keeper_asks_left, keeping_asks_left, most_behind_phase}
 use Rattle.fkv_keeper.specs.KeeperRun.{is_in_hand}
 use Rattle.fkv_keeper.specs.Keeping.{parts_begun, KeeperState, commit_asked, turn_asked, serves_alone}
-use Rattle.fkv_keeper.proofs.Shown.{begin_bounded}
+use Rattle.fkv_keeper.proofs.Shown.{begin_bounded, run_of_store}
 use Rattle.fkv_world.specs.Actors.{is_of_keeper}
 use Rattle.law_world.specs.Runs.Ends.{asks_left_of_keeper}
 use Rattle.fkv_world.specs.OwnEvents.{keeper_events}
@@ -41,7 +41,7 @@ turn_most : (shape : Shape) (p : Places) (s : KeeperState) → keeper_asks_left 
 unfolding keeping_asks_left
 turn_most shape p s =
     let begun = parts_begun_left shape (serves_alone s) s.maintain in
-    let most = sum_most (maintain_asks_left shape (parts_begun (serves_alone s) s.maintain)) (most_part_asks s.seek.sessions s.finish.sessions + 1) in
+    let most = sum_most (maintain_asks_left shape (parts_begun (serves_alone s) s.maintain)) (most_behind_phase s.sweep.places s.seek.sessions s.finish.sessions + 1) in
     either shape p s.is_broken _ _ _ (omega arith) (omega (arith, begun, most))
 
 commit_most : (shape : Shape) (p : Places) (s : KeeperState) (kind : CommitKind) → keeper_asks_left shape p (commit_asked s kind) ≤ most_keeper_asks shape p s
@@ -86,8 +86,9 @@ alive_few fewer beside first start before (KeeperMoves granted done) most opened
 alive_few fewer beside first start before event most opened alive same few = let stays = beside (run first before) event refl in omega (arith, stays, few)
 
 -- in a life it seeks and finishes for as many sessions as at first
-most_at : (shape : Shape) (p : Places) (s first : KeeperState) → s.seek.sessions ≡ first.seek.sessions → s.finish.sessions ≡ first.finish.sessions → most_keeper_asks shape p s ≡ most_keeper_asks shape p first
-most_at shape p s first seeks finishes = rw (seeks, finishes) refl
+most_at : (shape : Shape) (p : Places) (s first : KeeperState) → s.seek.sessions ≡ first.seek.sessions → s.finish.sessions ≡ first.finish.sessions → s.sweep.places ≡ first.sweep.places
+    → most_keeper_asks shape p s ≡ most_keeper_asks shape p first
+most_at shape p s first seeks finishes sweeps = rw (seeks, finishes, sweeps) refl
 
 life_seeks : (first : World) (events : List Event) → (run first events).now.keeper.seek.sessions ≡ first.now.keeper.seek.sessions
 life_seeks first events = ap (λ (s : KeeperState). s.seek.sessions) (keeper_runs first events) ∙ run_seeks first.now.shape first.now.places first.now.keeper (keeper_events first events)
@@ -97,13 +98,19 @@ life_finishes first start events opened =
     let shows = life_shows first start events opened in
     shows.keeper.keeps.knows.sessions ∙ ap (λ (p : Places). p.sessions) (shows.places ∙ places_stay first events) ∙ sym opened.finishes
 
+-- and its sweep searches the same index
+life_sweeps : (first : World) (events : List Event) → (run first events).now.keeper.sweep.places ≡ first.now.keeper.sweep.places
+life_sweeps first events =
+    let k : KeeperState = first.now.keeper in
+    ap (λ (s : KeeperState). s.sweep.places) (keeper_runs first events) ∙ (run_of_store k.sweep.shape k.sweep.places first.now.shape first.now.places k (keeper_events first events) (record { its_shape = refl; its_places = refl })).its_places
+
 life_most : (first : World) (start : ℕ) (events : List Event) → IsOpened first.now start
     → most_keeper_asks (run first events).now.shape (run first events).now.places (run first events).now.keeper ≡ most_keeper_asks first.now.shape first.now.places first.now.keeper
 life_most first start events opened =
     let s : KeeperState = (run first events).now.keeper in
     ap (λ (shape : Shape). most_keeper_asks shape (run first events).now.places s) (shape_stays first events)
     ∙ ap (λ (p : Places). most_keeper_asks first.now.shape p s) (places_stay first events)
-    ∙ most_at first.now.shape first.now.places s first.now.keeper (life_seeks first events) (life_finishes first start events opened)
+    ∙ most_at first.now.shape first.now.places s first.now.keeper (life_seeks first events) (life_finishes first start events opened) (life_sweeps first events)
 
 none_left : (shape : Shape) (p : Places) (s : KeeperState) (step : Keeping) → is_in_hand step ≡ false → keeping_asks_left shape p s step ≡ 0
 unfolding keeping_asks_left
@@ -131,5 +138,6 @@ keeper_few fewer beside first start (event ∷ before) opened =
 pub keeper_small : (n : Now) (start : ℕ) → IsOpened n start → n.keeper.seek.sessions ≤ max_sessions → most_keeper_asks n.shape n.places n.keeper < 2 ^ 64 - 1
 keeper_small n start opened seeks =
     let p : Places = n.places in
+    let q : Places = n.keeper.sweep.places in
     let finishes = opened.finishes in
-    omega (arith, seeks, finishes, p.few_sessions, p.few_buckets, p.few_overflow, n.shape.limits.few_sessions)
+    omega (arith, seeks, finishes, p.few_sessions, q.few_overflow, n.shape.limits.few_sessions)

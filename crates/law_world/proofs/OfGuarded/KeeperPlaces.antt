@@ -1,5 +1,5 @@
--- Over every run of a keeper the buckets that its copy of the index is at are there, and so are the sessions whose points it seeks.
-use Rattle.std.proofs.Common.{◌≡◌, ℕ, ◌+◌, ◌-◌, ◌<◌, ◌≤◌, refl, sym, subst, arith, List, [], ◌∷◌, length, Bool, true, false, ◌∙◌, ap, inl, inr}
+-- Over every run of a keeper the buckets that its copy of the index and its sweep are at are there, and so are the sessions whose points it seeks.
+use Rattle.std.proofs.Common.{◌≡◌, ℕ, ◌+◌, ◌-◌, ◌<◌, ◌≤◌, ◌^◌, refl, sym, subst, arith, List, [], ◌∷◌, length, Bool, true, false, ◌∙◌, ap, inl, inr}
 use Rattle.std.specs.Prelude.{◌&&◌, ◌==◌, nat_lt, nat_le, max, ⊤, if◌then◌else◌, Option, Some, None, ◌||◌, not}
 use Rattle.std.proofs.lemmas.Bool.Decides.{nat_tests}
 use Rattle.fkv_base.specs.declared.numbers.Addr.{Addr}
@@ -18,7 +18,7 @@ use Rattle.fkv_commit.specs.Deferring.{defer_next}
 use Rattle.fkv_commit.specs.Seeking.{SeekState, cut_met, defer_led, other_met, owing_from, point_taken, with_point, points_from, seek_next, seeking_next, slot_led}
 use Rattle.fkv_keeper.specs.CheckpointLaws.{CopiesOnce, IsCopyAfter}
 use Rattle.fkv_keeper.specs.KeeperRun.{BeginsCommit, BeginsTurn, Calls, Gets, IsOpened, KeeperEvent, Replies, begins, is_in_hand, keeper_happens, keeper_run}
-use Rattle.fkv_keeper.specs.Keeping.{must_rest, KeeperState, commit_asked, copies, copies_next, copy_driven, copy_ledto, enter_ledto, finish_ledto, finished, keeping_called, keeping_given, keeping_next, maintain_ledto, part_begun, phase_ledto, seek_ledto, start_ledto, turn_asked, wait_ledto, write_ledto, writes_begun, writes_called, is_copy_resting}
+use Rattle.fkv_keeper.specs.Keeping.{must_rest, KeeperState, commit_asked, copies, copies_next, copy_driven, copy_ledto, enter_ledto, finish_ledto, finished, keeping_called, keeping_given, keeping_next, maintain_ledto, part_begun, phase_ledto, seek_ledto, start_ledto, sweep_called, sweep_ledto, turn_asked, wait_ledto, write_ledto, writes_begun, writes_called, is_copy_resting}
 use Rattle.fkv_base.specs.declared.phases.Phase.TheVariants as phase
 use Rattle.fkv_base.specs.declared.shapes.Shape.{Shape}
 use Rattle.fkv_words.specs.declared.phase_words.PhaseSaid.{PhaseSaid}
@@ -49,8 +49,13 @@ use Rattle.fkv_maintain.specs.declared.maintaining.MaintainAnswer.{MaintainAnswe
 use Rattle.fkv_maintain.specs.declared.maintaining.MaintainAnswer.TheVariants as maintain
 use Rattle.fkv_maintain.specs.Maintaining.{maintain_called, maintain_given, maintain_next, is_flush_resting}
 use Rattle.fkv_keeper.specs.declared.keepers.Keeping.{Keeping}
-use Rattle.fkv_keeper.specs.declared.keepers.Keeping.TheVariants.{Ended, Starts, Maintains, LoadsPhase, Enters, Copies, Seeks, Waits, Writes, Finishes}
-use Rattle.fkv_keeper.proofs.Shown.{each_move, was_in_hand}
+use Rattle.fkv_keeper.specs.declared.keepers.Keeping.TheVariants.{Ended, Starts, Maintains, LoadsPhase, Enters, Copies, Seeks, Waits, Writes, Finishes, Sweeps}
+use Rattle.fkv_keeper.proofs.Shown.{IsOfStore, each_move, run_of_store, was_in_hand}
+use Rattle.fkv_sweep.specs.declared.sweeping.SweepAnswer.{SweepAnswer}
+use Rattle.fkv_sweep.specs.declared.sweeping.SweepAnswer.TheVariants as swept
+use Rattle.fkv_sweep.specs.Sweeping.{is_sweeping, sweep_ask, sweep_next, sweep_read}
+use Rattle.fkv_sweep.proofs.Shown.{sweep_next_same, sweep_read_same}
+use Rattle.law_world.proofs.OfGuarded.SweepPlaces.{IsSweepRow, sweep_next_row, sweep_read_row, turn_begun_row}
 
 -- the seek is at a session whose points it seeks
 abbrev pub SeekRow : SeekState → Seeking → Type 0
@@ -181,6 +186,7 @@ driven_row p (Some m) reply row = (row.0, subst (λ (q : Places). IsCopyRow p (c
 abbrev pub KeeperRow : Places → KeeperState → Keeping → Type 0
 KeeperRow p s Copies = CopierRow p s.copy
 KeeperRow p s Seeks = SeekRow s.seek s.seek.step
+KeeperRow p s Sweeps = (s.sweep.places ≡ p) × IsSweepRow p s.sweep
 KeeperRow p s step = ⊤
 
 abbrev pub IsKeeperRow : Places → KeeperState → Type 0
@@ -228,10 +234,10 @@ part_led p s c (Says phase.WaitPending version) granted rest = next_led p s c gr
 part_led p s c (Says phase.WaitFlush version) granted rest = either s.has_points p _ _ tt tt
 part_led p s c said granted rest = tt
 
-phase_led : (p : Places) (s : KeeperState) (commit : Option Commit) (said : PhaseSaid) (granted : Bool) → s.commit ≡ commit → RestRow p s → IsKeeperRow p (phase_ledto p s commit said granted)
+phase_led : (p : Places) (s : KeeperState) (commit : Option Commit) (said : PhaseSaid) (granted : Bool) → s.commit ≡ commit → RestRow p s → s.sweep.places ≡ p → IsKeeperRow p (phase_ledto p s commit said granted)
 unfolding phase_ledto
-phase_led p s None said granted in_hand rest = either (is_flush_resting s.maintain) p _ _ tt tt
-phase_led p s (Some c) said granted in_hand rest = either s.rests p _ _ (either granted p _ _ tt tt) (either (is_flush_resting s.maintain) p _ _ tt (part_led p s c said granted (rest c in_hand)))
+phase_led p s None said granted in_hand rest of = either (is_flush_resting s.maintain) p _ _ tt (either (granted && is_sweeping s.sweep) p _ _ (of, turn_begun_row p s.sweep) tt)
+phase_led p s (Some c) said granted in_hand rest of = either s.rests p _ _ (either granted p _ _ tt tt) (either (is_flush_resting s.maintain) p _ _ tt (part_led p s c said granted (rest c in_hand)))
 
 enter_led : (p : Places) (s : KeeperState) (ask : Ask EnterAnswer) → s.step ≡ Enters → IsKeeperRow p (enter_ledto s ask)
 unfolding enter_ledto
@@ -282,19 +288,26 @@ write_led p s (Some c) write.Written at = tt
 write_led p s (Some c) write.Device at = either (must_rest s) p _ _ tt (stays p s Writes at tt)
 write_led p s (Some c) (write.Broken why) at = stays p s Writes at tt
 
+sweep_led : (p : Places) (s : KeeperState) (ask : Ask SweepAnswer) → s.step ≡ Sweeps → KeeperRow p s Sweeps → IsKeeperRow p (sweep_ledto s ask)
+unfolding sweep_ledto
+sweep_led p s (Done swept.Through) at row = tt
+sweep_led p s ask at row = stays p s Sweeps at row
+
 -- so it is behind each event
-next_row : (shape : Shape) (p : Places) (s : KeeperState) (step : Keeping) (reply : ℕ) (granted : Bool) → s.step ≡ step → RestRow p s → KeeperRow p s step → IsKeeperRow p (keeping_next shape p s step reply granted)
+next_row : (shape : Shape) (p : Places) (s : KeeperState) (step : Keeping) (reply : ℕ) (granted : Bool) → p.buckets ≡ 2 ^ shape.bucket_bits → IsOfStore shape p s.sweep → s.step ≡ step → RestRow p s → KeeperRow p s step
+    → IsKeeperRow p (keeping_next shape p s step reply granted)
 unfolding keeping_next
-next_row shape p s (Ended its) reply granted at rest row = stays p s (Ended its) at tt
-next_row shape p s Starts reply granted at rest row = start_led p (record s { start = start_next s.start reply }) _ at
-next_row shape p s Maintains reply granted at rest row = maintain_led p (record s { maintain = maintain_next shape p s.maintain reply }) _ at
-next_row shape p s LoadsPhase reply granted at rest row = phase_led p s s.commit (phase_said reply) granted refl rest
-next_row shape p s Enters reply granted at rest row = enter_led p (record s { enter = enter_next s.enter reply }) _ at
-next_row shape p s Copies reply granted at rest row = copy_led p (record s { copy = copy_driven s.copy reply }) _ at (driven_row p s.copy reply row)
-next_row shape p s Seeks reply granted at rest row = seek_led p (record s { seek = seek_next s.seek reply }) _ at (seeks_row s.seek s.seek.step reply refl row)
-next_row shape p s Waits reply granted at rest row = wait_led p shape (record s { wait = wait_next s.wait reply }) _ at
-next_row shape p s Writes reply granted at rest row = stays p s Writes at tt
-next_row shape p s Finishes reply granted at rest row = finish_led p (record s { finish = finish_next s.finish reply }) _ at
+next_row shape p s (Ended its) reply granted buckets of at rest row = stays p s (Ended its) at tt
+next_row shape p s Starts reply granted buckets of at rest row = start_led p (record s { start = start_next s.start reply }) _ at
+next_row shape p s Maintains reply granted buckets of at rest row = maintain_led p (record s { maintain = maintain_next shape p s.maintain reply }) _ at
+next_row shape p s LoadsPhase reply granted buckets of at rest row = phase_led p s s.commit (phase_said reply) granted refl rest of.its_places
+next_row shape p s Enters reply granted buckets of at rest row = enter_led p (record s { enter = enter_next s.enter reply }) _ at
+next_row shape p s Copies reply granted buckets of at rest row = copy_led p (record s { copy = copy_driven s.copy reply }) _ at (driven_row p s.copy reply row)
+next_row shape p s Seeks reply granted buckets of at rest row = seek_led p (record s { seek = seek_next s.seek reply }) _ at (seeks_row s.seek s.seek.step reply refl row)
+next_row shape p s Waits reply granted buckets of at rest row = wait_led p shape (record s { wait = wait_next s.wait reply }) _ at
+next_row shape p s Writes reply granted buckets of at rest row = stays p s Writes at tt
+next_row shape p s Finishes reply granted buckets of at rest row = finish_led p (record s { finish = finish_next s.finish reply }) _ at
+next_row shape p s Sweeps reply granted buckets of at rest row = sweep_led p (record s { sweep = sweep_next s.sweep reply }) _ at ((sweep_next_same s.sweep reply).places ∙ of.its_places, sweep_next_row shape p buckets s.sweep reply of row.1)
 
 given_row : (shape : Shape) (p : Places) (s : KeeperState) (step : Keeping) (action : Action) → s.step ≡ step → KeeperRow p s step → IsKeeperRow p (keeping_given shape p s step action)
 unfolding keeping_given
@@ -308,35 +321,43 @@ given_row shape p s Seeks action at row = stays p s Seeks at row
 given_row shape p s Waits action at row = stays p s Waits at row
 given_row shape p s Writes action at row = stays p s Writes at row
 given_row shape p s Finishes action at row = stays p s Finishes at row
+given_row shape p s Sweeps action at row = stays p s Sweeps at row
 
 writes_row : (p : Places) (s : KeeperState) (done : Bool) → s.step ≡ Writes → IsKeeperRow p (writes_called s done)
 writes_row p s true at = write_led p (record s { writes = commit_next s.writes true }) s.commit (commit_answer (commit_next s.writes true)) at
 writes_row p s false at = tt
 
-called_row : (shape : Shape) (p : Places) (s : KeeperState) (step : Keeping) (done : Bool) (bytes : List ℕ) → s.step ≡ step → KeeperRow p s step → IsKeeperRow p (keeping_called shape p s step done bytes)
+swept_row : (shape : Shape) (p : Places) (s : KeeperState) (done : Bool) (bytes : List ℕ) → p.buckets ≡ 2 ^ shape.bucket_bits → IsOfStore shape p s.sweep → s.step ≡ Sweeps → KeeperRow p s Sweeps → IsKeeperRow p (sweep_called s done bytes)
+swept_row shape p s true bytes buckets of at row =
+    sweep_led p (record s { sweep = sweep_read s.sweep bytes }) (sweep_ask (sweep_read s.sweep bytes)) at ((sweep_read_same s.sweep bytes).places ∙ of.its_places, sweep_read_row shape p buckets s.sweep bytes of row.1)
+swept_row shape p s false bytes buckets of at row = tt
+
+called_row : (shape : Shape) (p : Places) (s : KeeperState) (step : Keeping) (done : Bool) (bytes : List ℕ) → p.buckets ≡ 2 ^ shape.bucket_bits → IsOfStore shape p s.sweep → s.step ≡ step → KeeperRow p s step
+    → IsKeeperRow p (keeping_called shape p s step done bytes)
 unfolding keeping_called
-called_row shape p s Maintains done bytes at row = maintain_led p (record s { maintain = maintain_called shape p s.maintain done bytes }) _ at
-called_row shape p s Writes done bytes at row = writes_row p s done at
-called_row shape p s (Ended its) done bytes at row = stays p s (Ended its) at row
-called_row shape p s Starts done bytes at row = stays p s Starts at row
-called_row shape p s LoadsPhase done bytes at row = stays p s LoadsPhase at row
-called_row shape p s Enters done bytes at row = stays p s Enters at row
-called_row shape p s Copies done bytes at row = stays p s Copies at row
-called_row shape p s Seeks done bytes at row = stays p s Seeks at row
-called_row shape p s Waits done bytes at row = stays p s Waits at row
-called_row shape p s Finishes done bytes at row = stays p s Finishes at row
+called_row shape p s Maintains done bytes buckets of at row = maintain_led p (record s { maintain = maintain_called shape p s.maintain done bytes }) _ at
+called_row shape p s Writes done bytes buckets of at row = writes_row p s done at
+called_row shape p s Sweeps done bytes buckets of at row = swept_row shape p s done bytes buckets of at row
+called_row shape p s (Ended its) done bytes buckets of at row = stays p s (Ended its) at row
+called_row shape p s Starts done bytes buckets of at row = stays p s Starts at row
+called_row shape p s LoadsPhase done bytes buckets of at row = stays p s LoadsPhase at row
+called_row shape p s Enters done bytes buckets of at row = stays p s Enters at row
+called_row shape p s Copies done bytes buckets of at row = stays p s Copies at row
+called_row shape p s Seeks done bytes buckets of at row = stays p s Seeks at row
+called_row shape p s Waits done bytes buckets of at row = stays p s Waits at row
+called_row shape p s Finishes done bytes buckets of at row = stays p s Finishes at row
 
 begins_row : (p : Places) (s begun : KeeperState) (busy : Bool) → IsKeeperRow p s → IsKeeperRow p begun → IsKeeperRow p (begins s busy begun)
 begins_row p s begun true row other = row
 begins_row p s begun false row other = other
 
-happens_row : (shape : Shape) (p : Places) (s : KeeperState) (event : KeeperEvent) → RestRow p s → IsKeeperRow p s → IsKeeperRow p (keeper_happens shape p s event)
+happens_row : (shape : Shape) (p : Places) (s : KeeperState) (event : KeeperEvent) → p.buckets ≡ 2 ^ shape.bucket_bits → IsOfStore shape p s.sweep → RestRow p s → IsKeeperRow p s → IsKeeperRow p (keeper_happens shape p s event)
 unfolding keeper_happens
-happens_row shape p s BeginsTurn rest row = begins_row p s (turn_asked s) (is_in_hand s.step) row (either s.is_broken p _ _ tt tt)
-happens_row shape p s (BeginsCommit kind) rest row = begins_row p s (commit_asked s kind) (is_in_hand s.step) row (either s.is_broken p _ _ tt (either s.rests p _ _ tt tt))
-happens_row shape p s (Replies reply granted) rest row = next_row shape p s s.step reply granted refl rest row
-happens_row shape p s (Gets action) rest row = given_row shape p s s.step action refl row
-happens_row shape p s (Calls done bytes) rest row = called_row shape p s s.step done bytes refl row
+happens_row shape p s BeginsTurn buckets of rest row = begins_row p s (turn_asked s) (is_in_hand s.step) row (either s.is_broken p _ _ tt tt)
+happens_row shape p s (BeginsCommit kind) buckets of rest row = begins_row p s (commit_asked s kind) (is_in_hand s.step) row (either s.is_broken p _ _ tt (either s.rests p _ _ tt tt))
+happens_row shape p s (Replies reply granted) buckets of rest row = next_row shape p s s.step reply granted buckets of refl rest row
+happens_row shape p s (Gets action) buckets of rest row = given_row shape p s s.step action refl row
+happens_row shape p s (Calls done bytes) buckets of rest row = called_row shape p s s.step done bytes buckets of refl row
 
 opened_row : (p : Places) (s : KeeperState) (step : Keeping) → is_in_hand step ≡ false → KeeperRow p s step
 opened_row p s (Ended its) none = tt
@@ -367,12 +388,15 @@ happens_rest shape p s event row rest = by_copy move.copy
     by_copy (inr (inr (inl driven))) = λ c is rests. driven_from p s a driven.reply s.step refl driven.copies row driven.copy
     by_copy (inr (inr (inr begun))) = λ c is rests. subst (λ (x : Option Copier). CopierRow p x) (sym begun.copy) (refl, first_row p)
 
-run_both : (shape : Shape) (p : Places) (first : KeeperState) (events : List KeeperEvent) → IsOpened first → IsKeeperRow p (keeper_run shape p first events) × RestRow p (keeper_run shape p first events)
+run_both : (shape : Shape) (p : Places) (first : KeeperState) (events : List KeeperEvent) → p.buckets ≡ 2 ^ shape.bucket_bits → IsOfStore shape p first.sweep → IsOpened first
+    → IsKeeperRow p (keeper_run shape p first events) × RestRow p (keeper_run shape p first events)
 unfolding keeper_run
-run_both shape p first [] opened = (opened_row p first first.step opened.none_in_hand, λ c is rests. let wrong : None ≡ Some c = sym opened.no_commit ∙ is in cc)
-run_both shape p first (event ∷ before) opened =
-    let both = run_both shape p first before opened in
-    (happens_row shape p (keeper_run shape p first before) event both.1 both.0, happens_rest shape p (keeper_run shape p first before) event both.0 both.1)
+run_both shape p first [] buckets of opened = (opened_row p first first.step opened.none_in_hand, λ c is rests. let wrong : None ≡ Some c = sym opened.no_commit ∙ is in cc)
+run_both shape p first (event ∷ before) buckets of opened =
+    let both = run_both shape p first before buckets of opened in (
+      happens_row shape p (keeper_run shape p first before) event buckets (run_of_store shape p shape p first before of) both.1 both.0,
+      happens_rest shape p (keeper_run shape p first before) event both.0 both.1,
+    )
 
-pub run_row : (shape : Shape) (p : Places) (first : KeeperState) (events : List KeeperEvent) → IsOpened first → IsKeeperRow p (keeper_run shape p first events)
-run_row shape p first events opened = (run_both shape p first events opened).0
+pub run_row : (shape : Shape) (p : Places) (first : KeeperState) (events : List KeeperEvent) → p.buckets ≡ 2 ^ shape.bucket_bits → IsOfStore shape p first.sweep → IsOpened first → IsKeeperRow p (keeper_run shape p first events)
+run_row shape p first events buckets of opened = (run_both shape p first events buckets of opened).0

@@ -1,6 +1,6 @@
 -- Over every run of a keeper it seeks the points of as many sessions as at first.
 use Rattle.std.proofs.Common.{◌≡◌, ℕ, ◌∙◌, refl, List, [], ◌∷◌, Bool, true, false}
-use Rattle.std.specs.Prelude.{if◌then◌else◌, Option, Some, None, ◌||◌}
+use Rattle.std.specs.Prelude.{if◌then◌else◌, Option, Some, None, ◌||◌, ◌&&◌}
 use Rattle.fkv_base.specs.declared.phases.Phase.TheVariants as phase
 use Rattle.fkv_base.specs.declared.shapes.Shape.{Shape}
 use Rattle.fkv_words.specs.declared.phase_words.PhaseSaid.{PhaseSaid}
@@ -26,6 +26,9 @@ use Rattle.fkv_commit.specs.Seeking.{seek_ask, seek_next}
 use Rattle.fkv_commit.specs.Starting.{start_ask, start_next}
 use Rattle.fkv_commit.specs.Waiting.{wait_ask, wait_next}
 use Rattle.fkv_commit.proofs.Shown.{seek_begun_keeps, seek_keeps}
+use Rattle.fkv_sweep.specs.declared.sweeping.SweepAnswer.{SweepAnswer}
+use Rattle.fkv_sweep.specs.declared.sweeping.SweepAnswer.TheVariants as swept
+use Rattle.fkv_sweep.specs.Sweeping.{is_sweeping, sweep_ask, sweep_next, sweep_read}
 use Rattle.fkv_manifest.specs.declared.answers.WriteAnswer.{WriteAnswer}
 use Rattle.fkv_manifest.specs.declared.answers.WriteAnswer.TheVariants as write
 use Rattle.fkv_manifest.specs.Committing.{commit_answer, commit_next}
@@ -33,9 +36,9 @@ use Rattle.fkv_maintain.specs.declared.maintaining.MaintainAnswer.{MaintainAnswe
 use Rattle.fkv_maintain.specs.declared.maintaining.MaintainAnswer.TheVariants as maintain
 use Rattle.fkv_maintain.specs.Maintaining.{MaintainState, maintain_ask, maintain_called, maintain_given, maintain_next, is_flush_resting}
 use Rattle.fkv_keeper.specs.declared.keepers.Keeping.{Keeping}
-use Rattle.fkv_keeper.specs.declared.keepers.Keeping.TheVariants.{Ended, Starts, Maintains, LoadsPhase, Enters, Copies, Seeks, Waits, Writes, Finishes}
+use Rattle.fkv_keeper.specs.declared.keepers.Keeping.TheVariants.{Ended, Starts, Maintains, LoadsPhase, Enters, Copies, Seeks, Waits, Writes, Finishes, Sweeps}
 use Rattle.fkv_keeper.specs.KeeperRun.{BeginsCommit, BeginsTurn, Calls, Gets, KeeperEvent, Replies, begins, is_in_hand, keeper_happens, keeper_run}
-use Rattle.fkv_keeper.specs.Keeping.{must_rest, KeeperState, commit_asked, copies, copies_next, copy_driven, copy_ledto, enter_ledto, finish_ledto, finished, keeping_called, keeping_given, keeping_next, maintain_ledto, part_begun, phase_ledto, seek_ledto, start_ledto, turn_asked, wait_ledto, write_ledto, writes_begun, writes_called, is_copy_resting, copy_told}
+use Rattle.fkv_keeper.specs.Keeping.{must_rest, KeeperState, commit_asked, copies, copies_next, copy_driven, copy_ledto, enter_ledto, finish_ledto, finished, keeping_called, keeping_given, keeping_next, maintain_ledto, part_begun, phase_ledto, seek_ledto, start_ledto, sweep_called, sweep_ledto, turn_asked, wait_ledto, write_ledto, writes_begun, writes_called, is_copy_resting, copy_told}
 
 abbrev sought : KeeperState → ℕ
 sought s = s.seek.sessions
@@ -73,7 +76,7 @@ part_led p s c said granted = refl
 
 phase_led : (p : Places) (s : KeeperState) (commit : Option Commit) (said : PhaseSaid) (granted : Bool) → sought (phase_ledto p s commit said granted) ≡ sought s
 unfolding phase_ledto
-phase_led p s None said granted = either (is_flush_resting s.maintain) _ _ (sought s) refl refl
+phase_led p s None said granted = either (is_flush_resting s.maintain) _ _ (sought s) refl (either (granted && is_sweeping s.sweep) _ _ (sought s) refl refl)
 phase_led p s (Some c) said granted = either s.rests _ _ (sought s) (either granted _ _ (sought s) refl refl) (either (is_flush_resting s.maintain) _ _ (sought s) refl (part_led p s c said granted))
 
 enter_led : (s : KeeperState) (ask : Ask EnterAnswer) → sought (enter_ledto s ask) ≡ sought s
@@ -125,6 +128,11 @@ write_led s (Some c) write.Written = refl
 write_led s (Some c) write.Device = either (must_rest s) _ _ (sought s) refl refl
 write_led s (Some c) (write.Broken why) = refl
 
+sweep_led : (s : KeeperState) (ask : Ask SweepAnswer) → sought (sweep_ledto s ask) ≡ sought s
+unfolding sweep_ledto
+sweep_led s (Done swept.Through) = refl
+sweep_led s ask = refl
+
 -- so of each event
 next_seeks : (shape : Shape) (p : Places) (s : KeeperState) (step : Keeping) (reply : ℕ) (granted : Bool) → sought (keeping_next shape p s step reply granted) ≡ sought s
 unfolding keeping_next
@@ -138,6 +146,7 @@ next_seeks shape p s Seeks reply granted = seek_led (record s { seek = seek_next
 next_seeks shape p s Waits reply granted = wait_led shape (record s { wait = wait_next s.wait reply }) (wait_ask (wait_next s.wait reply))
 next_seeks shape p s Writes reply granted = refl
 next_seeks shape p s Finishes reply granted = finish_led (record s { finish = finish_next s.finish reply }) (finish_ask s.seek.points (finish_next s.finish reply))
+next_seeks shape p s Sweeps reply granted = sweep_led (record s { sweep = sweep_next s.sweep reply }) (sweep_ask (sweep_next s.sweep reply))
 
 given_seeks : (shape : Shape) (p : Places) (s : KeeperState) (step : Keeping) (action : Action) → sought (keeping_given shape p s step action) ≡ sought s
 unfolding keeping_given
@@ -148,10 +157,15 @@ writes_seeks : (s : KeeperState) (done : Bool) → sought (writes_called s done)
 writes_seeks s true = write_led (record s { writes = commit_next s.writes true }) s.commit (commit_answer (commit_next s.writes true))
 writes_seeks s false = refl
 
+swept_seeks : (s : KeeperState) (done : Bool) (bytes : List ℕ) → sought (sweep_called s done bytes) ≡ sought s
+swept_seeks s true bytes = sweep_led (record s { sweep = sweep_read s.sweep bytes }) (sweep_ask (sweep_read s.sweep bytes))
+swept_seeks s false bytes = refl
+
 called_seeks : (shape : Shape) (p : Places) (s : KeeperState) (step : Keeping) (done : Bool) (bytes : List ℕ) → sought (keeping_called shape p s step done bytes) ≡ sought s
 unfolding keeping_called
 called_seeks shape p s Maintains done bytes = maintain_led s (maintain_called shape p s.maintain done bytes) (maintain_ask shape p (maintain_called shape p s.maintain done bytes))
 called_seeks shape p s Writes done bytes = writes_seeks s done
+called_seeks shape p s Sweeps done bytes = swept_seeks s done bytes
 called_seeks shape p s step done bytes = refl
 
 begins_seeks : (s begun : KeeperState) (busy : Bool) → sought begun ≡ sought s → sought (begins s busy begun) ≡ sought s

@@ -84,7 +84,7 @@ module _ (first : Now) (start : ℕ) (opened : IsOpened first start) where
     heard_keeper_place place few named =
         let seeks : n.keeper.seek.sessions ≡ first.keeper.seek.sessions = ap (λ (s : KeeperState). s.seek.sessions) its.keeper.ran ∙ run_seeks first.shape first.places first.keeper its.keeper.came in
         let low : n.keeper.seek.sessions ≤ first.places.sessions = subst (λ (count : ℕ). count ≤ first.places.sessions) (sym seeks) few in
-        let row : IsKeeperRow first.places n.keeper = subst (λ (s : KeeperState). IsKeeperRow first.places s) (sym its.keeper.ran) (run_row first.shape first.places first.keeper its.keeper.came opened.keeper) in
+        let row : IsKeeperRow first.places n.keeper = subst (λ (s : KeeperState). IsKeeperRow first.places s) (sym its.keeper.ran) (run_row first.shape first.places first.keeper its.keeper.came opened.buckets (record { its_shape = opened.sweeps.0; its_places = opened.sweeps.1 }) opened.keeper) in
         let here : IsWithin n.places (keeper_ask n.shape n.places n.keeper) =
         keeper_here n w.now.actors w.past shown (subst (λ (p : Places). n.keeper.seek.sessions ≤ p.sessions) (sym its.places) low) (subst (λ (p : Places). IsKeeperRow p n.keeper) (sym its.places) row) in
         subst (λ (p : Places). place < word_count p) its.places (named_within n.places (asked_place (keeper_ask n.shape n.places n.keeper)) place here named)

@@ -72,7 +72,7 @@ life_keeper_within first start events place opened few named =
     let ran : n.keeper ≡ keeper_run first.now.shape first.now.places first.now.keeper came = keeper_runs first events in
     let same : n.keeper.seek.sessions ≡ first.now.keeper.seek.sessions = ap (λ (s : KeeperState). s.seek.sessions) ran ∙ run_seeks first.now.shape first.now.places first.now.keeper came in
     let low : n.keeper.seek.sessions ≤ first.now.places.sessions = subst (λ (count : ℕ). count ≤ first.now.places.sessions) (sym same) few in
-    let row : IsKeeperRow first.now.places n.keeper = subst (λ (s : KeeperState). IsKeeperRow first.now.places s) (sym ran) (run_row first.now.shape first.now.places first.now.keeper came opened.keeper) in
+    let row : IsKeeperRow first.now.places n.keeper = subst (λ (s : KeeperState). IsKeeperRow first.now.places s) (sym ran) (run_row first.now.shape first.now.places first.now.keeper came opened.buckets (record { its_shape = opened.sweeps.0; its_places = opened.sweeps.1 }) opened.keeper) in
     let its : IsWithin n.places (keeper_ask n.shape n.places n.keeper) =
     keeper_here n w.now.actors w.past (shown first start events opened) (subst (λ (p : Places). n.keeper.seek.sessions ≤ p.sessions) (sym (places_stay first events)) low)
     (subst (λ (p : Places). IsKeeperRow p n.keeper) (sym (places_stay first events)) row) in

@@ -11,10 +11,14 @@ use Rattle.fkv_flush.specs.GuardLevels.{levels_of, Rises}
 use Rattle.fkv_flush.specs.GuardWorld.{Actor, GuardNow, GuardNear, GuardWorld, GuardEvent, near, put_near, with_actor, guard_happens, guard_run}
 use Rattle.fkv_flush.specs.Guarded.{first_actor}
 use Rattle.fkv_flush.proofs.Shown.{IsSound, run_sound, opening_sound, run_now, runs_now, put_there, events_calm, Fits}
+use Rattle.fkv_index.proofs.Shown.{IsReading}
 use Rattle.fkv_maintain.specs.Maintaining.{is_flush_resting}
+use Rattle.fkv_sweep.specs.Sweeping.{Sweeper}
+use Rattle.fkv_sweep.proofs.Shown.{sweep_begun_loading}
 use Rattle.fkv_keeper.specs.declared.keepers.Keeping.{Keeping}
 use Rattle.fkv_keeper.specs.declared.keepers.Keeping.TheVariants as keeping
 use Rattle.fkv_keeper.specs.KeeperRun.{is_in_hand}
+use Rattle.fkv_keeper.specs.KeeperRun as keepers
 use Rattle.fkv_keeper.specs.Keeping.{KeeperState}
 use Rattle.fkv_session.specs.declared.sessions.Sitting.{Sitting}
 use Rattle.fkv_session.specs.declared.sessions.Sitting.TheVariants.{Idle}
@@ -28,7 +32,7 @@ use Rattle.law_world.proofs.OfGuardSessions.Followed.{call_follows}
 use Rattle.law_world.specs.GuardKeeper.Followed.{KeeperGoes, likeness}
 use Rattle.law_world.specs.GuardKeeper.KeeperActors.{actor_by, is_aside, keeper_actor, keeping_aside, other_actor, other_by, work_by}
 use Rattle.law_world.specs.GuardKeeper.KeeperEvents.{keeper_move_events}
-use Rattle.law_world.specs.GuardKeeper.KeeperShown.{KeeperKnows, KeepingKnows, keeping_machine, keeping_work}
+use Rattle.law_world.specs.GuardKeeper.KeeperShown.{KeeperKnows, KeepingKnows, OfStore, keeping_machine, keeping_work}
 use Rattle.law_world.proofs.OfGuardKeeper.Asked.{knowledge_stays}
 use Rattle.law_world.proofs.OfGuardKeeper.Goes.{keeper_goes, turn_goes, commit_goes}
 use Rattle.fkv_world.specs.World as world
@@ -362,7 +366,7 @@ opened_session w i start closed s step at idle sound got low awake saw = cc
 
 -- no flush rests as the store is opened
 opened_keeper : (w : GuardWorld) (k start closed : ℕ) (s : KeeperState) (step : Keeping) → s.step ≡ step → is_in_hand step ≡ false → is_flush_resting s.maintain ≡ false → IsSound w
-    → slice_get w.now.actors k ≡ Some (first_actor start closed) → slice_get w.now.actors (suc k) ≡ Some (first_actor start closed) → s.finish.sessions ≡ w.now.places.sessions → IsKept w k s
+    → slice_get w.now.actors k ≡ Some (first_actor start closed) → slice_get w.now.actors (suc k) ≡ Some (first_actor start closed) → OfStore w.now.places s → IsKept w k s
 opened_keeper w k start closed s (keeping.Ended told) at none awake sound got behind same =
     let calm : is_aside s ≡ false = ap (λ (step : Keeping). keeping_aside s step) at ∙ awake in
     record {
@@ -372,7 +376,7 @@ opened_keeper w k start closed s (keeping.Ended told) at none awake sound got be
         sound = sound;
         got = ap (λ (b : Bool). slice_get w.now.actors (actor_by k b)) calm ∙ got;
         fits = subst (λ (step : Keeping). Fits (likeness (record { read_only = start; head = closed }) (keeping_machine s step) (keeping_work s step)) (first_actor start closed)) (sym at) (record { machine = refl; work = refl; seen = refl; undecided = refl });
-        knows = record { sessions = same; its = subst (λ (step : Keeping). KeepingKnows (levels_of w.now.words) s step) (sym at) tt };
+        knows = record { sessions = same.0; loads = same.1; its = subst (λ (step : Keeping). KeepingKnows (levels_of w.now.words) s step) (sym at) tt };
       };
       aside = record {
         other = first_actor start closed;
@@ -394,6 +398,12 @@ first_own m = omega arith
 second_own : (m : ℕ) → suc m < suc (suc m)
 second_own m = omega arith
 
+-- a sweep that has nothing to go over has no search yet
+opened_reads : (s : KeeperState) → keepers.IsOpened s → IsReading s.sweep.finding
+opened_reads s opened =
+    let its = opened.none_swept in
+    subst (λ (w : Sweeper). IsReading w.finding) (sym its.2) (sweep_begun_loading its.0 its.1 s.last.begin s.last.begin).reads
+
 pub opening_shows : (n : Now) (start : ℕ) → IsOpened n start → Shows n (guard_opening n start)
 opening_shows n start opened =
     let w : GuardWorld = guard_opening n start in
@@ -412,7 +422,7 @@ opening_shows n start opened =
           opened_session w i start (levels_of n.words).closed s s.step refl its.none_in_hand sound (replicated (actor_count n) i first (later i k low)) low
           (one_some (own_epoch n.words i) (opened.words.epochs.awake i low)) (opened.seen i s at);
       keeper = opened_keeper w k start (levels_of n.words).closed n.keeper n.keeper.step refl opened.keeper.none_in_hand opened.keeper.none_flushed sound
-          (replicated (actor_count n) k first (first_own k)) (replicated (actor_count n) (suc k) first (second_own k)) opened.finishes;
+          (replicated (actor_count n) k first (first_own k)) (replicated (actor_count n) (suc k) first (second_own k)) (opened.finishes, opened_reads n.keeper opened.keeper);
     }
 
 -- so what the guard sees of a life shows it

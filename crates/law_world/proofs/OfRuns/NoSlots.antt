@@ -75,7 +75,7 @@ unfolding load_ask
 load_off p load.AtRest = tt
 load_off p step = tt
 
-find_off : (f : Finding) (step : FindStep) → IsOffSlots (find_step_ask f step)
+pub find_off : (f : Finding) (step : FindStep) → IsOffSlots (find_step_ask f step)
 unfolding find_step_ask
 find_off f find.AtRest = tt
 find_off f step = tt

@@ -1,6 +1,7 @@
 -- One event after another: one commit stands at each moment.
 use Rattle.std.proofs.Common.{◌≡◌, inl, inr, ℕ, ◌^◌, List, [], ◌∷◌, ◌++◌, Bool, true, false, refl, sym, ◌∙◌, ap, subst}
 use Rattle.std.specs.Prelude.{if◌then◌else◌, Option}
+use Rattle.std.specs.Option.{is_some}
 use Rattle.fkv_base.specs.declared.faults.Fault.TheVariants as fault
 use Rattle.fkv_base.specs.declared.shapes.Shape.{Shape}
 use Rattle.fkv_words.specs.PhaseWords.{phase_said}
@@ -24,8 +25,9 @@ use Rattle.fkv_maintain.specs.Parts.{IsServing}
 use Rattle.fkv_maintain.specs.Maintaining.{maintain_ask, maintaining_ask, maintain_next, maintain_given, maintaining_called, maintaining_calls}
 use Rattle.fkv_keeper.specs.declared.answers.KeeperTold.{KeeperTold}
 use Rattle.fkv_keeper.specs.declared.answers.KeeperTold.TheVariants.{Turned, TurnRefused, CommitRefused}
+use Rattle.fkv_sweep.specs.Sweeping.{sweep_ask, sweep_next, sweep_read}
 use Rattle.fkv_keeper.specs.declared.keepers.Keeping.{Keeping}
-use Rattle.fkv_keeper.specs.declared.keepers.Keeping.TheVariants.{Ended, Starts, Maintains, LoadsPhase, Enters, Copies, Seeks, Waits, Writes, Finishes}
+use Rattle.fkv_keeper.specs.declared.keepers.Keeping.TheVariants.{Ended, Starts, Maintains, LoadsPhase, Enters, Copies, Seeks, Waits, Writes, Finishes, Sweeps}
 use Rattle.fkv_keeper.specs.declared.last_commits.Checkpoint.{Checkpoint}
 use Rattle.fkv_keeper.specs.Keeping.{Finality, KeeperState, come_to, parts_begun, ended, copy_driven, commit_asked, turn_asked, maintain_ledto, keeping_next, keeping_given, keeping_called, copy_told, asked_for, serves_alone}
 use Rattle.fkv_keeper.specs.KeeperAsks.{keeping_calls}
@@ -39,7 +41,7 @@ use Rattle.law_world.specs.Standing.Standing.{Standing, is_at_writes, IsOneInFor
 use Rattle.law_world.proofs.OfStanding.Fronts.{Has}
 use Rattle.law_world.proofs.OfStanding.Flushed.{IsCalm, calm_left}
 use Rattle.law_world.proofs.OfStanding.Moments.{IsRefused, CopyKnown, CommitKnown, MaintainKnows, IsWritingNow, IsWrittenNow, IsBrokenNow, Along, Knows, IsSound, GoesTo, IsAt, IsAwake, along_awake, calm_rest, begun_knows, rest_left, rest_named, maintain_left, maintain_named, goes_between, goes_maintains, goes_broken}
-use Rattle.law_world.proofs.OfStanding.Stepped.{maintain_on, start_on, phase_on, enter_on, copy_on, seek_on}
+use Rattle.law_world.proofs.OfStanding.Stepped.{maintain_on, start_on, phase_on, enter_on, copy_on, seek_on, sweep_on}
 use Rattle.law_world.proofs.OfStanding.Turned.{replied, given, called, failed}
 use Rattle.law_world.proofs.OfStanding.Written.{IsUnderWay, under_way_stands, under_way_triples, written_stands}
 use Rattle.law_world.proofs.OfStanding.WritesStepped.{wait_on, write_on, finish_on}
@@ -90,6 +92,7 @@ module _ (shape : Shape) (p : Places) (opened : List ℕ) (buckets : p.buckets �
     goes_on_same Waits = refl
     goes_on_same Writes = refl
     goes_on_same Finishes = refl
+    goes_on_same Sweeps = refl
 
     refused_same : (step : Keeping) → IsRefused step → is_writing_after step was ≡ was
     refused_same (Ended (TurnRefused why)) refused = refl
@@ -109,6 +112,7 @@ module _ (shape : Shape) (p : Places) (opened : List ℕ) (buckets : p.buckets �
     same_standing Waits = refl
     same_standing Writes = refl
     same_standing Finishes = refl
+    same_standing Sweeps = refl
 
     stays_at : is_writing_after s.step was ≡ was → (step : Keeping) → s.step ≡ step → Shows step s w calls
     stays_at still step e =
@@ -149,6 +153,7 @@ module _ (shape : Shape) (p : Places) (opened : List ℕ) (buckets : p.buckets �
       reply_on Writes reply granted e turn = stays Writes e
       reply_on Finishes reply granted e turn =
           finish_on shape p opened buckets overflow s was its w calls is.copy is.commit works (finish_next s.finish reply) (finish_ask s.seek.points (finish_next s.finish reply)) e (knows_at Finishes e).0 (knows_at Finishes e).1
+      reply_on Sweeps reply granted e turn = sweep_on shape p opened s was its w calls Sweeps (at Sweeps e refl) (knows_at Sweeps e).1 (sweep_next s.sweep reply) (sweep_ask (sweep_next s.sweep reply)) tt
 
       -- an action
       given_on : (step : Keeping) (action : Action) → s.step ≡ step → Shows step (keeping_given shape p s step action) (writing_after step (Gets action) (keeping_given shape p s step action) w) calls
@@ -179,6 +184,10 @@ module _ (shape : Shape) (p : Places) (opened : List ℕ) (buckets : p.buckets �
       called_on Maintains done bytes e = turn_call s.maintain.step done bytes e refl (knows_at Maintains e).1
       called_on Writes done bytes e = write_on shape p opened buckets overflow s was its w calls is.copy is.commit works done e (knows_at Writes e).0 (knows_at Writes e).1
       called_on Waits done bytes e = stays Waits e
+      called_on Sweeps true bytes e = sweep_on shape p opened s was its w calls Sweeps (at Sweeps e refl) (knows_at Sweeps e).1 (sweep_read s.sweep bytes) (sweep_ask (sweep_read s.sweep bytes)) tt
+      called_on Sweeps false bytes e =
+          let calm = (knows_at Sweeps e).1 in
+          goes_broken shape p opened _ was its w _ (TurnRefused fault.Device) ((knows_at Sweeps e).0) refl tt refl is.commit is.copy calm.has.named (λ image left. calm_left shape opened s.last its calls image calm left)
       called_on step done bytes e = stays step e
 
       -- a turn or a commit is begun
@@ -322,7 +331,7 @@ module _ (shape : Shape) (p : Places) (opened : List ℕ) (buckets : p.buckets �
         -- they rest still
         rest_still : a.rests ≡ true → Rested
         rest_still is_resting =
-            let kept = rests_still shape p s event rests resting.rests resting.serves is_resting in
+            let kept = rests_still shape p s event rests (ap is_some resting.in_hand) resting.rests resting.serves is_resting in
             let still : is_writing_after a.step was ≡ true = ap (λ (b : Bool). is_writing_after a.step b) resting_now.0 ∙ writing_still a.step kept.rests in
             as_it_was (record {
               commit = known_commit kept.last kept.commit;

@@ -1,6 +1,6 @@
 -- What each step of the keeper leads to.
 use Rattle.std.proofs.Common.{◌≡◌, ℕ, List, [], ◌∷◌, Bool, true, false, refl, sym, subst, ◌∙◌, ap}
-use Rattle.std.specs.Prelude.{if◌then◌else◌, Option, Some, None, ◌||◌}
+use Rattle.std.specs.Prelude.{if◌then◌else◌, Option, Some, None, ◌||◌, ◌&&◌}
 use Rattle.fkv_base.specs.declared.faults.Fault.TheVariants as fault
 use Rattle.fkv_base.specs.declared.numbers.Addr.{Addr}
 use Rattle.fkv_base.specs.declared.phases.Phase.TheVariants as phase
@@ -25,9 +25,12 @@ use Rattle.fkv_commit.specs.Seeking.{SeekState, seek_begun}
 use Rattle.fkv_commit.specs.Starting.{StartState}
 use Rattle.fkv_keeper.specs.declared.answers.KeeperTold.{KeeperTold}
 use Rattle.fkv_keeper.specs.declared.answers.KeeperTold.TheVariants.{Turned, TurnRefused, Begun, CommitRefused}
+use Rattle.fkv_sweep.specs.declared.sweeping.SweepAnswer.{SweepAnswer}
+use Rattle.fkv_sweep.specs.declared.sweeping.SweepAnswer.TheVariants as swept
+use Rattle.fkv_sweep.specs.Sweeping.{Sweeper, is_sweeping}
 use Rattle.fkv_keeper.specs.declared.keepers.Keeping.{Keeping}
-use Rattle.fkv_keeper.specs.declared.keepers.Keeping.TheVariants.{Ended, Starts, Maintains, LoadsPhase, Enters, Copies, Seeks, Waits}
-use Rattle.fkv_keeper.specs.Keeping.{Finality, KeeperState, copied, copy_driven, points_known, ended, turned, unless_flush_rests, start_ledto, maintain_ledto, copies, part_begun, writes_taken_up, phase_ledto, enter_ledto, copy_ledto, seek_ledto, is_copy_resting}
+use Rattle.fkv_keeper.specs.declared.keepers.Keeping.TheVariants.{Ended, Starts, Maintains, LoadsPhase, Enters, Copies, Seeks, Waits, Sweeps}
+use Rattle.fkv_keeper.specs.Keeping.{Finality, KeeperState, copied, copy_driven, points_known, ended, turned, unless_flush_rests, start_ledto, maintain_ledto, copies, part_begun, writes_taken_up, phase_ledto, enter_ledto, copy_ledto, seek_ledto, sweep_ledto, sweeps_next, is_copy_resting}
 use Rattle.fkv_keeper.specs.KeeperRun.{Writing}
 use Rattle.fkv_maintain.specs.declared.maintaining.MaintainAnswer.{MaintainAnswer}
 use Rattle.fkv_maintain.specs.declared.maintaining.MaintainAnswer.TheVariants as maintain
@@ -112,6 +115,14 @@ module _ (shape : Shape) (p : Places) (opened : List ℕ) where
       copy_on reply (Done end) plain = on _ (Ended (Turned false s.is_drain_full)) tt refl now.works refl (copied_known s.last (is_copy_resting (copy_driven s.copy reply)) s.commit now.commit) (driven_known s.copy reply now.copy)
       copy_on reply ask plain = on _ step plain now.at now.works refl now.commit (driven_known s.copy reply now.copy)
 
+      sweeps_on : (granted : Bool) → Goes (sweeps_next s granted)
+      sweeps_on granted = either_on (granted && is_sweeping s.sweep) _ _ (on _ Sweeps tt refl now.works refl now.commit now.copy) (on _ (Ended (Turned false s.is_drain_full)) tt refl now.works refl now.commit now.copy)
+
+      pub sweep_on : (x : Sweeper) (ask : Ask SweepAnswer) → IsPlain step → Goes (sweep_ledto (record s { sweep = x }) ask)
+      unfolding sweep_ledto
+      sweep_on x (Done swept.Through) plain = on _ (Ended (Turned false s.is_drain_full)) tt refl now.works refl now.commit now.copy
+      sweep_on x ask plain = on _ step plain now.at now.works refl now.commit now.copy
+
       pub seek_on : (x : SeekState) (ask : Ask SeekAnswer) → IsPlain step → Goes (seek_ledto (record s { seek = x }) ask)
       unfolding seek_ledto
       seek_on x (Done (seek.Taken end epoch)) plain = on _ (Ended (Turned false s.is_drain_full)) tt refl now.works refl (points_still_known s.last s.commit end epoch now.commit) now.copy
@@ -134,9 +145,6 @@ module _ (shape : Shape) (p : Places) (opened : List ℕ) where
       start_on x (Done start.Idle) plain turn = between _ (Ended (CommitRefused fault.CommitRunning)) tt refl now.works refl refl now.commit now.copy
       start_on x ask plain turn = between _ step plain now.at now.works refl refl now.commit now.copy
 
-      over : Goes (turned s)
-      over = between _ (Ended (Turned false s.is_drain_full)) tt refl now.works refl refl now.commit now.copy
-
       lets : (granted : Bool) → Goes (turned (record s { is_granted = granted }))
       lets granted = between _ (Ended (Turned false s.is_drain_full)) tt refl now.works refl refl now.commit now.copy
 
@@ -144,9 +152,13 @@ module _ (shape : Shape) (p : Places) (opened : List ℕ) where
       lets_part c said granted true e = lets granted
       lets_part c said granted false e = part_on (awake_calm shape p opened s.last its calls s.maintain.flushing e knows) c said granted
 
+      lets_sweep : (granted rests : Bool) → is_sync_due s.maintain.flushing ≡ rests → Goes (if rests then turned (record s { is_granted = granted }) else sweeps_next s granted)
+      lets_sweep granted true e = lets granted
+      lets_sweep granted false e = sweeps_on (awake_calm shape p opened s.last its calls s.maintain.flushing e knows) granted
+
       pub phase_on : (found : Option Commit) (said : PhaseSaid) (granted : Bool) → Goes (phase_ledto p s found said granted)
       unfolding phase_ledto
-      phase_on None said granted = either_on (is_sync_due s.maintain.flushing) _ _ (lets granted) over
+      phase_on None said granted = lets_sweep granted (is_sync_due s.maintain.flushing) refl
       phase_on (Some c) said granted = by s.rests now.works.1
         where
           by : (rests : Bool) → rests ≡ false → Goes (if rests then writes_taken_up s granted else unless_flush_rests s granted (part_begun p s c said granted))

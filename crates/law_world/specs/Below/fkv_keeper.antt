@@ -9,6 +9,7 @@ pub use Rattle.fkv_keeper.specs.LastCommits
 pub use Rattle.fkv_keeper.specs.NewKeepers
 pub use Rattle.fkv_keeper.specs.Running
 pub use Rattle.fkv_keeper.specs.SlotLaws
+pub use Rattle.fkv_keeper.specs.SweepLaws
 pub use Rattle.fkv_keeper.specs.declared.answers.Finished
 pub use Rattle.fkv_keeper.specs.declared.answers.KeeperAsk
 pub use Rattle.fkv_keeper.specs.declared.answers.KeeperTold

@@ -1,5 +1,6 @@
 -- What the guard has of the keeper, by what it is at: the machine of the epochs and the work of the machine inside that is under way, and what is known of it.
 use Rattle.std.specs.Prelude.{◌≡◌, Option, None, ⊤}
+use Rattle.fkv_index.proofs.Shown.{IsReading}
 use Rattle.fkv_plane.specs.declared.places.Places.{Places}
 use Rattle.fkv_epoch.specs.EpochWorld.{EpochMachine}
 use Rattle.fkv_flush.specs.GuardLevels.{Levels}
@@ -35,7 +36,11 @@ KeepingKnows l s keeping.Seeks = SeekKnows l s.seek s.seek.step
 KeepingKnows l s keeping.Finishes = FinishKnows s.finish s.finish.step
 KeepingKnows l s step = ⊤
 
--- It finishes commits of as many sessions as the store has.
+-- It finishes commits of as many sessions as the store has, and the search inside its sweep is one for a read.
+abbrev pub OfStore : Places → KeeperState → Type 0
+OfStore p s = (s.finish.sessions ≡ p.sessions) × IsReading s.sweep.finding
+
 pub record KeeperKnows (l : Levels) (p : Places) (s : KeeperState) : Type 0 where
   pub sessions : s.finish.sessions ≡ p.sessions
+  pub loads : IsReading s.sweep.finding
   pub its : KeepingKnows l s s.step

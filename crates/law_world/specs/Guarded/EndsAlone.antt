@@ -1,7 +1,7 @@
 -- The keeper moves alone, and how many asks a call of a session and one of the keeper have at most.
 use Rattle.std.specs.Prelude.{⊤, ℕ, ◌+◌, List, [], ◌∷◌}
 use Rattle.fkv_base.specs.declared.shapes.Shape.{Shape}
-use Rattle.fkv_keeper.specs.KeeperAsks.{most_part_asks}
+use Rattle.fkv_keeper.specs.KeeperAsks.{most_behind_phase}
 use Rattle.fkv_keeper.specs.Keeping.{KeeperState}
 use Rattle.fkv_maintain.specs.AsksLeft.{most_maintain_asks}
 use Rattle.fkv_map.specs.declared.operations.Call.TheVariants.{Poll}
@@ -22,6 +22,6 @@ AreKeeperMoves (event ∷ before) = IsKeeperMove event × AreKeeperMoves before
 abbrev pub most_session_asks : Shape → ℕ
 most_session_asks shape = call_bound shape Poll
 
--- nor one of the keeper more than a turn, by the sessions of which it seeks the points and finishes commits
+-- nor one of the keeper more than a turn, by the sessions of which it seeks the points and finishes commits, and by the index that a sweep searches
 abbrev pub most_keeper_asks : Shape → Places → KeeperState → ℕ
-most_keeper_asks shape p s = most_maintain_asks shape + (most_part_asks s.seek.sessions s.finish.sessions + 1)
+most_keeper_asks shape p s = most_maintain_asks shape + (most_behind_phase s.sweep.places s.seek.sessions s.finish.sessions + 1)

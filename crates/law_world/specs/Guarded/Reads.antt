@@ -1,5 +1,5 @@
 -- Lives in which a read of the device gives anything. So it may be if the device isn't honest, as a file.
-use Rattle.std.specs.Prelude.{◌≡◌, ⊤, ℕ, List, [], ◌∷◌, ◌++◌}
+use Rattle.std.specs.Prelude.{◌≡◌, ⊤, ℕ, List, [], ◌∷◌}
 use Rattle.fkv_flush.specs.GuardWorld.{GuardWorld, guard_run}
 use Rattle.fkv_world.specs.Runs.{World, read_by_keeper, run}
 use Rattle.fkv_world.specs.World.{Event, Now, happens_now}

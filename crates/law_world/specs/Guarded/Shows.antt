@@ -20,7 +20,7 @@ use Rattle.fkv_world.specs.Runs.{World, run}
 use Rattle.law_world.specs.Guarded.GuardEvents.{mapped, keeper_number, actor_count}
 
 -- The store was just opened, with its records' end at `start`: its words and places are as the guard has them then, the drain slots are empty, each session is
--- as its store was opened and has seen where the records end, and so is the keeper, which finishes commits for as many sessions as the store has.
+-- as its store was opened and has seen where the records end, and so is the keeper, which finishes commits for as many sessions as the store has, and sweeps its records.
 pub record IsOpened (n : Now) (start : ℕ) : Type 0 where
   pub words : guard.IsOpened n.shape n.places (actor_count n) n.words start
   pub buckets : n.places.buckets ≡ 2 ^ n.shape.bucket_bits
@@ -30,6 +30,7 @@ pub record IsOpened (n : Now) (start : ℕ) : Type 0 where
   pub seen : (number : ℕ) (s : SessionState) → slice_get n.sessions number ≡ Some s → last_seen s.seen ≡ record { read_only = start; head = (levels_of n.words).closed }
   pub keeper : keeper.IsOpened n.keeper
   pub finishes : n.keeper.finish.sessions ≡ n.places.sessions
+  pub sweeps : (n.keeper.sweep.shape ≡ n.shape) × (n.keeper.sweep.places ≡ n.places)
 
 -- a session sits at the guard's actor of its number
 pub record IsSeated (w : GuardWorld) (number : ℕ) (s : SessionState) : Type 0 where

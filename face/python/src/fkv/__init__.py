@@ -24,11 +24,11 @@ from .errors import (AlreadyOpen, Asleep, BadShape, Broken, Closed, Damaged, Dev
                      NoMemory, NoRight, NoSession, NotAStore, PendingLeft, Spent, ValueReserved)
 from .session import Session
 from .sizes import Shape, Size, Wish, shape_for, size_of
-from .store import Commit, Keeping, Progress, Stats, Store, Ticket, make_file, open, renew_file
+from .store import LOG_KEEPS, Commit, Keeping, Progress, Stats, Store, Ticket, make_file, open, renew_file
 
 __version__ = "0.1.0"
 __all__ = [
     "ABSENT", "AlreadyOpen", "Asleep", "BadShape", "Broken", "Closed", "Commit", "Damaged", "DeviceError", "Error", "Fault", "FileThere", "Full",
-    "InUse", "Keeping", "NoFile", "NoKeeper", "NoMemory", "NoRight", "NoSession", "NotAStore", "PendingLeft", "Progress", "Session", "Shape", "Size",
+    "InUse", "Keeping", "LOG_KEEPS", "NoFile", "NoKeeper", "NoMemory", "NoRight", "NoSession", "NotAStore", "PendingLeft", "Progress", "Session", "Shape", "Size",
     "Spent", "Stats", "Store", "Ticket", "ValueReserved", "Wish", "formats", "make_file", "open", "renew_file", "shape_for", "size_of", "version",
 ]

@@ -52,6 +52,7 @@ PROGRESS = CFUNCTYPE(None, c_void_p, POINTER(CProgress))
 COMMITTED = CFUNCTYPE(None, c_void_p, c_uint64, WORD, c_size_t)
 STOPPED = CFUNCTYPE(None, c_void_p, c_int32, use_errno=True)
 UNWARMED = CFUNCTYPE(None, c_void_p)
+UNTRIMMED = CFUNCTYPE(None, c_void_p, c_int32)
 PAIR = CFUNCTYPE(c_int32, c_void_p, c_uint64, c_uint64)
 
 
@@ -70,11 +71,12 @@ class CHow(Structure):
 
 class CKeeping(Structure):
     _fields_ = [("commit_ms", c_uint32), ("log_commits", c_uint32), ("turn_us", c_uint32), ("committed", COMMITTED), ("progress", PROGRESS),
-                ("user", c_void_p), ("stopped", STOPPED), ("unwarmed", UNWARMED), ("no_warmer", c_uint32)]
+                ("user", c_void_p), ("stopped", STOPPED), ("unwarmed", UNWARMED), ("no_warmer", c_uint32),
+                ("log_bytes", c_uint64), ("untrimmed", UNTRIMMED)]
 
 
 STATS = ("commits", "commits_left", "commit_us", "commit_bytes", "in_hand_us", "late", "joined", "abandoned", "turns", "helped", "cold_reads",
-         "fetched", "kept", "file_bytes", "begin", "head", "flushed", "read_only", "tail", "overflow", "entries")
+         "fetched", "kept", "file_bytes", "disk_bytes", "swept", "begin", "head", "flushed", "read_only", "tail", "overflow", "entries")
 REASONS = 6
 
 

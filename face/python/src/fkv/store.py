@@ -47,6 +47,10 @@ class Commit:
     points: tuple[int, ...]
 
 
+# In place of `log_bytes` of Keeping: nothing of the log is given back.
+LOG_KEEPS = 2**64 - 1
+
+
 @dataclass(frozen=True)
 class Keeping:
     """How the keeper's thread goes. Its hooks are called in that thread, and make no call of the store: keep them short."""
@@ -59,6 +63,8 @@ class Keeping:
     stopped: Optional[Callable[[Error], None]] = None  # once, as commits end for good, or the log is full
     unwarmed: Optional[Callable[[], None]] = None  # once, if memory can't be kept warm in this store
     warms: bool = True  # memory is kept warm, if it can be
+    log_bytes: int = 0  # the log's front is given back if it is longer; 0: than twice the records of all keys, a megabyte at least; LOG_KEEPS: never
+    untrimmed: Optional[Callable[[int], None]] = None  # once, if it can't be: by errno, or 0 where the store has no session for it; EAGAIN: if the log grows faster
 
 
 @dataclass(frozen=True)
@@ -79,6 +85,8 @@ class Stats:
     fetched: int
     kept: int
     file_bytes: int
+    disk_bytes: int
+    swept: int
     begin: int
     head: int
     flushed: int
@@ -182,6 +190,7 @@ class Store:
         how = keeping or Keeping()
         committed, progress, stopped = (_hook(self._thread, it) for it in (how.committed, how.progress, how.stopped))
         unwarmed = _hook(self._thread, how.unwarmed and (lambda _: how.unwarmed()))
+        untrimmed = _hook(self._thread, how.untrimmed)
 
         def tell_commit(_: Any, number: int, points: Any, sessions: int) -> None:
             committed(Commit(number, tuple(points[:sessions])))
@@ -189,10 +198,14 @@ class Store:
         def tell_end(_: Any, result: int) -> None:
             stopped(error_of(result))
 
+        def tell_untrimmed(_: Any, why: int) -> None:
+            untrimmed(why)
+
         its = native.CKeeping(
             how.commit_ms, how.log_commits, how.turn_us, native.COMMITTED(tell_commit) if committed else native.COMMITTED(),
             _progress(progress), None, native.STOPPED(tell_end) if stopped else native.STOPPED(),
-            native.UNWARMED(unwarmed) if unwarmed else native.UNWARMED(), int(not how.warms))
+            native.UNWARMED(unwarmed) if unwarmed else native.UNWARMED(), int(not how.warms), how.log_bytes,
+            native.UNTRIMMED(tell_untrimmed) if untrimmed else native.UNTRIMMED())
         with self._held() as at:
             result = lib.fkv_start(at, its)
             if result == -Fault.HANDLE_TAKEN:

@@ -38,5 +38,6 @@ returns-in_default c =
     let first : beside c.perform-reply.new.self between.state ≡ keeper_replied k.shape k.places granted n ask = search rules in
     record {
       store = search rules;
+      no_sweep = λ sweeps. c.go_on-next.ensures.no_sweep (c.settle.ensures.no_sweep sweeps);
       moved = (granted, λ done read. two_steps k.shape between.shape k.places between.places n (beside c.perform-reply.new.self between.state) (beside c.settle.new.words c.settle.new.keeper.state) granted done read ask asked word same also first (c.settle.ensures.next granted));
     }

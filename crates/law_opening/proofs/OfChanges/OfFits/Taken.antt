@@ -1,10 +1,8 @@
 -- What an attempt takes from its session's mailbox fits in words, since it was read where a record was there.
-use Rattle.std.proofs.Common.{◌≡◌, ℕ, ◌^◌, ◌<◌, ◌∙◌, arith, inl, inr, refl, sym, ap, subst, true, false, List, ◌∷◌, ◌++◌}
+use Rattle.std.proofs.Common.{◌≡◌, ℕ, ◌^◌, ◌<◌, ◌≤◌, ◌∙◌, arith, inl, inr, refl, sym, ap, subst, true, false, List, ◌∷◌, ◌++◌}
 use Rattle.std.specs.Prelude.{Some, slice_get}
 use Rattle.fkv_base.specs.declared.numbers.Addr.{Addr}
-use Rattle.law_refine.proofs.Below.fkv_keeper.Shown.{run_begins}
-use Rattle.law_refine.proofs.Below.law_world.OfKeeper.OwnRun.{of_keeper}
-use Rattle.law_refine.specs.Below.fkv_keeper.SlotLaws.{BeginsAt}
+use Rattle.law_refine.proofs.Below.law_world.OfKeeper.OwnRun.{keeper_begins}
 use Rattle.law_refine.specs.Below.fkv_ops.HeaderWords.{header_said}
 use Rattle.law_refine.specs.Below.fkv_ops.TryAnswer.TheVariants as answer
 use Rattle.law_refine.specs.Below.fkv_pending.Attempting.{attempting_ask}
@@ -20,7 +18,6 @@ use Rattle.fkv_plane.specs.declared.asks.Ask.TheVariants.{Done}
 use Rattle.law_refine.specs.Below.fkv_session.Sessions.{SessionState, session_ask}
 use Rattle.law_refine.specs.Below.fkv_session.Sitting.{Sitting}
 use Rattle.law_refine.specs.Below.fkv_session.Sitting.TheVariants.{Attempts, Polls}
-use Rattle.law_refine.specs.Below.fkv_world.OwnEvents.{keeper_events}
 use Rattle.law_refine.specs.Below.fkv_world.Runs.{World, run}
 use Rattle.law_refine.specs.Below.fkv_world.World.{Event, Now, seat_at}
 use Rattle.law_opening.proofs.OfChanges.OfDevice.There.{CallsLaw, read_ok}
@@ -34,6 +31,7 @@ use Rattle.law_opening.proofs.OfChanges.OfSessions.Attempting.{attempt_reply}
 use Rattle.law_opening.specs.Changes.Laws.{BeginsFitting, begin_at}
 use Rattle.law_refine.specs.Below.law_local.Sessions.Known.{is_attempting}
 use Rattle.law_log.specs.Ghosts.{Ghosts, Log}
+use Rattle.law_refine.proofs.OfMail.GoneTold.{begin_above}
 use Rattle.law_refine.proofs.OfMail.Takes.{takes_read}
 use Rattle.law_refine.specs.Mail.MailEvents.{record_gone}
 use Rattle.law_refine.specs.Mail.Mailers.{attempt_mailing, sitting_mailing}
@@ -47,23 +45,23 @@ looks_by s (Polls index) attempts at = ap (attempt_mailing s.attempt) at
 looks_by s step attempts at = cc
 
 module _ (opening : World) (start : ℕ) (lists : ℕ → List ℕ) (ghosts : Ghosts) (begins : BeginsFitting opening start lists ghosts) (calls : CallsLaw) (words : WordsLaw) where
-  -- the keeper goes by the begin that the log was opened with
-  its_begin : (events : List Event) → begin_of (run opening events).now.keeper ≡ begin_at opening.now
+  -- the keeper goes by a begin that is no lower than the one that the log was opened with
+  its_begin : (events : List Event) → begin_at opening.now ≤ begin_of (run opening events).now.keeper
   its_begin events =
-      let begin : BeginsAt opening.now.keeper.last.begin (run opening events).now.keeper =
-      of_keeper (λ s. BeginsAt opening.now.keeper.last.begin s) opening events (run_begins opening.now.shape opening.now.places opening.now.keeper (keeper_events opening events) begins.linked.world.keeper) in
-      ap (λ (a : Addr). a.0) begin.serves
+      let serves = ap (λ (a : Addr). a.0) (keeper_begins opening events begins.linked.world).serves in
+      let above = begin_above opening events begins.linked.world in
+      omega (arith, serves, above)
 
-  -- so whoever is told that a record is gone is told that
+  -- so whoever is told that a record is gone is told such a one
   gone_ok : (session : ℕ) (events : List Event) (addr : Addr) (its : MailRecord) (asked : List MailNote) → GoneSince opening session events addr its asked
       → RecordOk (begin_at opening.now) (log_at opening ghosts events) (flushed_at opening events) its (header_said its.header)
   gone_ok session events addr its asked gone =
       let told : MailRecord = record_gone (begin_of (run opening gone.earlier).now.keeper) in
       let log : Log = log_at opening ghosts events in
       let flushed : ℕ = flushed_at opening events in
-      let same = its_begin gone.earlier in
+      let above = its_begin gone.earlier in
       subst (λ (x : MailRecord). RecordOk (begin_at opening.now) log flushed x (header_said x.header)) (sym gone.gives)
-      (small, (subst (SaysThere (begin_at opening.now) log flushed) (sym (gone_says told.header refl)) tt, λ none. omega (arith, same)))
+      (small, (subst (SaysThere (begin_at opening.now) log flushed) (sym (gone_says told.header refl)) tt, λ none. above))
     where
       small : 0 < 2 ^ 64
       small = omega arith

@@ -1,11 +1,12 @@
 -- What the log and the slot of an image are to `law_paper`.
-use Rattle.std.proofs.Common.{◌≡◌, ◌∙◌, ℕ, ◌<◌, ◌≤◌, arith, ap, List}
-use Rattle.fkv_base.specs.declared.numbers.Addr.{Addr}
+use Rattle.std.proofs.Common.{◌≡◌, ℕ, ◌<◌, ◌≤◌, arith, ap, sym, subst, List}
 use Rattle.law_opening.specs.Below.fkv_opening.TheOpened.{Opened}
 use Rattle.fkv_record.specs.Manifest.{SlotSaid}
 use Rattle.fkv_record.specs.declared.triples.Triple.{Triple}
 use Rattle.law_opening.specs.Below.fkv_scan.Log as scan
 use Rattle.law_commit.specs.Below.fkv_world.World.{Event, Now}
+use Rattle.law_commit.specs.BegunCommits.{BegunCommit}
+use Rattle.law_log.specs.Begins.{LiveUpto}
 use Rattle.law_log.specs.Chains.{Cell}
 use Rattle.law_log.specs.Ghosts.{Log}
 use Rattle.law_order.specs.Decided.Cut.{NamesEnd}
@@ -48,9 +49,21 @@ starts_some o n bytes events image names triples =
     let first = ap (λ (s : SlotSaid). s.first.0) says.said in
     omega (arith, some, first)
 
--- its log begins where that of the opened store does
-pub begins_as_opened : (o : Opened) (n : Now) (bytes : List ℕ) (events : List Event) (image : List ℕ) (names : NamesNew o n bytes events image) (triples : List Triple) → (let log = log_named names triples in log.begin ≡ o.begin.0)
-begins_as_opened o n bytes events image names triples =
+-- its log begins where the commit's does: where that of the opened store does, or further on
+pub begins_there : (o : Opened) (n : Now) (bytes : List ℕ) (events : List Event) (image : List ℕ) (names : NamesNew o n bytes events image) (triples : List Triple)
+    → (let log = log_named names triples in let c = names.commit in log.begin ≡ c.parts.begin.0)
+begins_there o n bytes events image names triples =
+    let says = names.says in
+    ap (λ (s : SlotSaid). s.begin.0) says.said
+
+pub begins_on : (o : Opened) (n : Now) (bytes : List ℕ) (events : List Event) (image : List ℕ) (names : NamesNew o n bytes events image) (triples : List Triple) → (let log = log_named names triples in o.begin.0 ≤ log.begin)
+begins_on o n bytes events image names triples =
     let says = names.says in
     let fits = says.fits in
-    ap (λ (s : SlotSaid). s.begin.0) says.said ∙ ap (λ (a : Addr). a.0) fits.begins
+    let on = fits.begins in
+    let there = begins_there o n bytes events image names triples in
+    omega (arith, on, there)
+
+-- so the log does without what lies below the image's begin, in the versions up to the image's
+pub live_there : (home : ℕ → ℕ) (image : scan.Log) (c : BegunCommit) (g : Log) → NamesEnd image c → image.begin ≡ c.parts.begin.0 → LiveUpto c.number.0 c.parts.begin.0 home g → LiveUpto image.version image.begin home g
+live_there home image c g names begin live = subst (λ (v : ℕ). LiveUpto v image.begin home g) (sym names.version) (subst (λ (b : ℕ). LiveUpto c.number.0 b home g) (sym begin) live)

@@ -76,12 +76,12 @@ module _ (o : Opened) (n : Now) (bytes : List ℕ) (events : List Event) (image 
       ap (λ (x : SlotSaid). x.first.0) says.said
       ∙ (ap (λ (x : Checkpoint). x.first.0) used ∙ (ap (λ (f : Finality). f.checkpoint.first.0) leaves.begins.its_keeper.newest ∙ ap (λ (a : Addr). a.0) store.tells.first))
 
-  -- a commit of this life has the begin of the opening
+  -- a commit of this life that uses the opening's checkpoint has its begin
   begin : slot.begin.0 ≡ old.begin.0
   begin =
       let says = names.says in
       let fits = says.fits in
-      ap (λ (x : SlotSaid). x.begin.0) says.said ∙ ap (λ (a : Addr). a.0) (fits.begins ∙ store.tells.begin)
+      ap (λ (x : SlotSaid). x.begin.0) says.said ∙ ap (λ (a : Addr). a.0) (fits.begins_as_opened used ∙ store.tells.begin)
 
   checkpoint : slot.checkpoint ≡ old.checkpoint
   checkpoint =

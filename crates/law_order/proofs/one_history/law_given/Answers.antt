@@ -17,4 +17,8 @@ returns c = record {
   begun = c.law_begun.ensures.begun;
   ended = c.law_commits_ended.ensures;
   later = c.law_commits_cut.ensures.later;
+  stays = c.law_live_stays.ensures.stays;
+  versions = c.law_live_stays.ensures.versions;
+  rest = c.law_live_stays.ensures.rest;
+  cells = c.law_versions_bounded.ensures.cells;
 }

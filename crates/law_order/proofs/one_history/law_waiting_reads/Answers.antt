@@ -1,6 +1,6 @@
--- The law, by those of its parts.
+-- The law, while the log begins where it did at first.
 use Rattle.law_order.proofs.OfRules.WaitingInTime.{waiting_reads}
 use Rattle.law_order.proofs.one_history.law_waiting_reads.Goals as goal
 
 pub returns : goal.returns
-returns c = waiting_reads c.law_life_begins.ensures c.law_lives_keep_order.ensures c.law_lives_seek.ensures c.law_history_beside.ensures
+returns c = waiting_reads c.law_life_begins.ensures c.law_untold_reads.ensures

@@ -1,5 +1,5 @@
 -- Behind an action that it has put a defer goes on: it arms the slot. So do the parts of a commit that defer.
-use Rattle.std.proofs.Common.{◌≡◌, ℕ, ◌+◌, ◌∙◌, ◌++◌, ◌∷◌, [], refl, ap, sym, subst, Bool, true, false, length}
+use Rattle.std.proofs.Common.{◌≡◌, ℕ, ◌+◌, ◌∙◌, refl, ap, sym, subst, Bool, true, false, length}
 use Rattle.std.specs.Prelude.{not, ⊤, nat_lt, nat_le, ◌==◌, max, if◌then◌else◌}
 use Rattle.fkv_base.specs.declared.numbers.Addr.{Addr}
 use Rattle.fkv_base.specs.declared.numbers.Version.{Version}

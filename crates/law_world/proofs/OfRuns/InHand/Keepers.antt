@@ -1,6 +1,6 @@
 -- Behind an action that it has put, or been given, the keeper's call is in hand still.
 use Rattle.std.proofs.Common.{◌≡◌, ℕ, refl, ap, sym, subst, Bool, true, false, List, [], ◌∷◌}
-use Rattle.std.specs.Prelude.{⊤, Option, Some, None, if◌then◌else◌, ◌||◌}
+use Rattle.std.specs.Prelude.{⊤, Option, Some, None, if◌then◌else◌, ◌||◌, ◌&&◌}
 use Rattle.fkv_base.specs.declared.phases.Phase.TheVariants as phase
 use Rattle.fkv_base.specs.declared.shapes.Shape.{Shape}
 use Rattle.fkv_words.specs.declared.phase_words.PhaseSaid.{PhaseSaid}
@@ -36,6 +36,11 @@ use Rattle.fkv_commit.specs.Finishing.{finish_ask, finish_next, finishing_ask}
 use Rattle.fkv_commit.specs.Seeking.{seek_ask, seek_begun, seek_next}
 use Rattle.fkv_commit.specs.Starting.{start_ask, start_next}
 use Rattle.fkv_commit.specs.Waiting.{wait_ask, wait_begun, wait_next, waiting_ask}
+use Rattle.fkv_sweep.specs.declared.sweeping.SweepAnswer.{SweepAnswer}
+use Rattle.fkv_sweep.specs.declared.sweeping.SweepAnswer.TheVariants as swept
+use Rattle.fkv_sweep.specs.declared.sweeping.Sweeping.{Sweeping}
+use Rattle.fkv_sweep.specs.declared.sweeping.Sweeping.TheVariants as sweeping
+use Rattle.fkv_sweep.specs.Sweeping.{Sweeper, is_sweeping, sweep_ask, sweep_next, sweep_read, sweeping_ask}
 use Rattle.fkv_manifest.specs.declared.answers.WriteAnswer.{WriteAnswer}
 use Rattle.fkv_manifest.specs.declared.answers.WriteAnswer.TheVariants as write
 use Rattle.fkv_manifest.specs.Committing.{commit_answer, commit_next}
@@ -45,12 +50,12 @@ use Rattle.fkv_maintain.specs.Maintaining.{maintain_ask, maintain_called, mainta
 use Rattle.fkv_keeper.specs.declared.answers.KeeperTold.{KeeperTold}
 use Rattle.fkv_keeper.specs.declared.answers.KeeperTold.TheVariants.{Device}
 use Rattle.fkv_keeper.specs.declared.keepers.Keeping.{Keeping}
-use Rattle.fkv_keeper.specs.declared.keepers.Keeping.TheVariants.{Ended, Starts, Maintains, LoadsPhase, Enters, Copies, Seeks, Waits, Writes, Finishes}
+use Rattle.fkv_keeper.specs.declared.keepers.Keeping.TheVariants.{Ended, Starts, Maintains, LoadsPhase, Enters, Copies, Seeks, Waits, Writes, Finishes, Sweeps}
 use Rattle.fkv_keeper.specs.KeeperRun.{KeeperEvent, BeginsTurn, BeginsCommit, Replies, Gets, Calls, begins, is_in_hand, keeper_happens, keeper_run}
-use Rattle.fkv_keeper.specs.Keeping.{must_rest, parts_begun, KeeperState, commit_asked, copies, copies_next, copy_asked, copy_driven, copy_ledto, device_passed, enter_ledto, finish_ledto, finished, keeper_ask, keeper_next, keeping_ask, keeping_called, keeping_given, keeping_next, maintain_ledto, part_begun, phase_ledto, seek_ledto, start_ledto, turn_asked, turn_over, turned, wait_ledto, write_asked, write_ledto, writes_begun, is_copy_resting, serves_alone}
+use Rattle.fkv_keeper.specs.Keeping.{must_rest, parts_begun, KeeperState, commit_asked, copies, copies_next, copy_asked, copy_driven, copy_ledto, device_passed, enter_ledto, finish_ledto, finished, keeper_ask, keeper_next, keeping_ask, keeping_called, keeping_given, keeping_next, maintain_ledto, part_begun, phase_ledto, seek_ledto, start_ledto, sweep_ledto, sweep_passed, turn_asked, turn_over, turned, wait_ledto, write_asked, write_ledto, writes_begun, is_copy_resting, serves_alone}
 use Rattle.fkv_world.specs.Actors.{slot_asked, slot_of_step}
 use Rattle.fkv_world.specs.Moves.{Near, keeper_asks, keeper_gets, keeper_replied, keeper_settled}
-use Rattle.law_world.proofs.OfRuns.NoSlots.{IsOffSlots, passed_off}
+use Rattle.law_world.proofs.OfRuns.NoSlots.{IsOffSlots, find_off, passed_off}
 use Rattle.law_world.proofs.OfRuns.InHand.Asks.{AtSlot, at_more, off_at, passed_at}
 use Rattle.law_world.proofs.OfRuns.InHand.Defers.{EnterNow, SeekNow, StartNow, enter_at, enter_fits, owing_fits, seek_at, seek_fits, start_at, start_fits}
 use Rattle.law_world.proofs.OfRuns.InHand.Turns.{MaintainNow, begun_now, serving_now, maintain_called_now, maintain_given_now, maintain_next_now}
@@ -104,7 +109,7 @@ part_now shape p s c said granted = tt
 
 phased : (shape : Shape) (p : Places) (s : KeeperState) (c : Option Commit) (said : PhaseSaid) (granted : Bool) → KeeperNow shape p (phase_ledto p s c said granted)
 unfolding phase_ledto
-phased shape p s None said granted = either shape p (is_flush_resting s.maintain) _ _ tt tt
+phased shape p s None said granted = either shape p (is_flush_resting s.maintain) _ _ tt (either shape p (granted && is_sweeping s.sweep) _ _ tt tt)
 phased shape p s (Some c) said granted = either shape p s.rests _ _ (either shape p granted _ _ tt tt) (either shape p (is_flush_resting s.maintain) _ _ tt (part_now shape p s c said granted))
 
 entered : (shape : Shape) (p : Places) (s : KeeperState) (ask : Ask EnterAnswer) → s.step ≡ Enters → EnterNow s.enter → KeeperNow shape p (enter_ledto s ask)
@@ -149,6 +154,11 @@ unfolding finish_ledto
 finishes shape p s (Done its) at = ends shape p s s.commit
 finishes shape p s ask at = there shape p s Finishes at tt
 
+sweeps : (shape : Shape) (p : Places) (s : KeeperState) (ask : Ask SweepAnswer) → s.step ≡ Sweeps → KeeperNow shape p (sweep_ledto s ask)
+unfolding sweep_ledto
+sweeps shape p s (Done swept.Through) at = tt
+sweeps shape p s ask at = there shape p s Sweeps at tt
+
 next_now : (shape : Shape) (p : Places) (s : KeeperState) (step : Keeping) (reply : ℕ) (granted : Bool) → s.step ≡ step → Fits shape p s step → KeeperNow shape p (keeping_next shape p s step reply granted)
 unfolding keeping_next
 next_now shape p s (Ended its) reply granted at now = there shape p s (Ended its) at tt
@@ -161,6 +171,7 @@ next_now shape p s Seeks reply granted at now = sought shape p (record s { seek 
 next_now shape p s Waits reply granted at now = waited shape p (record s { wait = wait_next s.wait reply }) _ at
 next_now shape p s Writes reply granted at now = there shape p s Writes at tt
 next_now shape p s Finishes reply granted at now = finishes shape p (record s { finish = finish_next s.finish reply }) _ at
+next_now shape p s Sweeps reply granted at now = sweeps shape p (record s { sweep = sweep_next s.sweep reply }) _ at
 
 given_now : (shape : Shape) (p : Places) (s : KeeperState) (step : Keeping) (action : Action) → s.step ≡ step → Fits shape p s step → KeeperNow shape p s → KeeperNow shape p (keeping_given shape p s step action)
 unfolding keeping_given
@@ -179,6 +190,8 @@ unfolding keeping_called
 called_now shape p s Maintains done bytes at fits now = maintained shape p (record s { maintain = maintain_called shape p s.maintain done bytes }) _ at (maintain_called_now shape p s.maintain done bytes fits)
 called_now shape p s Writes true bytes at fits now = written shape p (record s { writes = commit_next s.writes true }) s.commit (commit_answer (commit_next s.writes true)) at
 called_now shape p s Writes false bytes at fits now = tt
+called_now shape p s Sweeps true bytes at fits now = sweeps shape p (record s { sweep = sweep_read s.sweep bytes }) (sweep_ask (sweep_read s.sweep bytes)) at
+called_now shape p s Sweeps false bytes at fits now = tt
 called_now shape p s step done bytes at fits now = now
 
 begins_now : (shape : Shape) (p : Places) (s t : KeeperState) (hand : Bool) → KeeperNow shape p s → KeeperNow shape p t → KeeperNow shape p (begins s hand t)
@@ -273,6 +286,17 @@ unfolding finishing_ask
 finish_off points s (finishing.Ended its) = tt
 finish_off points s step = tt
 
+sweep_off : (w : Sweeper) (step : Sweeping) → IsOffSlots (sweeping_ask w step)
+unfolding sweeping_ask
+sweep_off w (sweeping.Finds key) = passed_off _ _ (find_off w.finding w.finding.step)
+sweep_off w step = tt
+
+swept_off : (ask : Ask SweepAnswer) (told : KeeperTold) → IsOffSlots ask → IsOffSlots (sweep_passed ask told)
+unfolding sweep_passed passed
+swept_off (Done swept.Device) told off = tt
+swept_off (Done swept.Through) told off = tt
+swept_off ask told off = passed_off ask told off
+
 write_off : (answer : WriteAnswer) (told : KeeperTold) → IsOffSlots (write_asked answer told)
 write_off write.Device told = tt
 write_off write.Written told = tt
@@ -302,6 +326,7 @@ keeping_at shape p s granted Seeks at fits = passed_at (Stays shape p s granted 
 keeping_at shape p s granted Waits at fits = off_at _ _ _ (passed_off (wait_ask s.wait) (turn_over s) (wait_off s.wait.step))
 keeping_at shape p s granted Writes at fits = off_at _ _ _ (write_off (commit_answer s.writes) (turn_over s))
 keeping_at shape p s granted Finishes at fits = off_at _ _ _ (passed_off (finish_ask s.seek.points s.finish) (turn_over s) (finish_off s.seek.points s.finish s.finish.step))
+keeping_at shape p s granted Sweeps at fits = off_at _ _ _ (swept_off (sweep_ask s.sweep) (turn_over s) (sweep_off s.sweep s.sweep.step))
 
 -- who asks for a slot has a call in hand
 asks_hand : (shape : Shape) (p : Places) (s : KeeperState) (step : Keeping) → is_done (keeping_ask shape p s step) ≡ false → is_in_hand step ≡ true

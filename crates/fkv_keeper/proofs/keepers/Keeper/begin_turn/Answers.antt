@@ -19,4 +19,5 @@ returns-clause-bounded c =
     let its : c.if-self.self ≡ record before { state = turn_asked before.state } = search rules in
     let seeks : before.state.seek.sessions ≡ before.shape.sessions = search rules in
     let finishes : before.state.finish.sessions ≡ before.shape.sessions = search rules in
-    rw its (turn_bounded before.shape before.places before.state seeks finishes)
+    let sweeps : before.state.sweep.places ≡ before.places = search rules in
+    rw its (turn_bounded before.shape before.places before.state seeks finishes sweeps)

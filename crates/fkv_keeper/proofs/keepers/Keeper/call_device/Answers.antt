@@ -34,6 +34,19 @@ returns-in-Writes-clause-fewer g c =
 pub returns-in-Writes-clause-none : goal.returns-in-Writes-clause-none
 returns-in-Writes-clause-none g c = on_err_weaker c.call_for_commit.result (λ its. ended_none _ _ _ _ its) c.call_for_commit.ensures.refused
 
+pub returns-in-Sweeps-clause-left : goal.returns-in-Sweeps-clause-left
+returns-in-Sweeps-clause-left g c = IfOk-weaker c.call_for_sweep.result _ _ (λ ask its. keeper_asked _ _ _ ask its) c.call_for_sweep.ensures.ask
+
+pub returns-in-Sweeps-clause-fewer : goal.returns-in-Sweeps-clause-fewer
+unfolding keeping_called
+returns-in-Sweeps-clause-fewer g c =
+    let before = c.args.self.now in
+    let its : (bytes : List ℕ) × (c.call_for_sweep.new.self ≡ record before { state = keeper_called before.shape before.places before.state (is_ok c.call_for_sweep.result) bytes }) = search rules in
+    rw its.1 (keeper_called_fewer before.shape before.places before.state (is_ok c.call_for_sweep.result) its.0)
+
+pub returns-in-Sweeps-clause-none : goal.returns-in-Sweeps-clause-none
+returns-in-Sweeps-clause-none g c = on_err_weaker c.call_for_sweep.result (λ its. ended_none _ _ _ _ its) c.call_for_sweep.ensures.refused
+
 pub returns-clause-left : goal.returns-clause-left
 returns-clause-left g c = keeper_asked _ _ _ c.ask.result c.ask.ensures
 

@@ -1,10 +1,19 @@
 -- It is busy where some asks and calls are left, and each reply leaves fewer.
-use Rattle.std.proofs.Common.{rules, ◌≡◌, ◌<◌, ap, sym, subst, is_some}
+use Rattle.std.proofs.Common.{rules, ◌≡◌, ◌<◌, ◌∙◌, ap, sym, subst, is_some}
+use Rattle.fkv_sweep.specs.Sweeping.{Sweeper}
+use Rattle.fkv_sweep.proofs.Shown.{sweep_next_same}
 use Rattle.fkv_keeper.specs.Keeping.{KeeperModel, KeeperState, granted_for, keeping_next, keeper_ask, keeper_next}
 use Rattle.fkv_keeper.specs.KeeperAsks.{keeper_asks_left}
 use Rattle.fkv_keeper.proofs.KeeperFewer.{keeper_fewer}
 use Rattle.fkv_keeper.proofs.KeeperLeft.{keeper_asked}
 use Rattle.fkv_keeper.proofs.keepers.Keeper.go_on_with.Goals as goal
+
+pub invariant_of-self-in-Sweeps : goal.invariant_of-self-in-Sweeps
+invariant_of-self-in-Sweeps c =
+    let its = c.drive-ask-in-Sweeps.ensures.next in
+    let same = sweep_next_same c.self.inside.sweep c.args.reply in
+    let all = c.self.invariant in
+    (all.0, all.1, all.2, all.3, ap (λ (w : Sweeper). w.shape) its ∙ same.shape ∙ all.4, ap (λ (w : Sweeper). w.places) its ∙ same.places ∙ all.5, all.6)
 
 pub returns-clause-left : goal.returns-clause-left
 unfolding keeping_next

@@ -2,9 +2,11 @@
 use Rattle.std.proofs.Common.{◌≡◌, Bool, not, arith, ap, refl, sym, subst, ◌∙◌}
 use Rattle.fkv_disk.specs.Asks.{kinds_by}
 use Rattle.fkv_keeper.specs.KeeperAsks.{keeper_due}
+use Rattle.law_threads.specs.Below.fkv_table.Keeps.{IsAfterSeen}
 use Rattle.law_threads.specs.Below.fkv_table.Planes.{opening_of}
 use Rattle.law_threads.specs.Below.fkv_table.Turns.{IsCounted}
-use Rattle.fkv_threads.proofs.Watching.{at_there, finished_over, refused_over, turn_behind}
+use Rattle.fkv_threads.specs.Models.{opening}
+use Rattle.fkv_threads.proofs.Watching.{at_there, at_work, finished_over, refused_over, turn_behind}
 use Rattle.fkv_threads.proofs.keeper_seats.KeeperSeat.step.Goals as goal
 
 pub returns : goal.returns
@@ -32,3 +34,10 @@ returns g c =
         };
       });
     }
+
+pub invariant_of-self : goal.invariant_of-self
+invariant_of-self g c =
+    let d = g.D.Device in let ran = c.drive-next.ensures in
+    let after = subst (λ key. IsAfterSeen (opening d) key c.device_step.new.pass.seat.me.0.seen (d.seen c.device_step.new.d) (d.may_leave c.device_step.new.d)) (λ i. ((c.deref.ensures ∙ sym c.deref-2.ensures) i).table.shared.key) c.device_step.ensures.after in
+    at_there d _ _ _ _ _ _ _ _ _ (λ i. (c.deref-2.ensures i).table.shared.key) (λ i. (c.deref-2.ensures i).table.shared.table_id)
+    (at_work d _ _ _ c.drive-next.result _ _ _ _ c.device_step.new.pass.seat.me.0.seen c.is_due-self-inside.ensures ran.at_work ran.told c.device_step.ensures.honest ran.device after)

@@ -14,19 +14,20 @@ use Rattle.law_order.specs.Images.Left.{flushed_so_far}
 use Rattle.law_order.specs.Images.Named.{AreSlotOf, begun_so_far, slot_of}
 use Rattle.law_order.proofs.OfImages.AtRest.{opens_at_rest, world_opens}
 use Rattle.law_order.proofs.OfImages.Begun.{HasSlot}
-use Rattle.law_order.proofs.OfImages.LifeFits.{life_fits, of_plain}
+use Rattle.law_order.proofs.OfImages.BeginsFit.{begin_of}
+use Rattle.law_order.proofs.OfImages.LifeFits.{BeginFits, FitsWritten, begin_fit, life_fits}
 use Rattle.law_order.proofs.OfImages.LifeNamed.{life_known, life_named}
 use Rattle.law_order.proofs.OfImages.SealedStands.{sealed_stands}
 use Rattle.law_opening.specs.Lives.OpenedFrom.{IsOpenedFrom}
 use Rattle.law_commit.specs.Below.law_world.Keeper.Lives.{IsLifeTold, life_writing}
 use Rattle.law_order.proofs.images.fits.law_commits_fit.Goals as goal
 
-slot_either : (o : Opened) (n : Now) (flushed : ℕ) (opened : List ℕ) (first c : BegunCommit) (bytes : List ℕ) → HasSlot n.shape opened first (FitsLife o n flushed) c bytes
+slot_either : (o : Opened) (n : Now) (flushed : ℕ) (opened : List ℕ) (first c : BegunCommit) (bytes : List ℕ) → n.shape ≡ o.shape → BeginFits o n c → HasSlot n.shape opened first (FitsWritten o n flushed) c bytes
     → ((bytes ≡ slot_of n.shape c) × FitsLife o n flushed c) ⊎ ((c ≡ first) × (bytes ≡ slot_in opened (slot_place first.number)))
-slot_either o n flushed opened first c bytes (inl written) = inl (written.0, of_plain o n flushed c written.1)
-slot_either o n flushed opened first c bytes (inr old) = inr old
+slot_either o n flushed opened first c bytes same begin (inl written) = inl (written.0, begin_fit o n flushed c same written.1 begin)
+slot_either o n flushed opened first c bytes same begin (inr old) = inr old
 
-slot_only : (o : Opened) (n : Now) (flushed : ℕ) (opened : List ℕ) (first c : BegunCommit) (bytes : List ℕ) → HasSlot n.shape opened first (FitsLife o n flushed) c bytes → AreSlotOf n.shape opened first c bytes
+slot_only : (o : Opened) (n : Now) (flushed : ℕ) (opened : List ℕ) (first c : BegunCommit) (bytes : List ℕ) → HasSlot n.shape opened first (FitsWritten o n flushed) c bytes → AreSlotOf n.shape opened first c bytes
 slot_only o n flushed opened first c bytes (inl written) = inl written.0
 slot_only o n flushed opened first c bytes (inr old) = inr old
 
@@ -39,9 +40,9 @@ returns-clause-each c = λ o n bytes events store begins long.
     let from : IsOpenedFrom bytes o n = record { store = store; world = begins; long = c.law_long_opens.ensures.behind bytes o long store } in
     let told = c.law_told_opens.ensures bytes o n from in
     let life : IsLifeTold opening events = record { opened = world; told = told; in_turn = c.law_begun.ensures.numbers opening o.tail.0 events world opened.now (opens_at_rest o n begins) } in
-    let fits = life_fits o n bytes events begins life c.law_of_slots.ensures.room c.law_of_slots.ensures.begins (λ before event. c.law_world_is_guarded.ensures.rises opening o.tail.0 before (event ∷ []) opened.now) in
-    λ d is. elim (life_known opening (FitsLife o n (flushed_so_far n bytes events)) events life fits d is) [
-      | inl good ↦ inl (of_plain o n (flushed_so_far n bytes events) d good)
+    let fits = life_fits o n bytes events begins life c.law_of_slots.ensures.room (λ before event. c.law_world_is_guarded.ensures.rises opening o.tail.0 before (event ∷ []) opened.now) in
+    λ d is. elim (life_known opening (FitsWritten o n (flushed_so_far n bytes events)) events life fits d is) [
+      | inl good ↦ inl (begin_fit o n (flushed_so_far n bytes events) d begins.its_shape good (begin_of c.law_ends_open.ensures c.law_begun.ensures.on c.law_begun.ensures.stay c.law_commits_cut.ensures.begins c.law_commits_cut.ensures.as_opened o n bytes events d store begins is))
       | inr first ↦ inr first
     ]
 
@@ -56,9 +57,9 @@ returns-clause-named c = λ o n bytes events image store begins long left.
     let told = c.law_told_opens.ensures bytes o n from in
     let rests = opens_at_rest o n begins in
     let life : IsLifeTold opening events = record { opened = world; told = told; in_turn = c.law_begun.ensures.numbers opening o.tail.0 events world opened.now rests } in
-    let fits = life_fits o n bytes events begins life c.law_of_slots.ensures.room c.law_of_slots.ensures.begins (λ before event. c.law_world_is_guarded.ensures.rises opening o.tail.0 before (event ∷ []) opened.now) in
+    let fits = life_fits o n bytes events begins life c.law_of_slots.ensures.room (λ before event. c.law_world_is_guarded.ensures.rises opening o.tail.0 before (event ∷ []) opened.now) in
     let seals = sealed_stands (begun_so_far n bytes events) (run opening events).now.keeper (life_writing opening events).first image (c.law_begun.ensures.begun opening events world) (c.law_world_one_commit_stands.ensures.written opening events image life left) in
-    let named = life_named c.law_gates.ensures.begun opening (FitsLife o n flushed) events image life fits (λ it good. good.room) (c.law_world_one_commit_stands.ensures.calls opening events world) seals left
+    let named = life_named c.law_gates.ensures.begun opening (FitsWritten o n flushed) events image life fits (λ it good. good.room) (c.law_world_one_commit_stands.ensures.calls opening events world) seals left
     (c.law_world_one_commit_stands.ensures.stands opening events image life left) (c.law_world_one_commit_stands.ensures.triples opening events image life left) in
     let has = named.has in
     record {
@@ -73,5 +74,5 @@ returns-clause-named c = λ o n bytes events image store begins long left.
         fit = has.fit;
         behind = has.behind;
       };
-      slot = slot_either o n flushed bytes (commit_opened n bytes) named.commit (slot_in image (let it = named.commit in slot_place it.number)) has.slot;
+      slot = slot_either o n flushed bytes (commit_opened n bytes) named.commit (slot_in image (let it = named.commit in slot_place it.number)) begins.its_shape (begin_of c.law_ends_open.ensures c.law_begun.ensures.on c.law_begun.ensures.stay c.law_commits_cut.ensures.begins c.law_commits_cut.ensures.as_opened o n bytes events named.commit store begins named.is_in) has.slot;
     }

@@ -2,14 +2,13 @@
 use Rattle.std.proofs.Common.{◌∙◌, ℕ, inl, inr, ap, sym, subst, arith, List}
 use Rattle.fkv_base.specs.declared.numbers.Addr.{Addr}
 use Rattle.fkv_record.specs.declared.triples.Triple.{Triple}
-use Rattle.law_log.specs.Begins.{LiveUpto}
 use Rattle.law_log.specs.Ghosts.{Log}
 use Rattle.law_order.specs.Decided.Cut.{log_beside}
 use Rattle.law_order.specs.OneHistory.EachLife.{Life}
 use Rattle.law_commit.specs.Below.law_paper.Paper.Images.{IsCut}
 use Rattle.law_commit.specs.Below.law_paper.Paper.Slots.{HasSlots}
 use Rattle.law_order.specs.Recovered.Leaves.{homes_of, log_named, log_then}
-use Rattle.law_order.proofs.OfRecovered.OfHolds.Holds.{begins_as_opened, names_end, shows_from, starts_some}
+use Rattle.law_order.proofs.OfRecovered.OfHolds.Holds.{begins_there, live_there, names_end, shows_from, starts_some}
 use Rattle.law_order.proofs.recovered.holds.law_named_hold.Goals as goal
 
 pub returns : goal.returns
@@ -23,7 +22,7 @@ returns c = λ o n bytes events image leaves names.
     let slots : (triples : List Triple) → HasSlots (log_named names triples) log = λ triples.
     c.law_slots_open.ensures bytes o n events (log_named names triples) store begins (names.shape ∙ begins.its_shape) in
     let life : Life = record { bytes = bytes; opened = o; world = n; events = events } in
-    let live = (c.law_live.ensures.opened life (record { store = store; begins = begins; fits = leaves.fits; few = leaves.few })).upto in
+    let live = c.law_live.ensures.commits life (record { store = store; begins = begins; fits = leaves.fits; few = leaves.few }) names.commit names.begun in
     elim (c.law_images_use_checkpoints.ensures o n bytes events image leaves names) [
       | inl made ↦
           c.law_paper_is_sound.ensures.named home image names.newest made.triples log made.checkpoint
@@ -35,7 +34,7 @@ returns c = λ o n bytes events image leaves names.
             cut = cut made.triples;
             some_start = starts_some o n bytes events image names made.triples;
             begins = (let found = names.its in found.manifest.suits.begin.before_scan);
-            live = (let its = log_named names made.triples in subst (λ (b : ℕ). LiveUpto its.version b home log) (sym (begins_as_opened o n bytes events image names made.triples)) (live its.version));
+            live = live_there home (log_named names made.triples) names.commit log (names_end o n bytes events image names made.triples) (begins_there o n bytes events image names made.triples) live;
             old_below = made.old_below;
             triples = made.covers;
           })

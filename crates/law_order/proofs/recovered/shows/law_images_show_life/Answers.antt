@@ -1,5 +1,5 @@
 -- By what is flushed, by the commit's cut, and by what its slot loses.
-use Rattle.std.proofs.Common.{◌≡◌, ◌∙◌, inl, inr, ap, arith}
+use Rattle.std.proofs.Common.{◌≡◌, ◌≤◌, ◌∙◌, inl, inr, ap, arith}
 use Rattle.law_opening.specs.Below.fkv_core.Openings.{beginning}
 use Rattle.law_commit.specs.Below.fkv_keeper.LastCommits.{lost_written}
 use Rattle.fkv_record.specs.Manifest.{SlotSaid}
@@ -9,7 +9,7 @@ use Rattle.law_commit.specs.Decided.Below.{OpensWhole}
 use Rattle.law_opening.specs.Log.OpeningLog.{opening_ghosts}
 use Rattle.law_order.specs.Decided.Cut.{NamesEnd}
 use Rattle.law_order.specs.Recovered.Leaves.{log_named}
-use Rattle.law_order.proofs.OfRecovered.OfHolds.Holds.{begins_as_opened}
+use Rattle.law_order.proofs.OfRecovered.OfHolds.Holds.{begins_on}
 use Rattle.law_order.proofs.OfRecovered.OfShows.Shown.{newer_commit, shows_log}
 use Rattle.law_order.proofs.recovered.shows.law_images_show_life.Goals as goal
 
@@ -28,7 +28,7 @@ returns c = λ o n bytes events image leaves names triples.
     } in
     let end : NamesEnd its it = record { version = ap (λ (x : SlotSaid). x.number) says.said; tail = ap (λ (x : SlotSaid). x.end.0) says.said } in
     let lost : its.lost ≡ lost_written it.parts.lost = ap (λ (x : SlotSaid). x.lost) says.said in
-    let begin : its.begin ≡ o.begin.0 = begins_as_opened o n bytes events image names triples in
+    let begin : o.begin.0 ≤ its.begin = begins_on o n bytes events image names triples in
     let flushed = c.law_images_show_log.ensures o n bytes events its leaves.store leaves.begins leaves.far leaves.fits leaves.left (names.shape ∙ leaves.begins.its_shape) (omega (arith, begin)) in
     let decides = c.law_cut_opens.ensures.decided bytes o n events it leaves.store leaves.begins names.begun its end in
     let young = c.law_commits_cut.ensures.young (beginning n bytes) o.tail.0 (opening_ghosts bytes o) events it opens names.begun in

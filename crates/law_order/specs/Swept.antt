@@ -1,0 +1,4 @@
+pub mod Logs
+pub mod Shown
+pub mod Sweeps
+pub mod Valid
