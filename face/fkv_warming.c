@@ -26,8 +26,9 @@ enum {
     POLL_US = 20,
     LONG_US = 5000,
     LONG_POLL_US = 500,
-    /* Then nobody waits for it. */
+    /* Then nobody waits for it. A session that is awake and idle may hold it up for ever. */
     STUCK_US = 200000,
+    STUCK_POLL_US = 20000,
     /* Of the records that the log takes its updates are one of so many at most. */
     SHARE = 8,
     /* It ends where of the log's records one of so many is left, or so many. */
@@ -91,7 +92,8 @@ void fkv_rest_own(fkv_file *file) {
     }
     if (!its->is_awake) return;
     if (count > 0) its->waits = fkv_now();
-    its->rests_until = fkv_later(fkv_now(), fkv_since(its->waits) < LONG_US ? POLL_US : LONG_POLL_US);
+    uint64_t waited = fkv_since(its->waits);
+    its->rests_until = fkv_later(fkv_now(), waited < LONG_US ? POLL_US : waited < STUCK_US ? LONG_POLL_US : STUCK_POLL_US);
 }
 
 /* Keeps the records of these keys, SLICE of them at most. Whether all are done. */

@@ -55,7 +55,12 @@ static fkv_session *joined(uint64_t number) {
 
 static void leave(fkv_session *session) { WANTS("leaving", fkv_leave(file, session), 0); }
 
-static void start(const fkv_keeping *keeping) { WANTS("starting the keeper", fkv_start(file, keeping), 0); }
+/* (nothing of the log is given back: what a sweep wants is kept too, and would be counted) */
+static void start(const fkv_keeping *keeping) {
+    fkv_keeping its = keeping ? *keeping : (fkv_keeping){0};
+    its.log_bytes = FKV_LOG_KEEPS;
+    WANTS("starting the keeper", fkv_start(file, &its), 0);
+}
 
 static void close_store(void) { WANTS("closing", fkv_close_file(file), 0); }
 
