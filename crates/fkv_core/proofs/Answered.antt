@@ -61,6 +61,8 @@ told_here events.Turn n after granted done true told e tells = keeper_ended (not
 told_here events.Turn n after granted done false told e tells = keeper_untold (not (is_in_hand n.keeper.step)) (is_in_hand after.keeper.step) after.keeper told refl e tells
 told_here events.KeeperMove n after granted done true told e tells = keeper_ended (is_in_hand n.keeper.step) after.keeper told e tells
 told_here events.KeeperMove n after granted done false told e tells = keeper_untold (is_in_hand n.keeper.step) (is_in_hand after.keeper.step) after.keeper told refl e tells
+told_here events.SweepMove n after granted done true told e tells = keeper_ended (is_in_hand n.keeper.step) after.keeper told e tells
+told_here events.SweepMove n after granted done false told e tells = keeper_untold (is_in_hand n.keeper.step) (is_in_hand after.keeper.step) after.keeper told refl e tells
 told_here events.Crash n after granted done true told e tells = cc
 told_here events.Crash n after granted done false told e tells = tells
 

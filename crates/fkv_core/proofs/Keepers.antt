@@ -38,10 +38,10 @@ tells_none : (ask : Ask KeeperTold) (due : Option AskedCall) (done : Bool) (says
 tells_none (Done told) due done says word = cc
 tells_none ask due done says word = refl
 
-pub word_move : (plane plane' : Plane) (k k' : KeeperModel) (failed : ℕ) (refuses : ℕ → Bool) (expects : List Kind → Foretold) (honest : Type 0) (seen : List ℕ) (may_leave : List ℕ → Type 0) → is_done (keeper_ask k.shape k.places k.state) ≡ false
-    → k' ≡ record k { state = k'.state } → BeginsNoSweep k.state k'.state → (granted : Bool) × ((done : Bool) (read : List ℕ) → beside plane' k'.state ≡ keeper_moved k.shape k.places granted done read (beside plane k.state))
-    → IsKeeperMove plane k plane' k' failed failed refuses refuses expects expects honest seen seen may_leave may_leave
-word_move plane plane' k k' failed refuses expects honest seen may_leave word store no_sweep moved = record {
+pub word_move : (sweeps : Bool) (plane plane' : Plane) (k k' : KeeperModel) (failed : ℕ) (refuses : ℕ → Bool) (expects : List Kind → Foretold) (honest : Type 0) (seen : List ℕ) (may_leave : List ℕ → Type 0) → is_done (keeper_ask k.shape k.places k.state) ≡ false
+    → k' ≡ record k { state = k'.state } → (sweeps ≡ false → BeginsNoSweep k.state k'.state) → (granted : Bool) × ((done : Bool) (read : List ℕ) → beside plane' k'.state ≡ keeper_moved k.shape k.places granted done read (beside plane k.state))
+    → IsKeeperMove sweeps plane k plane' k' failed failed refuses refuses expects expects honest seen seen may_leave may_leave
+word_move sweeps plane plane' k k' failed refuses expects honest seen may_leave word store no_sweep moved = record {
   granted = moved.0;
   done = true;
   read = [];
@@ -94,9 +94,9 @@ uses_device ask count done failed failed' refuses refuses' asks made = rw asks m
 tells_due : (ask : Ask KeeperTold) (due : Option AskedCall) (done : Bool) (says says' : List Kind → Foretold) → ask ≡ Done Device → says' ≡ kinds_by due done says → says' ≡ kinds_asked ask due done says
 tells_due ask due done says says' asks kind = rw asks kind
 
-pub device_move : (plane : Plane) (k k' : KeeperModel) (honest : Type 0) (failed failed' : ℕ) (refuses refuses' : ℕ → Bool) (expects expects' : List Kind → Foretold) (seen seen' : List ℕ) (may_leave may_leave' : List ℕ → Type 0)
-    → keeper_ask k.shape k.places k.state ≡ Done Device → IsDeviceStep k honest failed failed' refuses refuses' expects expects' seen seen' may_leave may_leave' k' → IsKeeperMove plane k plane k' failed failed' refuses refuses' expects expects' honest seen seen' may_leave may_leave'
-device_move plane k k' honest failed failed' refuses refuses' expects expects' seen seen' may_leave may_leave' asks step =
+pub device_move : (sweeps : Bool) (plane : Plane) (k k' : KeeperModel) (honest : Type 0) (failed failed' : ℕ) (refuses refuses' : ℕ → Bool) (expects expects' : List Kind → Foretold) (seen seen' : List ℕ) (may_leave may_leave' : List ℕ → Type 0)
+    → keeper_ask k.shape k.places k.state ≡ Done Device → IsDeviceStep k honest failed failed' refuses refuses' expects expects' seen seen' may_leave may_leave' k' → IsKeeperMove sweeps plane k plane k' failed failed' refuses refuses' expects expects' honest seen seen' may_leave may_leave'
+device_move sweeps plane k k' honest failed failed' refuses refuses' expects expects' seen seen' may_leave may_leave' asks step =
     let n : Near KeeperState = beside plane k.state in
     let made : List Call = keeper_calls k.shape k.state (is_ok step.called) in
     record {
@@ -106,7 +106,7 @@ device_move plane k k' honest failed failed' refuses refuses' expects expects' s
       uses = uses_device (keeper_ask k.shape k.places k.state) (keeper_made k.places k.state) (is_ok step.called) failed failed' refuses refuses' asks (used_so (keeper_made k.places k.state) step.called failed failed' refuses refuses' step.cause step.counted);
       kinds = tells_due (keeper_ask k.shape k.places k.state) (keeper_due k) (is_ok step.called) expects expects' asks step.kind;
       store = step.went_on ∙ ap (λ (it : KeeperModel). record k { state = it.state }) (sym step.went_on);
-      no_sweep = subst (λ (it : KeeperModel). BeginsNoSweep k.state it.state) (sym step.went_on) (called_none k.shape k.places k.state (is_ok step.called) step.bytes);
+      no_sweep = λ none. subst (λ (it : KeeperModel). BeginsNoSweep k.state it.state) (sym step.went_on) (called_none k.shape k.places k.state (is_ok step.called) step.bytes);
       moved = ap (λ (it : KeeperModel). beside plane it.state) step.went_on ∙ called_moved k n (is_ok step.called) step.bytes true asks;
       as_read = λ claim. ap (λ (it : KeeperModel). beside plane it.state) (step.read claim) ∙ called_moved k n (is_ok step.called) (keeper_read k seen) true asks;
       wrote = λ claim. subst (λ (its : List Call). Adds its seen seen' may_leave may_leave') (sym (calls_device (keeper_ask k.shape k.places k.state) made asks)) (step.wrote claim);

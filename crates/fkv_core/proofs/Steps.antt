@@ -16,7 +16,7 @@ use Rattle.fkv_core.specs.declared.events.Event as event
 use Rattle.fkv_core.specs.declared.events.Event.TheVariants as events
 use Rattle.fkv_core.specs.declared.events.Told.{Told}
 use Rattle.fkv_core.specs.Told.{IsAnswerBehind, IsTold, ends_here}
-use Rattle.fkv_core.specs.Worlds.{AreSeated, BeginsNoSweep, AreSessionCalls, AreSessionMoves, EventUses, IsKeeperMove, IsStep, LiveEventUses, beside, kinds_behind, live_kinds, states_of, took_place, device_gives, event_calls, calls_made}
+use Rattle.fkv_core.specs.Worlds.{AreSeated, BeginsNoSweep, AreSessionCalls, AreSessionMoves, EventUses, IsKeeperMove, IsStep, LiveEventUses, beside, kinds_behind, live_kinds, may_sweep, states_of, took_place, device_gives, event_calls, calls_made}
 use Rattle.fkv_core.specs.Lives.{LeadsAnyOn}
 use Rattle.fkv_core.proofs.Answered.{lived, told_so}
 use Rattle.fkv_core.proofs.Lives.{leads_any_on, leads_on}
@@ -28,7 +28,7 @@ alive true was after e = cc
 alive false was after e = refl
 
 with_life : (its : event.Event) (n after : Now) (told : Option Told) (failed failed' : ℕ) (refuses refuses' : ℕ → Bool) (expects expects' : List Kind → Foretold) (honest : Type 0) (seen seen' : List ℕ) (may_leave may_leave' : List ℕ → Type 0) (granted done : Bool) (read : List ℕ)
-    → after ≡ happens_now n read (took_place its granted done) → BeginsNoSweep n.keeper after.keeper → IsTold n.crashed n after (took_place its granted done) told → EventUses n.crashed n its done failed failed' refuses refuses' → expects' ≡ kinds_behind n.crashed n its done expects → (honest → after ≡ happens_now n (device_gives n seen) (took_place its granted done))
+    → after ≡ happens_now n read (took_place its granted done) → (may_sweep its ≡ false → BeginsNoSweep n.keeper after.keeper) → IsTold n.crashed n after (took_place its granted done) told → EventUses n.crashed n its done failed failed' refuses refuses' → expects' ≡ kinds_behind n.crashed n its done expects → (honest → after ≡ happens_now n (device_gives n seen) (took_place its granted done))
     → (honest → Adds (calls_made n (took_place its granted done)) seen seen' may_leave may_leave') → IsStep its n after told failed failed' refuses refuses' expects expects' honest seen seen' may_leave may_leave'
 with_life its n after told failed failed' refuses refuses' expects expects' honest seen seen' may_leave may_leave' granted done read now no_sweep tells uses kinds as_read wrote = record {
   granted = granted;
@@ -55,7 +55,7 @@ with_life its n after told failed failed' refuses refuses' expects expects' hone
 pub no_step : (its : event.Event) (n : Now) (failed : ℕ) (refuses : ℕ → Bool) (expects : List Kind → Foretold) (honest : Type 0) (seen : List ℕ) (may_leave : List ℕ → Type 0) → n.crashed ≡ true → (told : Option Told) → told ≡ None → IsStep its n n told failed failed refuses refuses expects expects honest seen seen may_leave may_leave
 no_step its n failed refuses expects honest seen may_leave over told none =
     let still : (event : Event) (read : List ℕ) → n ≡ happens_now n read event = λ event read. sym (ap (λ (crashed : Bool). if crashed then n else life_goes n read event) over) in
-    with_life its n n told failed failed refuses refuses expects expects honest seen seen may_leave may_leave true true [] (still (took_place its true true) []) (λ sweeps. sweeps) (subst (λ (crashed : Bool). IsTold crashed n n (took_place its true true) told) (sym over) none) (rw over (refl, refl)) (rw over refl)
+    with_life its n n told failed failed refuses refuses expects expects honest seen seen may_leave may_leave true true [] (still (took_place its true true) []) (λ none sweeps. sweeps) (subst (λ (crashed : Bool). IsTold crashed n n (took_place its true true) told) (sym over) none) (rw over (refl, refl)) (rw over refl)
     (λ claim. still (took_place its true true) (device_gives n seen))
     (λ claim. subst (λ (made : List DeviceCall). Adds made seen seen may_leave may_leave) (sym (ap (λ (crashed : Bool). if crashed then [] else event_calls n (took_place its true true)) over)) (λ opening calls was. was))
 
@@ -67,7 +67,7 @@ quiet_step its n after told failed refuses expects honest seen may_leave lives g
     let took : Event = took_place its true true in
     with_life its n after told failed failed refuses refuses expects expects honest seen seen may_leave may_leave true true []
     (goes [] ∙ sym (alive n.crashed n (life_goes n [] took) lives))
-    no_sweep tells (rw lives uses) (rw lives kinds)
+    (λ none. no_sweep) tells (rw lives uses) (rw lives kinds)
     (λ claim. goes (device_gives n seen) ∙ sym (alive n.crashed n (life_goes n (device_gives n seen) took) lives))
     (λ claim. subst (λ (made : List DeviceCall). Adds made seen seen may_leave may_leave) (sym (alive n.crashed [] (event_calls n took) lives ∙ quiet)) (λ opening calls was. was))
 
@@ -137,11 +137,16 @@ kept_beside n plane k = record n { shape = k.shape; places = k.places; words = p
 put_back : (n : Now) (plane : Plane) (k : KeeperModel) (goes : Near KeeperState) → k ≡ record (keeper_of n) { state = k.state } → beside plane k.state ≡ goes → kept_beside n plane k ≡ with_keeper n goes
 put_back n plane k goes store e = ap (λ (it : KeeperModel). kept_beside n plane it) store ∙ ap (λ (it : Near KeeperState). with_keeper n it) e
 
-pub keeper_step : (n : Now) (plane' : Plane) (k' : KeeperModel) (ended : Bool) (told : Option Told) (failed failed' : ℕ) (refuses refuses' : ℕ → Bool) (expects expects' : List Kind → Foretold) (honest : Type 0) (seen seen' : List ℕ) (may_leave may_leave' : List ℕ → Type 0) → n.crashed ≡ false
-    → IsKeeperMove (record { words = n.words; actions = n.actions }) (keeper_of n) plane' k' failed failed' refuses refuses' expects expects' honest seen seen' may_leave may_leave' → ended ≡ (is_in_hand n.keeper.step && not (is_in_hand k'.state.step)) → IsAnswerBehind ended events.KeeperMove (kept_beside n plane' k') told
-    → IsStep events.KeeperMove n (kept_beside n plane' k') told failed failed' refuses refuses' expects expects' honest seen seen' may_leave may_leave'
+-- by each of the two events
+abbrev pub keeper_event : Bool → event.Event
+keeper_event true = events.SweepMove
+keeper_event false = events.KeeperMove
+
+pub keeper_step : (sweeps : Bool) (n : Now) (plane' : Plane) (k' : KeeperModel) (ended : Bool) (told : Option Told) (failed failed' : ℕ) (refuses refuses' : ℕ → Bool) (expects expects' : List Kind → Foretold) (honest : Type 0) (seen seen' : List ℕ) (may_leave may_leave' : List ℕ → Type 0) → n.crashed ≡ false
+    → IsKeeperMove sweeps (record { words = n.words; actions = n.actions }) (keeper_of n) plane' k' failed failed' refuses refuses' expects expects' honest seen seen' may_leave may_leave' → ended ≡ (is_in_hand n.keeper.step && not (is_in_hand k'.state.step)) → IsAnswerBehind ended (keeper_event sweeps) (kept_beside n plane' k') told
+    → IsStep (keeper_event sweeps) n (kept_beside n plane' k') told failed failed' refuses refuses' expects expects' honest seen seen' may_leave may_leave'
 unfolding life_goes
-keeper_step n plane' k' ended told failed failed' refuses refuses' expects expects' honest seen seen' may_leave may_leave' lives its ends tells =
+keeper_step false n plane' k' ended told failed failed' refuses refuses' expects expects' honest seen seen' may_leave may_leave' lives its ends tells =
     let over = lived n.crashed (ends_here events.KeeperMove n (kept_beside n plane' k')) ended lives ends in
     let took : Event = KeeperMoves its.granted its.done in
     let goes : (read : List ℕ) → Near KeeperState = λ read. keeper_moved n.shape n.places its.granted its.done read (near n n.keeper) in
@@ -149,5 +154,15 @@ keeper_step n plane' k' ended told failed failed' refuses refuses' expects expec
     (put_back n plane' k' (goes its.read) its.store its.moved ∙ sym (alive n.crashed n (life_goes n its.read took) lives))
     its.no_sweep
     (told_so events.KeeperMove n (kept_beside n plane' k') its.granted its.done ended told over tells) (rw lives its.uses) (rw lives its.kinds)
+    (λ claim. put_back n plane' k' (goes (device_gives n seen)) its.store (its.as_read claim) ∙ sym (alive n.crashed n (life_goes n (device_gives n seen) took) lives))
+    (λ claim. subst (λ (made : List DeviceCall). Adds made seen seen' may_leave may_leave') (sym (alive n.crashed [] (event_calls n took) lives)) (its.wrote claim))
+keeper_step true n plane' k' ended told failed failed' refuses refuses' expects expects' honest seen seen' may_leave may_leave' lives its ends tells =
+    let over = lived n.crashed (ends_here events.SweepMove n (kept_beside n plane' k')) ended lives ends in
+    let took : Event = KeeperMoves its.granted its.done in
+    let goes : (read : List ℕ) → Near KeeperState = λ read. keeper_moved n.shape n.places its.granted its.done read (near n n.keeper) in
+    with_life events.SweepMove n (kept_beside n plane' k') told failed failed' refuses refuses' expects expects' honest seen seen' may_leave may_leave' its.granted its.done its.read
+    (put_back n plane' k' (goes its.read) its.store its.moved ∙ sym (alive n.crashed n (life_goes n its.read took) lives))
+    its.no_sweep
+    (told_so events.SweepMove n (kept_beside n plane' k') its.granted its.done ended told over tells) (rw lives its.uses) (rw lives its.kinds)
     (λ claim. put_back n plane' k' (goes (device_gives n seen)) its.store (its.as_read claim) ∙ sym (alive n.crashed n (life_goes n (device_gives n seen) took) lives))
     (λ claim. subst (λ (made : List DeviceCall). Adds made seen seen' may_leave may_leave') (sym (alive n.crashed [] (event_calls n took) lives)) (its.wrote claim))

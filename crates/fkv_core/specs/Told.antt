@@ -88,6 +88,7 @@ ends_here (events.Move number) n after = ends_session may_move (slice_get n.sess
 ends_here (events.Commit kind) n after = not (is_in_hand n.keeper.step) && not (is_in_hand after.keeper.step)
 ends_here events.Turn n after = not (is_in_hand n.keeper.step) && not (is_in_hand after.keeper.step)
 ends_here events.KeeperMove n after = is_in_hand n.keeper.step && not (is_in_hand after.keeper.step)
+ends_here events.SweepMove n after = is_in_hand n.keeper.step && not (is_in_hand after.keeper.step)
 ends_here events.Crash n after = false
 
 -- whether a call ends in an event, which after a crash none does

@@ -49,6 +49,7 @@ UsesDevice ask count done failed failed' refuses refuses' = SparesDevice failed 
 -- so it is of an event: the keeper's moves alone use it, and after a crash nothing does
 abbrev pub LiveEventUses : Now → event.Event → Bool → ℕ → ℕ → (ℕ → Bool) → (ℕ → Bool) → Type 0
 LiveEventUses n events.KeeperMove done failed failed' refuses refuses' = UsesDevice (keeper_ask n.shape n.places n.keeper) (keeper_made n.places n.keeper) done failed failed' refuses refuses'
+LiveEventUses n events.SweepMove done failed failed' refuses refuses' = UsesDevice (keeper_ask n.shape n.places n.keeper) (keeper_made n.places n.keeper) done failed failed' refuses refuses'
 LiveEventUses n its done failed failed' refuses refuses' = SparesDevice failed failed' refuses refuses'
 
 abbrev pub EventUses : Bool → Now → event.Event → Bool → ℕ → ℕ → (ℕ → Bool) → (ℕ → Bool) → Type 0
@@ -63,6 +64,7 @@ kinds_asked ask due done says = says
 
 abbrev pub live_kinds : Now → event.Event → Bool → (List Kind → Foretold) → List Kind → Foretold
 live_kinds n events.KeeperMove done says = kinds_asked (keeper_ask n.shape n.places n.keeper) (keeper_due (record { shape = n.shape; places = n.places; state = n.keeper })) done says
+live_kinds n events.SweepMove done says = kinds_asked (keeper_ask n.shape n.places n.keeper) (keeper_due (record { shape = n.shape; places = n.places; state = n.keeper })) done says
 live_kinds n its done says = says
 
 abbrev pub kinds_behind : Bool → Now → event.Event → Bool → (List Kind → Foretold) → List Kind → Foretold
@@ -73,9 +75,14 @@ kinds_behind false n its done says = live_kinds n its done says
 abbrev pub BeginsNoSweep : KeeperState → KeeperState → Type 0
 BeginsNoSweep s after = after.step ≡ Sweeps → s.step ≡ Sweeps
 
--- The keeper's step beside the words and a device: whether memory was granted, whether the call of the device succeeded, and what it read. It begins no sweep. An
--- honest device took what the keeper writes, and gave what it reads as.
-pub record IsKeeperMove (plane : Plane) (k : KeeperModel) (plane' : Plane) (k' : KeeperModel) (failed failed' : ℕ) (refuses refuses' : ℕ → Bool) (expects expects' : List Kind → Foretold) (honest : Type 0) (seen seen' : List ℕ) (may_leave may_leave' : List ℕ → Type 0) : Type 0 where
+-- one event alone may begin a sweep
+abbrev pub may_sweep : event.Event → Bool
+may_sweep events.SweepMove = true
+may_sweep its = false
+
+-- The keeper's step beside the words and a device: whether memory was granted, whether the call of the device succeeded, and what it read. It begins no sweep
+-- where it isn't let. An honest device took what the keeper writes, and gave what it reads as.
+pub record IsKeeperMove (sweeps : Bool) (plane : Plane) (k : KeeperModel) (plane' : Plane) (k' : KeeperModel) (failed failed' : ℕ) (refuses refuses' : ℕ → Bool) (expects expects' : List Kind → Foretold) (honest : Type 0) (seen seen' : List ℕ) (may_leave may_leave' : List ℕ → Type 0) : Type 0 where
   pub granted : Bool
   pub done : Bool
   pub read : List ℕ
@@ -83,7 +90,7 @@ pub record IsKeeperMove (plane : Plane) (k : KeeperModel) (plane' : Plane) (k' :
   pub uses : UsesDevice (keeper_ask k.shape k.places k.state) (keeper_made k.places k.state) done failed failed' refuses refuses'
   pub kinds : expects' ≡ kinds_asked (keeper_ask k.shape k.places k.state) (keeper_due k) done expects
   pub moved : beside plane' k'.state ≡ keeper_moved k.shape k.places granted done read (beside plane k.state)
-  pub no_sweep : BeginsNoSweep k.state k'.state
+  pub no_sweep : sweeps ≡ false → BeginsNoSweep k.state k'.state
   pub as_read : honest → beside plane' k'.state ≡ keeper_moved k.shape k.places granted done (keeper_read k seen) (beside plane k.state)
   pub wrote : honest → Adds (calls_after (keeper_ask k.shape k.places k.state) (keeper_calls k.shape k.state done) []) seen seen' may_leave may_leave'
 
@@ -141,6 +148,7 @@ took_place (events.Move number) granted done = Moves number
 took_place (events.Commit kind) granted done = Commits kind
 took_place events.Turn granted done = Turns
 took_place events.KeeperMove granted done = KeeperMoves granted done
+took_place events.SweepMove granted done = KeeperMoves granted done
 took_place events.Crash granted done = Crashes
 
 -- what an honest device gives the keeper
@@ -155,14 +163,15 @@ event_calls n event = []
 abbrev pub calls_made : Now → Event → List DeviceCall
 calls_made n event = if n.crashed then [] else event_calls n event
 
--- One step of the world, and what it told: with the event that took place it leaves what the rules of the world give, whatever the device read. No sweep begins.
+-- One step of the world, and what it told: with the event that took place it leaves what the rules of the world give, whatever the device read. A sweep begins by
+-- one event alone.
 -- Over an honest device, which took what the event writes and gave what it reads as, it goes on with each life of an opened store that shows this world.
 pub record IsStep (its : event.Event) (n after : Now) (told : Option Told) (failed failed' : ℕ) (refuses refuses' : ℕ → Bool) (expects expects' : List Kind → Foretold) (honest : Type 0) (seen seen' : List ℕ) (may_leave may_leave' : List ℕ → Type 0) : Type 0 where
   pub granted : Bool
   pub done : Bool
   pub read : List ℕ
   pub now : after ≡ happens_now n read (took_place its granted done)
-  pub no_sweep : BeginsNoSweep n.keeper after.keeper
+  pub no_sweep : may_sweep its ≡ false → BeginsNoSweep n.keeper after.keeper
   pub tells : IsTold n.crashed n after (took_place its granted done) told
   pub uses : EventUses n.crashed n its done failed failed' refuses refuses'
   pub kinds : expects' ≡ kinds_behind n.crashed n its done expects

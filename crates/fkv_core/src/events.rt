@@ -15,8 +15,10 @@ pub enum Event {
     Commit(CommitKind),
     /// The keeper begins a turn, where it has no call in hand.
     Turn,
-    /// The keeper makes its ask or its call of the device, where it has a call in hand.
+    /// The keeper makes its ask or its call of the device, where it has a call in hand. No sweep of the log's front begins.
     KeeperMove,
+    /// As `KeeperMove`, but that a turn with no commit in hand lets a sweep of the log's front go on.
+    SweepMove,
     /// The life ends: nothing happens behind it.
     Crash,
 }

@@ -2,7 +2,7 @@
 ghost use Rattle.std.specs.Prelude.{◌≡◌, ◌↔◌, ◌&&◌, not, Bool, true, false, List, ℕ};
 ghost use Rattle.fkv_disk.specs.Device.{Elapses};
 ghost use Rattle.fkv_keeper.specs.KeeperRun.{is_in_hand};
-ghost use Rattle.fkv_keeper.specs.Keeping.{keeper_ask, commit_asked, turn_asked};
+ghost use Rattle.fkv_keeper.specs.Keeping.{keeper_ask, keeper_next, commit_asked, turn_asked};
 ghost use Rattle.fkv_plane.specs.Passing.{is_done};
 ghost use Rattle.fkv_world.specs.Moves.{keeper_moved, keeper_settled};
 ghost use Rattle.fkv_world.specs.World.{keeper_asked};
@@ -39,15 +39,16 @@ pub(crate) fn keeper_turn(keeper: &mut Keeper) -> bool
     !keeper.is_in_hand()
 }
 
-/// Makes the ask, and moves an action that goes with it, or makes the call of the device. Whether a call has
-/// ended in it.
+/// Makes the ask, and moves an action that goes with it, or makes the call of the device. Where it `sweeps`, a sweep may begin its turn.
+/// Whether a call has ended in it.
 #[tactic(auto, unfolding(fkv_world::specs::Moves::keeper_asks, fkv_world::specs::Moves::keeper_settled))]
 pub(crate) fn keeper_move<D: Device>(
     words: &mut PlainWords,
     keeper: &mut Keeper,
     device: &mut D,
+    sweeps: bool,
 ) -> bool
-    ensures moved { IsKeeperMove words.old keeper.old words.new keeper.new (D.failed device.old) (D.failed device.new) (D.refuses device.old) (D.refuses device.new) (D.expects device.old) (D.expects device.new) (D.honest device.old) (D.seen device.old) (D.seen device.new) (D.may_leave device.old) (D.may_leave device.new) }
+    ensures moved { IsKeeperMove sweeps words.old keeper.old words.new keeper.new (D.failed device.old) (D.failed device.new) (D.refuses device.old) (D.refuses device.new) (D.expects device.old) (D.expects device.new) (D.honest device.old) (D.seen device.old) (D.seen device.new) (D.may_leave device.old) (D.may_leave device.new) }
     ensures ended { result ≡ is_in_hand keeper.old.state.step && not (is_in_hand keeper.new.state.step) }
     ensures honest { D.honest device.old ↔ D.honest device.new }
     ensures time { D.honest device.old → Elapses (D.moment device.old) (D.moment device.new) (D.left_since device.old) (D.left_since device.new) (D.may_leave device.new) }
@@ -60,7 +61,7 @@ pub(crate) fn keeper_move<D: Device>(
         }
         Ask::Done(_) => has_ended(keeper, was_busy),
         ask => {
-            word_asked(words, keeper, ask);
+            word_asked(words, keeper, ask, sweeps);
             has_ended(keeper, was_busy)
         }
     }
@@ -75,11 +76,11 @@ fn has_ended(keeper: &Keeper, was_busy: bool) -> bool
 
 /// Makes an ask of a word, or what goes with one.
 #[tactic(auto, unfolding(fkv_plane::specs::Passing::passed, fkv_world::specs::Moves::keeper_asks, fkv_world::specs::Moves::keeper_settled), using(crate::proofs::NoSweep::given_none))]
-fn word_asked(words: &mut PlainWords, keeper: &mut Keeper, ask: Ask<KeeperTold>)
+fn word_asked(words: &mut PlainWords, keeper: &mut Keeper, ask: Ask<KeeperTold>, sweeps: bool)
     requires asked { ask ≡ keeper_ask keeper.old.shape keeper.old.places keeper.old.state }
     requires word { is_done ask ≡ false }
     ensures store { (keeper.new.shape ≡ keeper.old.shape) × (keeper.new.places ≡ keeper.old.places) }
-    ensures no_sweep { BeginsNoSweep keeper.old.state keeper.new.state }
+    ensures no_sweep { sweeps ≡ false → BeginsNoSweep keeper.old.state keeper.new.state }
     ensures moved { (granted : Bool) × ((done : Bool) (read : List ℕ) → beside words.new keeper.new.state ≡ keeper_moved keeper.old.shape keeper.old.places granted done read (beside words.old keeper.old.state)) }
 {
     match ask {
@@ -94,9 +95,23 @@ fn word_asked(words: &mut PlainWords, keeper: &mut Keeper, ask: Ask<KeeperTold>)
         }
         word => {
             let reply = words.perform(&word);
-            let next = keeper.go_on(reply);
+            let next = replied(keeper, reply, sweeps);
             settle(words, keeper, next);
         }
+    }
+}
+
+/// Goes on with the reply to its ask. Where it `sweeps`, what may rest goes on, and so does a sweep of the log's front.
+fn replied(keeper: &mut Keeper, reply: u64, sweeps: bool) -> Ask<KeeperTold>
+    ensures next { (granted : Bool) × (keeper.new ≡ record keeper.old { state = keeper_next keeper.old.shape keeper.old.places keeper.old.state reply granted }) }
+    ensures ask { result ≡ keeper_ask keeper.old.shape keeper.old.places keeper.new.state }
+    ensures no_sweep { sweeps ≡ false → BeginsNoSweep keeper.old.state keeper.new.state }
+{
+    if sweeps {
+        let room = keeper.room();
+        keeper.go_on_with(reply, room, true)
+    } else {
+        keeper.go_on(reply)
     }
 }
 

@@ -4,6 +4,7 @@ ghost use Rattle.fkv_disk.specs.Fuses.{fuse_state};
 ghost use Rattle.fkv_core.specs.Showing.{effect_of};
 
 use crate::worlds::World;
+use fkv_base::Key;
 use fkv_disk::{Device, Fuse, FuseState};
 use fkv_map::HistoryEntry;
 
@@ -17,6 +18,14 @@ impl<D: Device> World<D> {
             Some(session) => session.effect(),
             None => None,
         }
+    }
+
+    /// The keys that the last turn of a sweep has found wanted, 16 at most. The log's front can't be given up before somebody has written
+    /// them anew, as by a merge of the kind `Keep`. Each is looked for again in the sweep's next turn.
+    pub fn wanted(&self) -> &[Key]
+        ensures { result.now ≡ self.now.now.keeper.sweep.wanted }
+    {
+        self.keeper.wanted()
     }
 }
 

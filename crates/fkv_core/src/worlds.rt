@@ -70,7 +70,10 @@ impl<D: Device> World<D> {
             Event::Commit(kind) => keeper_commit(&mut self.keeper, kind),
             Event::Turn => keeper_turn(&mut self.keeper),
             Event::KeeperMove => {
-                keeper_move(&mut self.words, &mut self.keeper, &mut self.device)
+                keeper_move(&mut self.words, &mut self.keeper, &mut self.device, false)
+            }
+            Event::SweepMove => {
+                keeper_move(&mut self.words, &mut self.keeper, &mut self.device, true)
             }
             Event::Crash => {
                 self.crashed = true;
@@ -90,7 +93,9 @@ impl<D: Device> World<D> {
                 Some(session) => numbered(number, session_answer(session)),
                 None => None,
             },
-            Event::Commit(_) | Event::Turn | Event::KeeperMove => keeper_answer(&mut self.keeper),
+            Event::Commit(_) | Event::Turn | Event::KeeperMove | Event::SweepMove => {
+                keeper_answer(&mut self.keeper)
+            }
             Event::Crash => None,
         }
     }

@@ -26,7 +26,7 @@ use Rattle.fkv_lines.specs.declared.scripts.Opening.TheVariants.{Shape, Open}
 use Rattle.fkv_lines.specs.declared.scripts.Sizes.{Sizes}
 use Rattle.fkv_lines.specs.Words.{words_of, says_nothing, is_oversized}
 use Rattle.fkv_lines.specs.Numbers.{◌>>=◌, number_of, numbers_of, arguments_of}
-use Rattle.fkv_lines.specs.Calls.{alone, key_in, takes_merges, merge_of, operation_of, call_of}
+use Rattle.fkv_lines.specs.Calls.{alone, key_in, opens_living, merge_of, operation_of, call_of}
 use Rattle.fkv_lines.specs.Lines.{sizes_of, is_opening, shape_line, open_line, opening_line, session_line, commit_line, keeper_line, device_call, crash_line, fail_line, in_memory, later_line}
 use Rattle.fkv_lines.specs.Script.{ScriptText, at_line, lines_from, script_from, script_of}
 use Rattle.fkv_map.proofs.Shown.{IsWord}
@@ -152,7 +152,7 @@ operation_words opening verb words op e =
     (by_if (bytes_eq verb (codes "max")) _ _ op (made IsOfWords 2 words (λ n. Max (key_in n) (slice_index n 1)) op (λ ns small. record { word = small 1; its_key = small 0 }))
     (by_if (bytes_eq verb (codes "del")) _ _ op (made IsOfWords 1 words (λ n. Delete (key_in n)) op (λ ns small. record { word = tt; its_key = small 0 }))
     (by_if (bytes_eq verb (codes "get")) _ _ op (made IsOfWords 1 words (λ n. Read (key_in n)) op (λ ns small. record { word = tt; its_key = small 0 }))
-    (by_if (takes_merges opening) _ _ op (merge_words verb words op) (no_err fault.Word op)))))) e
+    (by_if (opens_living opening) _ _ op (merge_words verb words op) (no_err fault.Word op)))))) e
 
 call_words : (opening : Opening) (verb : List ℕ) (words : List (List ℕ)) (its : Call) → call_of opening verb words ≡ Ok its → IsCallOfWords its
 unfolding call_of

@@ -23,14 +23,14 @@ alone words said = if length words == 0 then Ok said else Err Count
 abbrev pub key_in : List ℕ → Key
 key_in n = record { 0 = slice_index n 0 }
 
--- merges stand behind a `large` line alone
+-- merges and trims stand behind a `large` line alone
 abbrev pub is_living : StoreClass → Bool
 is_living Specified = false
 is_living Living = true
 
-abbrev pub takes_merges : Opening → Bool
-takes_merges (Shape sizes) = is_living sizes.class
-takes_merges Open = false
+abbrev pub opens_living : Opening → Bool
+opens_living (Shape sizes) = is_living sizes.class
+opens_living Open = false
 
 -- `keep K`, `min K V`, `sub K V`, `and K V`, `or K V` and `first K V`
 unfoldable pub merge_of : List ℕ → List (List ℕ) → Result Op ScriptFault
@@ -51,7 +51,7 @@ operation_of opening verb words =
     else if bytes_eq verb (codes "max") then (arguments_of 2 words >>= λ n. Ok (Max (key_in n) (slice_index n 1)))
     else if bytes_eq verb (codes "del") then (arguments_of 1 words >>= λ n. Ok (Delete (key_in n)))
     else if bytes_eq verb (codes "get") then (arguments_of 1 words >>= λ n. Ok (Read (key_in n)))
-    else if takes_merges opening then merge_of verb words
+    else if opens_living opening then merge_of verb words
     else Err Word
 
 -- `refresh`, `poll`, `sleep` and `wake` stand alone; any other call is an operation

@@ -1,5 +1,5 @@
 -- What a line says, by its words.
-use Rattle.std.specs.Prelude.{ℕ, Bool, ◌||◌, nat_eq, List, [], ◌∷◌, codes, if◌then◌else◌, Result, Ok, Err, slice_index}
+use Rattle.std.specs.Prelude.{ℕ, Bool, ◌||◌, ◌&&◌, nat_eq, List, [], ◌∷◌, codes, if◌then◌else◌, Result, Ok, Err, slice_index}
 use Rattle.std.specs.Str.{bytes_eq}
 use Rattle.std.specs.Char.{is_ascii_digit}
 use Rattle.fkv_base.specs.declared.faults.ScriptFault.{ScriptFault}
@@ -8,14 +8,14 @@ use Rattle.fkv_base.specs.declared.commits.CommitKind.TheVariants.{Full, Log}
 use Rattle.fkv_base.specs.declared.classes.StoreClass.{StoreClass}
 use Rattle.fkv_base.specs.declared.classes.StoreClass.TheVariants.{Specified, Living}
 use Rattle.fkv_lines.specs.declared.scripts.Line.{Line}
-use Rattle.fkv_lines.specs.declared.scripts.Line.TheVariants.{Call, Commit, Turn, Finish, Crash, CrashAt, FailAt}
+use Rattle.fkv_lines.specs.declared.scripts.Line.TheVariants.{Call, Commit, Trim, Turn, Finish, Crash, CrashAt, FailAt}
 use Rattle.fkv_lines.specs.declared.scripts.Mode.{Mode}
 use Rattle.fkv_lines.specs.declared.scripts.Mode.TheVariants.{Memory, File}
 use Rattle.fkv_lines.specs.declared.scripts.Opening.{Opening}
 use Rattle.fkv_lines.specs.declared.scripts.Opening.TheVariants.{Shape, Open}
 use Rattle.fkv_lines.specs.declared.scripts.Sizes.{Sizes}
 use Rattle.fkv_lines.specs.Numbers.{◌>>=◌, number_of, arguments_of}
-use Rattle.fkv_lines.specs.Calls.{alone, call_of}
+use Rattle.fkv_lines.specs.Calls.{alone, call_of, opens_living}
 
 -- ---- the line that opens the store
 
@@ -55,16 +55,19 @@ session_line opening session (verb ∷ words) = do
   n ← number_of session
   Ok (Call n call)
 
--- `k commit` alone is a full commit, and `k commit log` one of the log
-unfoldable pub commit_line : List (List ℕ) → Result Line ScriptFault
-commit_line [] = Ok (Commit Full)
-commit_line (kind ∷ words) = if bytes_eq kind (codes "log") then alone words (Commit Log) else Err fault.Word
+-- `k commit` alone is a full commit, and `k commit log` one of the log. In a living store `k commit trim` is a trim.
+unfoldable pub commit_line : Opening → List (List ℕ) → Result Line ScriptFault
+commit_line opening [] = Ok (Commit Full)
+commit_line opening (kind ∷ words) =
+    if bytes_eq kind (codes "log") then alone words (Commit Log)
+    else if bytes_eq kind (codes "trim") && opens_living opening then alone words Trim
+    else Err fault.Word
 
 -- `commit`, `turn` and `finish`, behind `k`
-unfoldable pub keeper_line : List (List ℕ) → Result Line ScriptFault
-keeper_line [] = Err fault.Count
-keeper_line (verb ∷ words) =
-    if bytes_eq verb (codes "commit") then commit_line words
+unfoldable pub keeper_line : Opening → List (List ℕ) → Result Line ScriptFault
+keeper_line opening [] = Err fault.Count
+keeper_line opening (verb ∷ words) =
+    if bytes_eq verb (codes "commit") then commit_line opening words
     else if bytes_eq verb (codes "turn") then alone words Turn
     else if bytes_eq verb (codes "finish") then alone words Finish
     else Err fault.Word
@@ -97,6 +100,6 @@ later_line mode opening (head ∷ words) =
     if is_opening head then Err fault.Order
     else if bytes_eq head (codes "crash") then (crash_line words >>= λ line. in_memory mode line)
     else if bytes_eq head (codes "fail") then (fail_line words >>= λ line. in_memory mode line)
-    else if bytes_eq head (codes "k") then keeper_line words
+    else if bytes_eq head (codes "k") then keeper_line opening words
     else if is_ascii_digit (slice_index head 0) then session_line opening head words
     else Err fault.Word

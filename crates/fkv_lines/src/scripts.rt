@@ -1,6 +1,6 @@
 //! Scripts as they are read: the line that opens the store, and the lines after it.
 ghost use Rattle.std.specs.Prelude.{◌≡◌};
-ghost use Rattle.fkv_lines.specs.Calls.{takes_merges};
+ghost use Rattle.fkv_lines.specs.Calls.{opens_living};
 
 use fkv_base::{CommitKind, StoreClass};
 use fkv_map::Call;
@@ -38,9 +38,9 @@ pub enum Opening {
 }
 
 impl Opening {
-    /// Whether the lines behind this one may be merges: those behind a `large` line alone may.
-    pub(crate) fn takes_merges(self) -> bool
-        ensures { result ≡ takes_merges self }
+    /// Whether the lines behind this one may be merges and trims: those behind a `large` line alone may.
+    pub(crate) fn opens_living(self) -> bool
+        ensures { result ≡ opens_living self }
     {
         match self {
             Opening::Shape(sizes) => matches!(sizes.class, StoreClass::Living),
@@ -58,6 +58,8 @@ pub enum Line {
     Call(u64, Call),
     /// `k commit`, or `k commit log`.
     Commit(CommitKind),
+    /// `k commit trim`, behind a `large` line alone: a full commit, behind which turns sweep the log's front.
+    Trim,
     /// `k turn`
     Turn,
     /// `k finish`

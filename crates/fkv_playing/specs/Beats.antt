@@ -1,5 +1,6 @@
 -- A beat of a play: one step of the engine, what it tells, and what is printed of it.
 use Rattle.std.specs.Prelude.{◌≡◌, ℕ, Bool, true, false, List, [], ◌∷◌, ◌++◌, Option, Some, None, Result, Ok, Err}
+use Rattle.fkv_base.specs.declared.commits.CommitKind.TheVariants.{Full}
 use Rattle.fkv_base.specs.declared.faults.Fault.{Fault}
 use Rattle.fkv_core.specs.Showing.{effect_of}
 use Rattle.fkv_core.specs.Worlds.{WorldModel}
@@ -17,21 +18,33 @@ use Rattle.fkv_playing.specs.Players.{PlayerState, is_struck}
 use Rattle.fkv_playing.specs.Seats.{SeatState, seats_answered}
 use Rattle.fkv_playing.specs.Texts.{text_heard}
 use Rattle.fkv_playing.specs.declared.calls.ActorCall.{ActorCall}
-use Rattle.fkv_playing.specs.declared.calls.ActorCall.TheVariants.{Session, Commit, Turn}
+use Rattle.fkv_playing.specs.declared.calls.ActorCall.TheVariants.{Session, Commit, Trim, Turn}
 use Rattle.fkv_playing.specs.declared.calls.Outcome.{Outcome}
 use Rattle.fkv_playing.specs.declared.calls.Outcome.TheVariants.{GoesOn, Answered, Closed, Struck}
 use Rattle.fkv_playing.specs.declared.calls.Stage.{Stage}
 use Rattle.fkv_playing.specs.declared.calls.Stage.TheVariants.{Begins, Moves}
 use Rattle.fkv_playing.specs.declared.calls.Telling.{Telling}
 
--- a call is begun by its own event, and goes on by its actor's moves
-abbrev pub event_of : Stage → ActorCall → events.Event
-event_of Begins (Session number call) = event.Call number call
-event_of Begins (Commit kind) = event.Commit kind
-event_of Begins Turn = event.Turn
-event_of Moves (Session number call) = event.Move number
-event_of Moves (Commit kind) = event.KeeperMove
-event_of Moves Turn = event.KeeperMove
+-- in a turn the keeper moves so, where turns sweep and where they don't
+abbrev pub turn_move : Bool → events.Event
+turn_move true = event.SweepMove
+turn_move false = event.KeeperMove
+
+-- A call is begun by its own event, and goes on by its actor's moves. A trim is a full commit.
+abbrev pub event_of : Bool → Stage → ActorCall → events.Event
+event_of sweeps Begins (Session number call) = event.Call number call
+event_of sweeps Begins (Commit kind) = event.Commit kind
+event_of sweeps Begins Trim = event.Commit Full
+event_of sweeps Begins Turn = event.Turn
+event_of sweeps Moves (Session number call) = event.Move number
+event_of sweeps Moves Turn = turn_move sweeps
+event_of sweeps Moves other = event.KeeperMove
+
+-- Turns sweep behind a trim, up to the next other commit.
+abbrev pub sweeps_behind : Stage → ActorCall → Bool → Bool
+sweeps_behind Begins Trim sweeps = true
+sweeps_behind Begins (Commit kind) sweeps = false
+sweeps_behind stage other sweeps = sweeps
 
 -- what a session was asked; of the keeper's calls nothing is looked at
 abbrev pub asked_of : ActorCall → Call
@@ -87,9 +100,10 @@ pub record IsHeard {D : Type 0} (broken : D → Bool) (telling : Telling) (call 
 pub record IsBeat {D : Type 0} (engine : events.Event → WorldModel D → WorldModel D → Option Told → Bool → Type 0) (telling : Telling) (call : ActorCall) (stage : Stage) (before after : PlayerState D) (outcome : Outcome) (text : List ℕ) : Type 0 where
   pub its : Option Told
   pub broken : Bool
-  pub step : engine (event_of stage call) before.world after.world its broken
-  pub same : after ≡ record before { world = after.world; seats = after.seats; history = after.history }
+  pub step : engine (event_of before.sweeps stage call) before.world after.world its broken
+  pub same : after ≡ record before { world = after.world; seats = after.seats; history = after.history; sweeps = after.sweeps }
   pub ends : outcome ≡ outcome_of (is_struck before.waits broken) its
   pub says : text ≡ text_heard telling (asked_of call) before.seats after.world.now (heard (is_struck before.waits broken) its)
   pub seats : after.seats ≡ seats_behind (asked_of call) before.seats (heard (is_struck before.waits broken) its)
-  pub history : after.history ≡ before.history ++ effects_behind before.keeps_history (event_of stage call) after.world.now
+  pub history : after.history ≡ before.history ++ effects_behind before.keeps_history (event_of before.sweeps stage call) after.world.now
+  pub sweeps : after.sweeps ≡ sweeps_behind stage call before.sweeps

@@ -12,13 +12,15 @@ use Rattle.fkv_playing.specs.Seats.{SeatState}
 use Rattle.fkv_playing.specs.declared.players.Waits.{Waits}
 use Rattle.fkv_playing.specs.declared.players.Waits.TheVariants.{Crash, CrashAtEnd}
 
--- The world, the seats of its sessions, the updates whose effect was told, the oldest first, where they are kept, and what is to come of the device.
+-- The world, the seats of its sessions, the updates whose effect was told, the oldest first, where they are kept, what is to come of the device, and whether
+-- turns sweep the log's front.
 pub record PlayerState (D : Type 0) : Type 0 where
   pub world : WorldModel D
   pub seats : List SeatState
   pub history : List HistoryEntry
   pub keeps_history : Bool
   pub waits : Waits
+  pub sweeps : Bool
 
 -- What a step of the engine is, by its contract: the event, the worlds before and after it, what was told, and whether the device has failed for good then.
 abbrev pub EngineStep : {D : Type 0} → (D → Type 0) → (D → List ℕ) → (D → List ℕ → Type 0) → (D → ℕ) → (D → ℕ → Bool) → (D → List Kind → Foretold) → (D → Bool) → Event → WorldModel D → WorldModel D → Option Told → Bool → Type 0

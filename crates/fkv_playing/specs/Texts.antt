@@ -1,6 +1,7 @@
 -- What is printed of what the engine tells.
 use Rattle.std.specs.Prelude.{ℕ, List, [], Option, Some, None, Result, Ok, Err, slice_get}
 use Rattle.fkv_base.specs.declared.faults.Fault.{Fault}
+use Rattle.fkv_base.specs.declared.numbers.Key.{Key}
 use Rattle.fkv_base.specs.declared.numbers.Version.{Version}
 use Rattle.fkv_base.specs.declared.phases.Phase.{Phase}
 use Rattle.fkv_base.specs.declared.phases.Phase.TheVariants.{Rest}
@@ -38,17 +39,17 @@ answer_told telling number call answer None = []
 answer_told Whole number call answer (Some seat) = session_text number call seat.waiting answer
 answer_told Finished number call answer (Some seat) = finished_lines number seat.waiting (finished_by answer)
 
--- a turn: the whole of it, or what it has finished alone; a refusal is told always
-abbrev pub turn_told : Telling → Phase × Version → Result turns.Turn Fault → List ℕ
-turn_told Whole phase its = turn_text phase.0 phase.1 its
-turn_told Finished phase (Ok turn) = finished_by_turn turn.finished
-turn_told Finished phase (Err fault) = keeper_refusal fault
+-- a turn: the whole of it with the keys that a sweep wants, or what it has finished alone; a refusal is told always
+abbrev pub turn_told : Telling → Phase × Version → List Key → Result turns.Turn Fault → List ℕ
+turn_told Whole phase wanted its = turn_text phase.0 phase.1 wanted its
+turn_told Finished phase wanted (Ok turn) = finished_by_turn turn.finished
+turn_told Finished phase wanted (Err fault) = keeper_refusal fault
 
 -- what is printed of what a step has told of this call, before these seats, behind it in this world; nothing where it told nothing
 abbrev pub text_of : Telling → Call → List SeatState → Now → Told → List ℕ
 text_of telling call seats n (Session number answer) = answer_told telling number call answer (slice_get seats number)
 text_of telling call seats n (Commit begun) = commit_text begun
-text_of telling call seats n (Turn its) = turn_told telling (phase_shown n) its
+text_of telling call seats n (Turn its) = turn_told telling (phase_shown n) n.keeper.sweep.wanted its
 
 abbrev pub text_heard : Telling → Call → List SeatState → Now → Option Told → List ℕ
 text_heard telling call seats n None = []

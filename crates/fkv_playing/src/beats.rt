@@ -31,8 +31,9 @@ impl<D: Breaks> Player<D> {
     ) -> io::Result<Outcome>
         ensures { IfOk result (λ outcome. Writes (IsBeat (EngineStep D.honest D.seen D.may_leave D.failed D.refuses D.expects D.broken) telling call stage self.old self.new outcome) (W.contents output.old) (W.contents output.new)) }
     {
-        let event = call.event(stage);
+        let event = call.event(stage, self.sweeps);
         let has_ended = self.world.advance(event);
+        self.sweeps = call.leaves_sweeping(stage, self.sweeps);
         self.note_effect(event)?;
         if has_ended {
             return self.hear_end(output, telling, call.asked(), event);
@@ -99,7 +100,9 @@ impl<D: Breaks> Player<D> {
                 hear_answer(&mut self.seats, output, telling, *number, call, answer)
             }
             Told::Commit(begun) => write_commit(output, *begun),
-            Told::Turn(its) => tell_turn(output, telling, self.phase(), its),
+            Told::Turn(its) => {
+                tell_turn(output, telling, self.phase(), self.world.wanted(), its)
+            }
         }
     }
 }

@@ -1,6 +1,6 @@
 //! The calls that are played, and how a step of one comes out.
 ghost use Rattle.std.specs.Prelude.{◌≡◌, nat_lt};
-ghost use Rattle.fkv_playing.specs.Beats.{asked_of, event_of};
+ghost use Rattle.fkv_playing.specs.Beats.{asked_of, event_of, sweeps_behind};
 ghost use Rattle.fkv_playing.specs.Queues.{rank_of};
 
 use fkv_base::CommitKind;
@@ -12,8 +12,10 @@ use fkv_map::Call;
 pub enum ActorCall {
     /// The session of this number makes a call; the store may have no such session.
     Session(usize, Call),
-    /// The keeper begins a commit.
+    /// The keeper begins a commit. Turns sweep no more behind it.
     Commit(CommitKind),
+    /// The keeper begins a full commit, behind which turns sweep the log's front.
+    Trim,
     /// The keeper takes a turn.
     Turn,
 }
@@ -50,20 +52,33 @@ pub enum Outcome {
 }
 
 impl ActorCall {
-    /// The event of the engine at this stage.
-    pub(crate) fn event(self, stage: Stage) -> Event
-        ensures { result ≡ event_of stage self }
+    /// The event of the engine at this stage, where turns sweep or don't.
+    pub(crate) fn event(self, stage: Stage, sweeps: bool) -> Event
+        ensures { result ≡ event_of sweeps stage self }
     {
         match stage {
             Stage::Begins => match self {
                 ActorCall::Session(number, call) => Event::Call(number, call),
                 ActorCall::Commit(kind) => Event::Commit(kind),
+                ActorCall::Trim => Event::Commit(CommitKind::Full),
                 ActorCall::Turn => Event::Turn,
             },
             Stage::Moves => match self {
                 ActorCall::Session(number, _) => Event::Move(number),
-                ActorCall::Commit(_) | ActorCall::Turn => Event::KeeperMove,
+                ActorCall::Turn if sweeps => Event::SweepMove,
+                ActorCall::Commit(_) | ActorCall::Trim | ActorCall::Turn => Event::KeeperMove,
             },
+        }
+    }
+
+    /// Whether turns sweep behind this stage, by whether they did before.
+    pub(crate) fn leaves_sweeping(self, stage: Stage, sweeps: bool) -> bool
+        ensures { result ≡ sweeps_behind stage self sweeps }
+    {
+        match (stage, self) {
+            (Stage::Begins, ActorCall::Trim) => true,
+            (Stage::Begins, ActorCall::Commit(_)) => false,
+            _ => sweeps,
         }
     }
 
@@ -73,7 +88,7 @@ impl ActorCall {
     {
         match self {
             ActorCall::Session(_, call) => call,
-            ActorCall::Commit(_) | ActorCall::Turn => Call::Refresh,
+            ActorCall::Commit(_) | ActorCall::Trim | ActorCall::Turn => Call::Refresh,
         }
     }
 

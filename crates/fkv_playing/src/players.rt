@@ -1,5 +1,5 @@
 //! A life that is played.
-ghost use Rattle.std.specs.Prelude.{◌≡◌, IfOk, replicate};
+ghost use Rattle.std.specs.Prelude.{◌≡◌, IfOk, replicate, false};
 ghost use Rattle.fkv_disk.specs.Fuse.{is_blown};
 ghost use Rattle.fkv_disk.specs.Fuses.{fuse_state};
 ghost use Rattle.fkv_playing.specs.Players.{IsArmed, PlayerState, is_struck, waits_for_crash};
@@ -39,12 +39,14 @@ pub struct Player<D: Device> {
     pub(crate) history: Vec<HistoryEntry>,
     pub(crate) keeps_history: bool,
     pub(crate) waits: Waits,
+    /// Turns sweep the log's front: behind a trim, and up to the next other commit.
+    pub(crate) sweeps: bool,
 }
 
 impl<D: Device> Model for Player<D> {
     ghost Value = { PlayerState D };
 
-    ghost view = { λ m. record { world = m.world; seats = m.seats.items; history = m.history.items; keeps_history = m.keeps_history; waits = m.waits } };
+    ghost view = { λ m. record { world = m.world; seats = m.seats.items; history = m.history.items; keeps_history = m.keeps_history; waits = m.waits; sweeps = m.sweeps } };
 }
 
 impl<D: Breaks + Drop> Player<D> {
@@ -57,7 +59,7 @@ impl<D: Breaks + Drop> Player<D> {
         history: Vec<HistoryEntry>,
         keeps_history: bool,
     ) -> io::Result<Player<D>>
-        ensures { IfOk result (λ player. player ≡ record { world = world; seats = replicate sessions first_seat; history = history.items; keeps_history = keeps_history; waits = Waits.Nothing }) }
+        ensures { IfOk result (λ player. player ≡ record { world = world; seats = replicate sessions first_seat; history = history.items; keeps_history = keeps_history; waits = Waits.Nothing; sweeps = false }) }
     {
         let seats = first_seats(alloc, sessions)?;
         Ok(Player {
@@ -66,6 +68,7 @@ impl<D: Breaks + Drop> Player<D> {
             history,
             keeps_history,
             waits: Waits::Nothing,
+            sweeps: false,
         })
     }
 }

@@ -7,7 +7,7 @@ ghost use Rattle.fkv_playing.specs.Texts.{answer_told, phase_told, turn_told};
 
 use crate::calls::{Outcome, Telling};
 use crate::seats::Seat;
-use fkv_base::{Fault, Phase, Version};
+use fkv_base::{Fault, Key, Phase, Version};
 use fkv_core::Told;
 use fkv_keeper::Turn;
 use fkv_map::Call;
@@ -51,17 +51,18 @@ pub(crate) fn tell_answer<W: Write>(
     }
 }
 
-/// The answer to a turn, or what it has finished.
+/// The answer to a turn with the keys that a sweep wants, or what it has finished.
 pub(crate) fn tell_turn<W: Write>(
     output: &mut W,
     telling: Telling,
     phase: (Phase, Version),
+    wanted: &[Key],
     its: &Result<Turn, Fault>,
 ) -> io::Result<()>
-    ensures { OnOk result (Appends (W.contents output.old) (W.contents output.new) (turn_told telling phase its.now)) }
+    ensures { OnOk result (Appends (W.contents output.old) (W.contents output.new) (turn_told telling phase wanted.now its.now)) }
 {
     match telling {
-        Telling::Whole => write_turn(output, phase.0, phase.1, its),
+        Telling::Whole => write_turn(output, phase.0, phase.1, wanted, its),
         Telling::Finished => match its {
             Ok(turn) => match &turn.finished {
                 Some(commit) => write_finished_commit(output, commit),

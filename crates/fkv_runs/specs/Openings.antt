@@ -72,4 +72,4 @@ medium_of honest seen may_leave failed refuses expects broken armed = record {
 pub record Begins {D : Type 0} (opened : Opened) (device : D) (history : List HistoryEntry) (keeps_history : Bool) (player : PlayerState D) : Type 0 where
   pub world : IsOpeningWorld opened player.world.now
   pub over : player.world.device ≡ device
-  pub same : player ≡ record { world = player.world; seats = replicate opened.shape.sessions first_seat; history = history; keeps_history = keeps_history; waits = Nothing }
+  pub same : player ≡ record { world = player.world; seats = replicate opened.shape.sessions first_seat; history = history; keeps_history = keeps_history; waits = Nothing; sweeps = false }

@@ -4,7 +4,7 @@ use Rattle.std.specs.List.{flat_map}
 use Rattle.fkv_lines.specs.declared.scripts.Line.{Line}
 use Rattle.fkv_lines.specs.declared.scripts.Line.TheVariants as line
 use Rattle.fkv_playing.specs.declared.calls.ActorCall.{ActorCall}
-use Rattle.fkv_playing.specs.declared.calls.ActorCall.TheVariants.{Session, Commit, Turn}
+use Rattle.fkv_playing.specs.declared.calls.ActorCall.TheVariants.{Session, Commit, Trim, Turn}
 use Rattle.fkv_runs.specs.declared.pieces.Piece.{Piece}
 use Rattle.fkv_runs.specs.declared.pieces.Piece.TheVariants.{Group, Finish, Crash, CrashAt, FailAt}
 
@@ -12,6 +12,7 @@ use Rattle.fkv_runs.specs.declared.pieces.Piece.TheVariants.{Group, Finish, Cras
 abbrev pub line_of : ActorCall → Line
 line_of (Session number call) = line.Call number call
 line_of (Commit kind) = line.Commit kind
+line_of Trim = line.Trim
 line_of Turn = line.Turn
 
 -- the lines of a piece
@@ -26,6 +27,7 @@ lines_of (FailAt count) = line.FailAt count ∷ []
 abbrev pub is_mark : Line → Bool
 is_mark (line.Call number call) = false
 is_mark (line.Commit kind) = false
+is_mark line.Trim = false
 is_mark line.Turn = false
 is_mark other = true
 

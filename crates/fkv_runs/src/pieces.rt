@@ -77,6 +77,7 @@ fn call_of(line: Line) -> Option<ActorCall>
     match line {
         Line::Call(number, call) => Some(ActorCall::Session(number as usize, call)),
         Line::Commit(kind) => Some(ActorCall::Commit(kind)),
+        Line::Trim => Some(ActorCall::Trim),
         Line::Turn => Some(ActorCall::Turn),
         Line::Finish | Line::Crash | Line::CrashAt(_) | Line::FailAt(_) => None,
     }
@@ -92,6 +93,8 @@ fn mark_of(alloc: Global, line: Line) -> Piece
         Line::Crash => Piece::Crash,
         Line::CrashAt(call) => Piece::CrashAt(call),
         Line::FailAt(call) => Piece::FailAt(call),
-        Line::Call(_, _) | Line::Commit(_) | Line::Turn => Piece::Group(Vec::new(alloc)),
+        Line::Call(_, _) | Line::Commit(_) | Line::Trim | Line::Turn => {
+            Piece::Group(Vec::new(alloc))
+        }
     }
 }

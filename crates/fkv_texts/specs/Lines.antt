@@ -42,6 +42,13 @@ reply_text Absent = codes " absent"
 abbrev pub phase_text : Phase → Version → List ℕ
 phase_text phase version = codes " " ++ phase_name phase ++ number_word version.0
 
+-- ` 7 9`: keys
+abbrev pub key_text : Key → List ℕ
+key_text key = number_word key.0
+
+abbrev pub keys_text : List Key → List ℕ
+keys_text keys = flat_map key_text keys
+
 -- ` 2 3`: the points of a commit, session by session
 abbrev pub point_text : Serial → List ℕ
 point_text point = number_word point.0

@@ -1,11 +1,11 @@
 //! The lines of the keeper.
 ghost use Rattle.std.specs.Prelude.{OnOk};
 ghost use Rattle.std.specs.Io.KnownBytes.{Appends};
-ghost use Rattle.fkv_texts.specs.Keeper.{commit_text, finished_commit_text, turn_line, turn_text, nothing_to_finish, not_finished};
+ghost use Rattle.fkv_texts.specs.Keeper.{commit_text, finished_commit_text, turn_line, turn_text, wants_text, nothing_to_finish, not_finished};
 
-use crate::lines::{PhaseText, write_points};
+use crate::lines::{PhaseText, write_keys, write_points};
 use crate::refusals::write_keeper_refusal;
-use fkv_base::{Fault, Phase, Version};
+use fkv_base::{Fault, Key, Phase, Version};
 use fkv_keeper::{Finished, Turn};
 use std::io::{self, Write};
 
@@ -22,21 +22,22 @@ pub fn write_commit<W: Write>(output: &mut W, begun: Result<Version, Fault>) -> 
 }
 
 /// The answer to a turn: `k turn prepare 1`, with ` drain full` behind it where a part was left to a later turn for want of a
-/// drain slot, and then the line of the commit that it has finished, if it has finished one; or its refusal. The phase and the
-/// version are those of the phase word after the turn; a refusal has no word of them.
+/// drain slot, and ` wants 7 9` where a sweep has found these keys wanted. Then the line of the commit that it has finished, if it
+/// has finished one; or its refusal. The phase and the version are those of the phase word after the turn; a refusal has no word of them.
 ///
 /// An error is the output's own; it may have taken some of the lines then, and a part of one.
 pub fn write_turn<W: Write>(
     output: &mut W,
     phase: Phase,
     version: Version,
+    wanted: &[Key],
     turn: &Result<Turn, Fault>,
 ) -> io::Result<()>
-    ensures { OnOk result (Appends (W.contents output.old) (W.contents output.new) (turn_text phase version turn.now)) }
+    ensures { OnOk result (Appends (W.contents output.old) (W.contents output.new) (turn_text phase version wanted.now turn.now)) }
 {
     match turn {
         Ok(turn) => {
-            write_turn_line(output, PhaseText(phase, version), turn.drain_full)?;
+            write_turn_line(output, PhaseText(phase, version), turn.drain_full, wanted)?;
             match &turn.finished {
                 Some(commit) => write_finished_commit(output, commit),
                 None => Ok(()),
@@ -46,14 +47,32 @@ pub fn write_turn<W: Write>(
     }
 }
 
-fn write_turn_line<W: Write>(output: &mut W, after: PhaseText, drain_full: bool) -> io::Result<()>
-    ensures { OnOk result (Appends (W.contents output.old) (W.contents output.new) (turn_line after.0 after.1 drain_full)) }
+fn write_turn_line<W: Write>(
+    output: &mut W,
+    after: PhaseText,
+    drain_full: bool,
+    wanted: &[Key],
+) -> io::Result<()>
+    ensures { OnOk result (Appends (W.contents output.old) (W.contents output.new) (turn_line after.0 after.1 drain_full wanted.now)) }
 {
     if drain_full {
-        writeln!(output, "k turn{after} drain full")
+        write!(output, "k turn{after} drain full")?;
     } else {
-        writeln!(output, "k turn{after}")
+        write!(output, "k turn{after}")?;
     }
+    write_wants(output, wanted)?;
+    writeln!(output)
+}
+
+/// The keys that a sweep wants: ` wants 7 9`, and nothing where there are none.
+fn write_wants<W: Write>(output: &mut W, wanted: &[Key]) -> io::Result<()>
+    ensures { OnOk result (Appends (W.contents output.old) (W.contents output.new) (wants_text wanted.now)) }
+{
+    if wanted.is_empty() {
+        return Ok(());
+    }
+    write!(output, " wants")?;
+    write_keys(output, wanted)
 }
 
 /// A commit that is finished, by its number and the point of each session: `k finished 1 points 2 3`.

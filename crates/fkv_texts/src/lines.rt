@@ -1,7 +1,7 @@
 //! What the lines are made of.
 ghost use Rattle.std.specs.Prelude.{Some, OnOk};
 ghost use Rattle.std.specs.Io.KnownBytes.{Appends};
-ghost use Rattle.fkv_texts.specs.Lines.{point_text, points_text};
+ghost use Rattle.fkv_texts.specs.Lines.{key_text, keys_text, point_text, points_text};
 
 use fkv_base::{Key, Phase, Serial, Version};
 use fkv_map::Reply;
@@ -56,6 +56,22 @@ impl fmt::Display for PhaseText {
         let (phase, version) = (self.0.name(), self.1.0);
         write!(f, " {phase} {version}")
     }
+}
+
+/// Keys, with a blank before each.
+pub(crate) fn write_keys<W: Write>(output: &mut W, keys: &[Key]) -> io::Result<()>
+    ensures { OnOk result (Appends (W.contents output.old) (W.contents output.new) (keys_text keys.now)) }
+{
+    for key in keys {
+        write_key(output, *key)?;
+    }
+    Ok(())
+}
+
+fn write_key<W: Write>(output: &mut W, key: Key) -> io::Result<()>
+    ensures { OnOk result (Appends (W.contents output.old) (W.contents output.new) (key_text key)) }
+{
+    write!(output, " {}", key.0)
 }
 
 /// The points of a commit, session by session, with a blank before each.

@@ -15,16 +15,19 @@ is_served (line.Call number (call.Op op)) = true
 is_served (line.Call number call.Refresh) = true
 is_served (line.Call number call.Poll) = true
 is_served (line.Commit kind) = true
+is_served line.Trim = true
 is_served line.Finish = true
 is_served its = false
 
 abbrev pub is_commit : Line → Bool
 is_commit (line.Commit kind) = true
+is_commit line.Trim = true
 is_commit its = false
 
 -- whether a commit's finish hasn't come behind this line, by whether it hadn't before
 abbrev pub runs_behind : Bool → Line → Bool
 runs_behind runs (line.Commit kind) = true
+runs_behind runs line.Trim = true
 runs_behind runs line.Finish = false
 runs_behind runs its = runs
 

@@ -92,7 +92,7 @@ fn begun_behind(begun: Option<usize>, index: usize, line: Line) -> Option<usize>
     ensures { is_some result ≡ runs_behind (is_some begun) line }
 {
     match line {
-        Line::Commit(_) => Some(index),
+        Line::Commit(_) | Line::Trim => Some(index),
         Line::Finish => None,
         _ => begun,
     }
@@ -102,7 +102,7 @@ fn is_commit(line: Line) -> bool
     ensures { result ≡ is_commit line }
 {
     match line {
-        Line::Commit(_) => true,
+        Line::Commit(_) | Line::Trim => true,
         _ => false,
     }
 }
@@ -116,7 +116,7 @@ fn is_served(line: Line) -> bool
             Call::Op(_) | Call::Refresh | Call::Poll => true,
             Call::Sleep | Call::Wake | Call::Durable => false,
         },
-        Line::Commit(_) | Line::Finish => true,
+        Line::Commit(_) | Line::Trim | Line::Finish => true,
         Line::Turn | Line::Crash | Line::CrashAt(_) | Line::FailAt(_) => false,
     }
 }

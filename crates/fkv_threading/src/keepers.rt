@@ -57,6 +57,8 @@ fn play_lines<D: Device + Drop, R: Wait>(
         }
         match *line {
             Line::Commit(kind) => runs = begin(rt, progress, keeping, kind),
+            // No session keeps what a sweep would want, so nothing is swept.
+            Line::Trim => runs = begin(rt, progress, keeping, CommitKind::Full),
             Line::Finish if runs => {
                 finish(rt, progress, keeping);
                 runs = false;

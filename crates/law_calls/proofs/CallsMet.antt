@@ -88,6 +88,11 @@ by_event false n events.KeeperMove granted done failed failed' refuses refuses' 
     let due = makes_due k in
     by_ask (keeper_ask n.shape n.places n.keeper) (keeper_due k) done (keeper_calls n.shape n.keeper done) (keeper_made n.places n.keeper) failed failed' refuses refuses' expects expects'
     (due.calls done) due.counted uses kinds
+by_event false n events.SweepMove granted done failed failed' refuses refuses' expects expects' uses kinds =
+    let k : KeeperModel = record { shape = n.shape; places = n.places; state = n.keeper } in
+    let due = makes_due k in
+    by_ask (keeper_ask n.shape n.places n.keeper) (keeper_due k) done (keeper_calls n.shape n.keeper done) (keeper_made n.places n.keeper) failed failed' refuses refuses' expects expects'
+    (due.calls done) due.counted uses kinds
 by_event false n its granted done failed failed' refuses refuses' expects expects' uses kinds = met_none refuses refuses' expects expects' uses.1 kinds
 
 -- calls noted behind others

@@ -41,6 +41,9 @@ by_event true n its granted done failed failed' refuses refuses' uses = inl (sam
 by_event false n events.KeeperMove granted done failed failed' refuses refuses' uses =
     by_ask (keeper_ask n.shape n.places n.keeper) (keeper_calls n.shape n.keeper done) (keeper_made n.places n.keeper) done failed failed' refuses refuses'
     (calls_one n.shape n.keeper done) (keeper_asked_calls n.shape n.places n.keeper) uses
+by_event false n events.SweepMove granted done failed failed' refuses refuses' uses =
+    by_ask (keeper_ask n.shape n.places n.keeper) (keeper_calls n.shape n.keeper done) (keeper_made n.places n.keeper) done failed failed' refuses refuses'
+    (calls_one n.shape n.keeper done) (keeper_asked_calls n.shape n.places n.keeper) uses
 by_event false n its granted done failed failed' refuses refuses' uses = inl (same refuses refuses' uses.1)
 
 pub steps_make_one : (n : Now) (its : event.Event) (granted done : Bool) (failed failed' : ℕ) (refuses refuses' : ℕ → Bool)

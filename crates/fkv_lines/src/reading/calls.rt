@@ -64,7 +64,7 @@ fn operation_of(opening: Opening, verb: &[u8], words: &[&[u8]]) -> Result<Op, Sc
             let [key] = arguments_of::<1>(words)?;
             Ok(Op::Read(Key(key)))
         }
-        _ if opening.takes_merges() => merge_of(verb, words),
+        _ if opening.opens_living() => merge_of(verb, words),
         _ => Err(ScriptFault::Word),
     }
 }

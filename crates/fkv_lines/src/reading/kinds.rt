@@ -76,7 +76,7 @@ pub(super) fn later_line(mode: Mode, opening: Opening, words: &[&[u8]]) -> Resul
     match *head {
         b"crash" => in_memory(mode, crash_line(words)?),
         b"fail" => in_memory(mode, fail_line(words)?),
-        b"k" => keeper_line(words),
+        b"k" => keeper_line(opening, words),
         [b'0'..=b'9', ..] => session_line(opening, head, words),
         _ => Err(ScriptFault::Word),
     }
@@ -136,30 +136,31 @@ fn device_call(word: &[u8]) -> Result<u64, ScriptFault>
 
 /// What stands behind `k`: `commit`, `turn` or `finish`.
 #[tactic(auto, unfolding(crate::specs::Lines::keeper_line))]
-fn keeper_line(words: &[&[u8]]) -> Result<Line, ScriptFault>
-    ensures { result ≡ keeper_line (texts words.now) }
+fn keeper_line(opening: Opening, words: &[&[u8]]) -> Result<Line, ScriptFault>
+    ensures { result ≡ keeper_line opening (texts words.now) }
 {
     let [verb, words @ ..] = words else {
         return Err(ScriptFault::Count);
     };
     match *verb {
-        b"commit" => commit_line(words),
+        b"commit" => commit_line(opening, words),
         b"turn" => alone(words, Line::Turn),
         b"finish" => alone(words, Line::Finish),
         _ => Err(ScriptFault::Word),
     }
 }
 
-/// What stands behind `k commit`: nothing, or `log`.
+/// What stands behind `k commit`: nothing, `log`, or in a living store `trim`.
 #[tactic(auto, unfolding(crate::specs::Lines::commit_line))]
-fn commit_line(words: &[&[u8]]) -> Result<Line, ScriptFault>
-    ensures { result ≡ commit_line (texts words.now) }
+fn commit_line(opening: Opening, words: &[&[u8]]) -> Result<Line, ScriptFault>
+    ensures { result ≡ commit_line opening (texts words.now) }
 {
     let [kind, words @ ..] = words else {
         return Ok(Line::Commit(CommitKind::Full));
     };
     match *kind {
         b"log" => alone(words, Line::Commit(CommitKind::Log)),
+        b"trim" if opening.opens_living() => alone(words, Line::Trim),
         _ => Err(ScriptFault::Word),
     }
 }

@@ -29,6 +29,7 @@ as_asked (ask.Move number) granted done n after = refl
 as_asked (ask.Commit kind) granted done n after = refl
 as_asked ask.Turn granted done n after = refl
 as_asked ask.KeeperMove granted done n after = refl
+as_asked ask.SweepMove granted done n after = refl
 as_asked ask.Crash granted done n after = refl
 
 pub tells_effect : {D : Type 0} (honest : D → Type 0) (seen : D → List ℕ) (may_leave : D → List ℕ → Type 0) (failed : D → ℕ) (refuses : D → ℕ → Bool) (expects : D → List Kind → Foretold) → EffectsTold → (opening : World) (start : ℕ) (events : List Event) (its : asked.Event) (world after : WorldModel D) (told : Option Told)

@@ -11,7 +11,7 @@ pub returns-in-Done-Device-clause-moved : goal.returns-in-Done-Device-clause-mov
 returns-in-Done-Device-clause-moved g c =
     let k = c.args.keeper.now in
     let asks : keeper_ask k.shape k.places k.state ≡ Done Device = search rules in
-    device_move c.args.words.now k c.device_step.new.self _ _ _ _ _ _ _ _ _ _ _ asks c.device_step.ensures.step
+    device_move c.args.sweeps c.args.words.now k c.device_step.new.self _ _ _ _ _ _ _ _ _ _ _ asks c.device_step.ensures.step
 
 pub returns-in_default : goal.returns-in_default
 returns-in_default g c =
@@ -19,7 +19,7 @@ returns-in_default g c =
     let word : is_done (keeper_ask k.shape k.places k.state) ≡ false = search rules in
     let store : c.word_asked.new.keeper ≡ record k { state = c.word_asked.new.keeper.state } = search rules in
     record {
-      moved = word_move c.args.words.now c.word_asked.new.words k c.word_asked.new.keeper _ _ _ _ _ _ word store c.word_asked.ensures.no_sweep c.word_asked.ensures.moved;
+      moved = word_move c.args.sweeps c.args.words.now c.word_asked.new.words k c.word_asked.new.keeper _ _ _ _ _ _ word store c.word_asked.ensures.no_sweep c.word_asked.ensures.moved;
       ended = search rules;
       honest = (λ claim. claim, λ claim. claim);
       time = λ claim. no_time _ _ _;

@@ -27,8 +27,8 @@ returns-in-Some-clause-moved c =
 pub returns-in_default : goal.returns-in_default
 returns-in_default c =
     let k = c.args.keeper.now in
-    let between = c.go_on-next.new.self in
-    let granted : Bool = between.state.is_granted in
+    let between = c.replied-next.new.keeper in
+    let granted : Bool = c.replied-next.ensures.next.0 in
     let n : Near KeeperState = beside c.args.words.now k.state in
     let ask : Ask KeeperTold = c.args.ask in
     let word : is_word_ask ask ≡ true = search rules in
@@ -38,6 +38,6 @@ returns-in_default c =
     let first : beside c.perform-reply.new.self between.state ≡ keeper_replied k.shape k.places granted n ask = search rules in
     record {
       store = search rules;
-      no_sweep = λ sweeps. c.go_on-next.ensures.no_sweep (c.settle.ensures.no_sweep sweeps);
+      no_sweep = λ none sweeps. c.replied-next.ensures.no_sweep none (c.settle.ensures.no_sweep sweeps);
       moved = (granted, λ done read. two_steps k.shape between.shape k.places between.places n (beside c.perform-reply.new.self between.state) (beside c.settle.new.words c.settle.new.keeper.state) granted done read ask asked word same also first (c.settle.ensures.next granted));
     }

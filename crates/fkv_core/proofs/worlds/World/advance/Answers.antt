@@ -58,7 +58,13 @@ pub returns-in-KeeperMove-clause-step : goal.returns-in-KeeperMove-clause-step
 returns-in-KeeperMove-clause-step g c = λ told tells.
     let inside = c.self.inside in
     let n : Now = record { shape = inside.keeper.shape; places = inside.keeper.places; words = inside.words.words; actions = inside.words.actions; sessions = states_of inside.sessions.items; keeper = inside.keeper.state; crashed = inside.crashed } in
-    rw (← c.self.view_is, c.in-KeeperMove.is) (keeper_step n c.keeper_move.new.words c.keeper_move.new.keeper c.keeper_move.result told _ _ _ _ _ _ _ _ _ _ _ c.if-self.false c.keeper_move.ensures.moved c.keeper_move.ensures.ended (rw (← c.in-KeeperMove.is) tells))
+    rw (← c.self.view_is, c.in-KeeperMove.is) (keeper_step false n c.keeper_move.new.words c.keeper_move.new.keeper c.keeper_move.result told _ _ _ _ _ _ _ _ _ _ _ c.if-self.false c.keeper_move.ensures.moved c.keeper_move.ensures.ended (rw (← c.in-KeeperMove.is) tells))
+
+pub returns-in-SweepMove-clause-step : goal.returns-in-SweepMove-clause-step
+returns-in-SweepMove-clause-step g c = λ told tells.
+    let inside = c.self.inside in
+    let n : Now = record { shape = inside.keeper.shape; places = inside.keeper.places; words = inside.words.words; actions = inside.words.actions; sessions = states_of inside.sessions.items; keeper = inside.keeper.state; crashed = inside.crashed } in
+    rw (← c.self.view_is, c.in-SweepMove.is) (keeper_step true n c.keeper_move-in-SweepMove.new.words c.keeper_move-in-SweepMove.new.keeper c.keeper_move-in-SweepMove.result told _ _ _ _ _ _ _ _ _ _ _ c.if-self.false c.keeper_move-in-SweepMove.ensures.moved c.keeper_move-in-SweepMove.ensures.ended (rw (← c.in-SweepMove.is) tells))
 
 pub returns-in-Crash-clause-step : goal.returns-in-Crash-clause-step
 returns-in-Crash-clause-step g c = λ told tells.
