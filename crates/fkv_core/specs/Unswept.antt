@@ -1,4 +1,4 @@
--- Lives in which the keeper sweeps nothing, as those are that the engine's steps lead on. Their logs begin where they did.
+-- Lives in which the keeper sweeps nothing, as those are that the engine's steps lead on without a `SweepMove`. Their logs begin where they did.
 use Rattle.std.specs.Prelude.{◌≡◌, ⊤, List, [], ◌∷◌}
 use Rattle.fkv_keeper.specs.declared.keepers.Keeping.TheVariants.{Sweeps}
 use Rattle.fkv_world.specs.Opened.{IsOpenedWorld}
