@@ -493,7 +493,6 @@ arming_shown {D} seen may_leave count waits its before after armed shown =
       store = shown.store;
       opening = shown.opening;
       fits = shown.fits;
-      unswept = shown.unswept;
       shows = shown.shows ∙ sym armed.now;
       device = record {
         reads = subst (λ (x : D). ReadsAs (run (beginning its.world its.bytes) its.events).past.opened (run (beginning its.world its.bytes) its.events).past.calls (seen x)) (sym armed.device) device.reads;

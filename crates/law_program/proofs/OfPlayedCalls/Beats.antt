@@ -101,7 +101,7 @@ pub record EndsCall {D : Type 0} (telling : Telling) (number : ℕ) (call : Call
 module _ {D : Type 0} (engine : events.Event → WorldModel D → WorldModel D → Option tells.Told → Bool → Type 0) (rules : GoesByRules engine) (telling : Telling) (number : ℕ) (call : Call) (opening : World) where
   ruled : (at : Stage) (before after : PlayerState D) (outcome : Outcome) (text : List ℕ) → (beat : IsBeat engine telling (Session number call) at before after outcome text)
       → IsRuled (stage_event at number call) before.world.now after.world.now beat.its
-  ruled at before after outcome text beat = rules at number call before.world after.world beat.its beat.broken beat.step
+  ruled at before after outcome text beat = rules before.sweeps at number call before.world after.world beat.its beat.broken beat.step
 
   -- the last one
   last_beat : (at : Stage) (life : List Event) (before after : PlayerState D) (outcome : Outcome) (text : List ℕ) → (run opening life).now ≡ before.world.now → HasEnded outcome

@@ -1,5 +1,5 @@
 -- A life goes on by each line of a call, and by each finish.
-use Rattle.std.proofs.Common.{◌≡◌, ◌∙◌, ◌⊎◌, ◌+◌, ◌-◌, ◌^◌, ◌<◌, ◌≤◌, ℕ, zero, suc, List, [], ◌∷◌, ◌++◌, Bool, true, false, ap, append_assoc, arith, inl, inr, length, refl, replicate, sym, subst, take}
+use Rattle.std.proofs.Common.{◌≡◌, ◌≢◌, ◌∙◌, ◌⊎◌, ◌+◌, ◌-◌, ◌^◌, ◌<◌, ◌≤◌, ℕ, zero, suc, List, [], ◌∷◌, ◌++◌, Bool, true, false, ap, append_assoc, arith, inl, inr, length, refl, replicate, sym, subst, take}
 use Rattle.std.specs.Prelude.{Option, Some, None, nat_lt, ⊤}
 use Rattle.std.proofs.lemmas.List.{append-nil}
 use Rattle.fkv_base.specs.declared.faults.Fault.TheVariants.{NoSession}
@@ -22,7 +22,7 @@ use Rattle.fkv_runs.specs.Below.fkv_playing.Players.{PlayerState}
 use Rattle.fkv_runs.specs.Below.fkv_playing.Seats.{SeatState}
 use Rattle.fkv_runs.specs.Below.fkv_playing.Texts.{phase_shown}
 use Rattle.fkv_runs.specs.Below.fkv_playing.ActorCall.{ActorCall}
-use Rattle.fkv_runs.specs.Below.fkv_playing.ActorCall.TheVariants.{Session, Commit, Turn}
+use Rattle.fkv_runs.specs.Below.fkv_playing.ActorCall.TheVariants.{Session, Commit, Trim, Turn}
 use Rattle.fkv_runs.specs.Below.fkv_playing.Outcome.{Outcome}
 use Rattle.fkv_runs.specs.Below.fkv_playing.Outcome.TheVariants.{Answered, Closed, GoesOn, Struck}
 use Rattle.fkv_runs.specs.Below.fkv_playing.Stage.TheVariants as stage
@@ -40,7 +40,7 @@ use Rattle.law_order.specs.Rules.Ordered.{HasLegalHistory, OrdersItsCalls, Reads
 use Rattle.law_order.specs.Served.Fits.{CallFits, CallsFit}
 use Rattle.law_order.specs.Tickets.Few.{HasFewCalls, calls_in}
 use Rattle.law_order.proofs.OfRules.Beginning.{world_opens}
-use Rattle.law_program.specs.PlayedCalls.EachLine.{AreMovesOf, ArePlayedInLife, CallsGoOn, FinishesGoOn, IsEndOfFinish, IsFinishCutShort, IsFinishInLife, IsKeeperAnswered, IsLifeOver, IsLineInLife, IsPlayedInLife, IsRefusedLine, IsToldInLife, ItsNumbersFit, StruckCallsSayNothing, StruckFinishesEnd, begun_by}
+use Rattle.law_program.specs.PlayedCalls.EachLine.{AreMovesOf, ArePlayedInLife, CallsGoOn, FinishesGoOn, IsEndOfFinish, IsFinishCutShort, IsFinishInLife, IsKeeperAnswered, IsLifeOver, IsLineInLife, IsPlayedInLife, IsRefusedLine, IsToldInLife, IsUnswept, ItsNumbersFit, StruckCallsSayNothing, StruckFinishesEnd, begun_by}
 use Rattle.law_program.specs.PlayedCalls.Finished.{IsCallAnswered}
 use Rattle.law_program.specs.PlayedCalls.PlayedCalls.{called_alone}
 use Rattle.law_program.specs.PlayedCalls.Waiting.{SeatsKeepKeys}
@@ -49,7 +49,7 @@ use Rattle.law_program.proofs.OfPlayedCalls.Beats.{EndsCall, HasEnded, beats_end
 use Rattle.law_program.proofs.OfPlayedCalls.InLife.{calls_few, calls_fit}
 use Rattle.law_program.proofs.OfPlayedCalls.Keeper.{map_stays, nobody_still, seats_still}
 use Rattle.law_program.proofs.OfPlayedCalls.FinishedCommits.{finishes_what_is_told}
-use Rattle.law_program.proofs.OfPlayedCalls.Led.{IsKeepers, IsLedBy, IsOneAnswer, LeadsLives, ShowsBoth, alike, struck_alone, told_last}
+use Rattle.law_program.proofs.OfPlayedCalls.Led.{IsKeepers, IsLedBy, IsOneAnswer, LeadsLives, ShowsBoth, SweepsNothing, alike, struck_alone, told_last}
 use Rattle.law_program.proofs.OfPlayedCalls.OneCall.{HasOneCall, first_call, played_out, refused_out, struck_silent}
 use Rattle.law_program.proofs.OfPlayedCalls.Polled.{IsTraced, traced, updates_answered}
 use Rattle.law_program.proofs.OfPlayedCalls.PolledReads.{reads_answered}
@@ -68,8 +68,10 @@ session_moves number (suc count) asked = (refl, session_moves number count asked
 keeper_fits : (its : ActorCall) (moves life : List Event) → IsKeepers its → AreMovesOf its moves → CallsFit life → CallsFit (moves ++ begun_by its ∷ life)
 keeper_fits (Session number asked) moves life keeper are fits = absurd keeper
 keeper_fits (Commit kind) [] life keeper are fits = (tt, fits)
+keeper_fits Trim [] life keeper are fits = (tt, fits)
 keeper_fits Turn [] life keeper are fits = (tt, fits)
 keeper_fits (Commit kind) (event ∷ moves) life keeper are fits = subst (λ (x : Event). CallsFit (x ∷ (moves ++ begun_by (Commit kind) ∷ life))) (sym are.0.2) (tt, keeper_fits (Commit kind) moves life keeper are.1 fits)
+keeper_fits Trim (event ∷ moves) life keeper are fits = subst (λ (x : Event). CallsFit (x ∷ (moves ++ begun_by Trim ∷ life))) (sym are.0.2) (tt, keeper_fits Trim moves life keeper are.1 fits)
 keeper_fits Turn (event ∷ moves) life keeper are fits = subst (λ (x : Event). CallsFit (x ∷ (moves ++ begun_by Turn ∷ life))) (sym are.0.2) (tt, keeper_fits Turn moves life keeper are.1 fits)
 
 -- how many calls of sessions there are behind a call
@@ -78,31 +80,38 @@ calls_counted its [] life are = refl
 calls_counted (Session number asked) (event ∷ moves) life are =
     ap (λ (x : Event). calls_in (x ∷ (moves ++ begun_by (Session number asked) ∷ life))) are.0 ∙ calls_counted (Session number asked) moves life are.1
 calls_counted (Commit kind) (event ∷ moves) life are = ap (λ (x : Event). calls_in (x ∷ (moves ++ begun_by (Commit kind) ∷ life))) are.0.2 ∙ calls_counted (Commit kind) moves life are.1
+calls_counted Trim (event ∷ moves) life are = ap (λ (x : Event). calls_in (x ∷ (moves ++ begun_by Trim ∷ life))) are.0.2 ∙ calls_counted Trim moves life are.1
 calls_counted Turn (event ∷ moves) life are = ap (λ (x : Event). calls_in (x ∷ (moves ++ begun_by Turn ∷ life))) are.0.2 ∙ calls_counted Turn moves life are.1
 
 -- no more than one
 pub begun_counted : (its : ActorCall) (life : List Event) → calls_in (begun_by its ∷ life) ≤ suc (calls_in life)
 begun_counted (Session number asked) life = omega arith
 begun_counted (Commit kind) life = omega arith
+begun_counted Trim life = omega arith
 begun_counted Turn life = omega arith
 
+-- behind one a life isn't empty
+pub begun_not_empty : (moves life : List Event) (event : Event) → moves ++ event ∷ life ≢ []
+begun_not_empty [] life event = λ e. cc
+begun_not_empty (x ∷ moves) life event = λ e. cc
+
 -- ---- the calls of a finish
--- their numbers fit in words
+-- their numbers fit in words, and none is a trim
 abbrev AreFit : List ActorCall → Type 0
 AreFit [] = ⊤
-AreFit (its ∷ later) = ItsNumbersFit its × AreFit later
+AreFit (its ∷ later) = ItsNumbersFit its × (its ≢ Trim) × AreFit later
 
 fit_both : (calls later : List ActorCall) → AreFit calls → AreFit later → AreFit (calls ++ later)
 fit_both [] later fit behind = behind
-fit_both (its ∷ calls) later fit behind = (fit.0, fit_both calls later fit.1 behind)
+fit_both (its ∷ calls) later fit behind = (fit.0, fit.1, fit_both calls later fit.2 behind)
 
 fit_taken : (count : ℕ) (calls : List ActorCall) → AreFit calls → AreFit (take count calls)
 fit_taken zero calls fit = tt
 fit_taken (suc count) [] fit = tt
-fit_taken (suc count) (its ∷ calls) fit = (fit.0, fit_taken count calls fit.1)
+fit_taken (suc count) (its ∷ calls) fit = (fit.0, fit.1, fit_taken count calls fit.2)
 
 fit_seat : (number : ℕ) (is_awake : Bool) → AreFit (calls_of_seat number is_awake)
-fit_seat number true = (tt, (tt, tt))
+fit_seat number true = (tt, (λ e. cc), (tt, (λ e. cc), tt))
 fit_seat number false = tt
 
 fit_seats : (number : ℕ) (seats : List SeatState) → AreFit (calls_of_seats number seats)
@@ -110,7 +119,7 @@ fit_seats number [] = tt
 fit_seats number (seat ∷ later) = fit_both (calls_of_seat number seat.is_awake) (calls_of_seats (suc number) later) (fit_seat number seat.is_awake) (fit_seats (suc number) later)
 
 fit_round : (seats : List SeatState) → AreFit (round_of seats)
-fit_round seats = fit_both (calls_of_seats 0 seats) (Turn ∷ []) (fit_seats 0 seats) (tt, tt)
+fit_round seats = fit_both (calls_of_seats 0 seats) (Turn ∷ []) (fit_seats 0 seats) (tt, (λ e. cc), tt)
 
 fit_rounds : (count : ℕ) (round : List ActorCall) → AreFit round → AreFit (rounds count round)
 fit_rounds zero round fit = tt
@@ -148,7 +157,7 @@ module _ {D : Type 0} (legal : InEachLife HasLegalHistory) (ordered : InEachLife
     pub few : calls_in later ≡ calls_in (begun_by its ∷ life)
 
   shows_first : (bytes : List ℕ) (o : Opened) (first : Now) (life : List Event) (before : PlayerState D) → IsLifeOver seen may_leave bytes o first life before → ShowsBoth seen may_leave (beginning first bytes) life before.world
-  shows_first bytes o first life before over = record { shows = over.quiet.shows; unswept = over.quiet.unswept; device = over.device }
+  shows_first bytes o first life before over = record { shows = over.quiet.shows; device = over.device }
 
   -- of a session
   call_answered : (telling : Telling) (number count : ℕ) (asked : Call) (bytes : List ℕ) (o : Opened) (first : Now) (life : List Event) (before after : PlayerState D) (text : List ℕ) → IsLifeOver seen may_leave bytes o first life before
@@ -159,12 +168,11 @@ module _ {D : Type 0} (legal : InEachLife HasLegalHistory) (ordered : InEachLife
       let is_life : IsLife (record { bytes = bytes; opened = o; world = first; events = called_alone number count asked life })
       = record { store = over.quiet.store; begins = over.quiet.opening; fits = calls_fit number count asked life fits over.quiet.fits; few = calls_few number count asked life few } in
       let opened : IsOpenedWorld (beginning first bytes) = world_opens o first bytes over.quiet.opening in
-      let never = call_unswept (beginning first bytes) number count asked life opened over.quiet.unswept in
       record {
         answer = answered.answer;
         same = answered.same;
         updates = updates_answered legal ordered number count asked bytes o first life answered.its answered.s.finished answered.answer at is_life answered.is_told;
-        reads = reads_answered fresh waiting bytes o first life number count asked answered.its answered.s.finished at is_life unswept never opened before.seats answered.answer answered.is_told over.keeps;
+        reads = λ never. reads_answered fresh waiting bytes o first life number count asked answered.its answered.s.finished at is_life unswept never opened before.seats answered.answer answered.is_told over.keeps;
       }
 
   told_in_life : (telling : Telling) (number count : ℕ) (asked : Call) (bytes : List ℕ) (o : Opened) (first : Now) (life : List Event) (before after : PlayerState D) (text : List ℕ) → IsLifeOver seen may_leave bytes o first life before
@@ -201,7 +209,8 @@ module _ {D : Type 0} (legal : InEachLife HasLegalHistory) (ordered : InEachLife
       = beats_end engine rules telling number asked opening stage.Begins count life before after outcome text over.quiet.shows ended beats in
       let at : IsTraced bytes first life number count asked ends.answered.its ends.answered.s.finished = traced telling number count asked bytes o first life before after text over.quiet over.rests ends in
       let behind = at_rest_behind telling number count asked bytes o first life before after text over.quiet over.rests fits few ends in
-      let last = told_last seen may_leave engine leads telling (Session number asked) opening (world_opens o first bytes over.quiet.opening) stage.Begins count life before after outcome text
+      let opened : IsOpenedWorld opening = world_opens o first bytes over.quiet.opening in
+      let last = told_last seen may_leave engine leads telling (Session number asked) opening opened stage.Begins count life before after outcome text
       (shows_first bytes o first life before over) ended beats in
       record {
         later = called_alone number count asked life;
@@ -215,7 +224,9 @@ module _ {D : Type 0} (legal : InEachLife HasLegalHistory) (ordered : InEachLife
             device = (session_shows number count asked opening life after.world last.led).device;
             rests = behind.rests;
             keeps = keeps_behind telling number count asked bytes o first life before after text over ends at;
+            begins = λ none. absurd (begun_not_empty (replicate count (Moves number)) life (Calls number asked) none);
           };
+          unswept = λ plain swept. (call_unswept opening number count asked life opened swept.0, (last.unswept plain swept).1);
         };
         few = calls_counted (Session number asked) (replicate count (Moves number)) life (session_moves number count asked);
       }
@@ -225,6 +236,7 @@ module _ {D : Type 0} (legal : InEachLife HasLegalHistory) (ordered : InEachLife
       → IsKeeperAnswered bytes o first life later said → IsToldInLife bytes o first life later seats its said
   keeper_told_in_life bytes o first life later seats (Session number asked) said keeper answered = absurd keeper
   keeper_told_in_life bytes o first life later seats (Commit kind) said keeper answered = answered
+  keeper_told_in_life bytes o first life later seats Trim said keeper answered = answered
   keeper_told_in_life bytes o first life later seats Turn said keeper answered = answered
 
   keeper_played : (telling : Telling) (its : ActorCall) (count : ℕ) (bytes : List ℕ) (o : Opened) (first : Now) (life : List Event) (before after : PlayerState D) (outcome : Outcome) (text : List ℕ) → IsKeepers its
@@ -265,13 +277,14 @@ module _ {D : Type 0} (legal : InEachLife HasLegalHistory) (ordered : InEachLife
               opening = over.quiet.opening;
               fits = is_life.fits;
               few = is_life.few;
-              unswept = shown.unswept;
               shows = shown.shows;
             };
             device = shown.device;
             rests = subst NobodyCalls shown.shows (nobody_still opening its keeper led.moves life led.are_moves here);
             keeps = subst (SeatsKeepKeys bytes first later) (sym (told.seats keeper)) (seats_still bytes first its keeper led.moves life led.are_moves before.seats over.keeps);
+            begins = λ none. absurd (begun_not_empty led.moves life (begun_by its) none);
           };
+          unswept = λ plain swept. subst (λ (x : Event). SweepsNothing opening (led.moves ++ x ∷ life) after) led.is_at (told.unswept plain swept);
         };
         few = many;
       }
@@ -284,6 +297,8 @@ module _ {D : Type 0} (legal : InEachLife HasLegalHistory) (ordered : InEachLife
       session_played telling number count asked bytes o first life before after outcome text over fits few ended beats
   played telling (Commit kind) count bytes o first life before after outcome text over fits few ended beats =
       keeper_played telling (Commit kind) count bytes o first life before after outcome text tt over few ended beats
+  played telling Trim count bytes o first life before after outcome text over fits few ended beats =
+      keeper_played telling Trim count bytes o first life before after outcome text tt over few ended beats
   played telling Turn count bytes o first life before after outcome text over fits few ended beats =
       keeper_played telling Turn count bytes o first life before after outcome text tt over few ended beats
 
@@ -292,6 +307,7 @@ module _ {D : Type 0} (legal : InEachLife HasLegalHistory) (ordered : InEachLife
   refused_line (Session number asked) its before after text missing refused =
       (refused.0, refused.1 ∙ ap (λ (x : ℕ). session_refusal x NoSession) (sym (missing_number number its (nat_lt number (length before.seats)) missing)))
   refused_line (Commit kind) its before after text missing refused = none_some its missing
+  refused_line Trim its before after text missing refused = none_some its missing
   refused_line Turn its before after text missing refused = none_some its missing
 
   pub calls_go_on : CallsGoOn seen may_leave engine
@@ -321,6 +337,7 @@ module _ {D : Type 0} (legal : InEachLife HasLegalHistory) (ordered : InEachLife
     later : List Event
     all : ArePlayedInLife seen may_leave Finished calls bytes o first life later before after text
     over : IsLifeOver seen may_leave bytes o first later after
+    unswept : IsUnswept bytes first life before → IsUnswept bytes first later after
 
   one_alone : (its : ActorCall) (bytes : List ℕ) (o : Opened) (first : Now) (life : List Event) (before after : PlayerState D) (outcome : Outcome) (text : List ℕ) → IsLifeOver seen may_leave bytes o first life before → ItsNumbersFit its
       → HasFewCalls (begun_by its ∷ life) → is_struck_by outcome ≡ false → IsPlayedAlone engine Finished its before after outcome text → IsPlayed Finished its bytes o first life before after text
@@ -329,17 +346,27 @@ module _ {D : Type 0} (legal : InEachLife HasLegalHistory) (ordered : InEachLife
   all_alone : (calls : List ActorCall) (bytes : List ℕ) (o : Opened) (first : Now) (life : List Event) (before after : PlayerState D) (outcome : Outcome) (text : List ℕ) → IsLifeOver seen may_leave bytes o first life before → AreFit calls
       → calls_in life + length calls < 2 ^ 64 - 1 → is_struck_by outcome ≡ false → InTurn (IsPlayedAlone engine Finished) Answered calls before after outcome text → GoesOnByAll calls bytes o first life before after text
   all_alone [] bytes o first life before after outcome text over fit few calm all =
-      record { later = life; all = (refl, all.0, all.2); over = subst (IsLifeOver seen may_leave bytes o first life) (sym all.0) over }
+      record {
+        later = life;
+        all = (refl, all.0, all.2);
+        over = subst (IsLifeOver seen may_leave bytes o first life) (sym all.0) over;
+        unswept = subst (IsUnswept bytes first life) (sym all.0);
+      }
   all_alone (its ∷ []) bytes o first life before after outcome text over fit few calm all =
       let more = begun_counted its life in
       let one = one_alone its bytes o first life before after outcome text over fit.0 (omega (arith, few, more)) calm all in
-      record { later = one.later; all = (one.later, after, text, [], one.played, (refl, refl, refl), sym (append-nil text)); over = one.played.goes_on }
+      record { later = one.later; all = (one.later, after, text, [], one.played, (refl, refl, refl), sym (append-nil text)); over = one.played.goes_on; unswept = one.played.unswept fit.1 }
   all_alone (its ∷ next ∷ rest) bytes o first life before after outcome text over fit few calm all =
       let more = begun_counted its life in
       let one = one_alone its bytes o first life before all.0 Answered all.1 over fit.0 (omega (arith, few, more)) refl all.3 in
       let many = one.few in
-      let others = all_alone (next ∷ rest) bytes o first one.later all.0 after outcome all.2 one.played.goes_on fit.1 (omega (arith, few, more, many)) calm all.4 in
-      record { later = others.later; all = (one.later, all.0, all.1, all.2, one.played, others.all, all.5); over = others.over }
+      let others = all_alone (next ∷ rest) bytes o first one.later all.0 after outcome all.2 one.played.goes_on fit.2 (omega (arith, few, more, many)) calm all.4 in
+      record {
+        later = others.later;
+        all = (one.later, all.0, all.1, all.2, one.played, others.all, all.5);
+        over = others.over;
+        unswept = λ swept. others.unswept (one.played.unswept fit.1 swept);
+      }
 
   rounds_in_life : (bytes : List ℕ) (o : Opened) (first : Now) (life : List Event) (before after : PlayerState D) (outcome : Outcome) (text : List ℕ)
       → IsLifeOver seen may_leave bytes o first life before → calls_in life + length (rounds most_rounds (round_of before.seats)) < 2 ^ 64 - 1
@@ -348,7 +375,7 @@ module _ {D : Type 0} (legal : InEachLife HasLegalHistory) (ordered : InEachLife
       let calls : List ActorCall = rounds most_rounds (round_of before.seats) in
       let fewer = taken_few its.count calls in
       let all = all_alone (take its.count calls) bytes o first life before after outcome its.said over (fit_taken its.count calls (fit_rounds most_rounds (round_of before.seats) (fit_round before.seats))) (omega (arith, few, fewer)) calm its.calls in
-      record { count = its.count; later = all.later; said = its.said; played = all.all; behind = behind_rounds outcome; ends = ends_so outcome; says = its.says; goes_on = all.over }
+      record { count = its.count; later = all.later; said = its.said; played = all.all; behind = behind_rounds outcome; ends = ends_so outcome; says = its.says; goes_on = all.over; unswept = all.unswept }
 
   nothing_in_life : (bytes : List ℕ) (o : Opened) (first : Now) (life : List Event) (before after : PlayerState D) (text : List ℕ)
       → IsLifeOver seen may_leave bytes o first life before → after ≡ before → text ≡ nothing_to_finish → IsFinishInLife seen may_leave bytes o first life before after text
@@ -361,6 +388,7 @@ module _ {D : Type 0} (legal : InEachLife HasLegalHistory) (ordered : InEachLife
     ends = inr (inr refl);
     says = says;
     goes_on = subst (IsLifeOver seen may_leave bytes o first life) (sym same) over;
+    unswept = subst (IsUnswept bytes first life) (sym same);
   }
 
   pub finishes_go_on : FinishesGoOn seen may_leave engine
@@ -388,7 +416,7 @@ module _ {D : Type 0} (legal : InEachLife HasLegalHistory) (ordered : InEachLife
       let more = begun_counted its life in
       let one = one_alone its bytes o first life before all.0 Answered all.1 over fit.0 (omega (arith, few, more)) refl all.3 in
       let many = one.few in
-      let others = up_to (next ∷ rest) bytes o first one.later all.0 after outcome all.2 one.played.goes_on fit.1 (omega (arith, few, more, many)) struck all.4 in
+      let others = up_to (next ∷ rest) bytes o first one.later all.0 after outcome all.2 one.played.goes_on fit.2 (omega (arith, few, more, many)) struck all.4 in
       record {
         ended = its ∷ others.ended;
         behind = others.behind;

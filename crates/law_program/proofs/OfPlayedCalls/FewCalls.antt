@@ -12,7 +12,7 @@ use Rattle.fkv_runs.specs.Below.fkv_playing.Players.{PlayerState}
 use Rattle.fkv_runs.specs.Below.fkv_playing.Queues.{AreQueuesOf, QueueState, given_up, held, held_by, is_of, queue_behind, rank_of, step_of}
 use Rattle.fkv_runs.specs.Below.fkv_playing.Seats.{SeatState}
 use Rattle.fkv_runs.specs.Below.fkv_playing.ActorCall.{ActorCall}
-use Rattle.fkv_runs.specs.Below.fkv_playing.ActorCall.TheVariants.{Commit, Session, Turn}
+use Rattle.fkv_runs.specs.Below.fkv_playing.ActorCall.TheVariants.{Commit, Session, Trim, Turn}
 use Rattle.fkv_runs.specs.Below.fkv_playing.Outcome.{Outcome}
 use Rattle.fkv_runs.specs.Below.fkv_playing.Outcome.TheVariants.{GoesOn}
 use Rattle.fkv_runs.specs.Below.fkv_playing.Stage.{Stage}
@@ -34,9 +34,11 @@ begun_at stage.Moves = 0
 pub event_counted : (at : Stage) (its : ActorCall) (event : Event) (life : List Event) → IsEventAt at its event → calls_in (event ∷ life) ≤ calls_in life + begun_at at
 event_counted stage.Begins (Session number asked) event life is = let same = ap (λ (x : Event). calls_in (x ∷ life)) is in omega (arith, same)
 event_counted stage.Begins (Commit kind) event life is = let same = ap (λ (x : Event). calls_in (x ∷ life)) is in omega (arith, same)
+event_counted stage.Begins Trim event life is = let same = ap (λ (x : Event). calls_in (x ∷ life)) is in omega (arith, same)
 event_counted stage.Begins Turn event life is = let same = ap (λ (x : Event). calls_in (x ∷ life)) is in omega (arith, same)
 event_counted stage.Moves (Session number asked) event life is = let same = ap (λ (x : Event). calls_in (x ∷ life)) is in omega (arith, same)
 event_counted stage.Moves (Commit kind) event life is = let same = ap (λ (x : Event). calls_in (x ∷ life)) is.2 in omega (arith, same)
+event_counted stage.Moves Trim event life is = let same = ap (λ (x : Event). calls_in (x ∷ life)) is.2 in omega (arith, same)
 event_counted stage.Moves Turn event life is = let same = ap (λ (x : Event). calls_in (x ∷ life)) is.2 in omega (arith, same)
 
 -- a life that has gone on has no fewer

@@ -16,7 +16,7 @@ use Rattle.fkv_runs.specs.Below.fkv_playing.InTurn.{InTurn}
 use Rattle.fkv_runs.specs.Below.fkv_playing.Players.{PlayerState}
 use Rattle.fkv_runs.specs.Below.fkv_playing.Queues.{AreQueuesOf, QueueState, given_up, held, held_by, is_of, queue_behind, step_of}
 use Rattle.fkv_runs.specs.Below.fkv_playing.ActorCall.{ActorCall}
-use Rattle.fkv_runs.specs.Below.fkv_playing.ActorCall.TheVariants.{Commit, Session, Turn}
+use Rattle.fkv_runs.specs.Below.fkv_playing.ActorCall.TheVariants.{Commit, Session, Trim, Turn}
 use Rattle.fkv_runs.specs.Below.fkv_playing.Outcome.{Outcome}
 use Rattle.fkv_runs.specs.Below.fkv_playing.Outcome.TheVariants.{Answered, GoesOn}
 use Rattle.fkv_runs.specs.Below.fkv_playing.Stage.{Stage}
@@ -76,9 +76,11 @@ step_fits None (its ∷ later) call at hand fit e = subst ItsNumbersFit (ap (λ 
 pub event_fits : (at : Stage) (its : ActorCall) (event : Event) → ItsNumbersFit its → IsEventAt at its event → EventFits event
 event_fits stage.Begins (Session number asked) event fit is = subst EventFits (sym is) fit
 event_fits stage.Begins (Commit kind) event fit is = subst EventFits (sym is) tt
+event_fits stage.Begins Trim event fit is = subst EventFits (sym is) tt
 event_fits stage.Begins Turn event fit is = subst EventFits (sym is) tt
 event_fits stage.Moves (Session number asked) event fit is = subst EventFits (sym is) tt
 event_fits stage.Moves (Commit kind) event fit is = subst EventFits (sym is.2) tt
+event_fits stage.Moves Trim event fit is = subst EventFits (sym is.2) tt
 event_fits stage.Moves Turn event fit is = subst EventFits (sym is.2) tt
 
 -- ---- the queues of a group
@@ -159,13 +161,13 @@ module _ {D : Type 0} (seen : D → List ℕ) (may_leave : D → List ℕ → Ty
       → IsOn life (begun_at at) after
   beat_on telling life call at before after outcome text was fit beat =
       let led : IsLedTo seen may_leave call (beginning first bytes) at life after.world =
-      one_on seen may_leave engine leads telling call (beginning first bytes) (world_opens o first bytes was.opening) at life before after outcome text (record { shows = was.shows; unswept = was.unswept; device = was.device }) beat in
+      one_on seen may_leave engine leads telling call (beginning first bytes) (world_opens o first bytes was.opening) at life before after outcome text (record { shows = was.shows; device = was.device }) beat in
       let shows = led.shows in
       record {
         later = led.event ∷ life;
         since = led.event ∷ [];
         grown = refl;
-        shown = record { store = was.store; opening = was.opening; fits = (event_fits at call led.event fit led.is_at, was.fits); unswept = shows.unswept; shows = shows.shows; device = shows.device };
+        shown = record { store = was.store; opening = was.opening; fits = (event_fits at call led.event fit led.is_at, was.fits); shows = shows.shows; device = shows.device };
         counted = event_counted at call led.event life led.is_at;
       }
 
@@ -256,4 +258,4 @@ groups_go_on seen may_leave engine leads bytes o first life before after queues 
 pub quiet_shown : {D : Type 0} (seen : D → List ℕ) (may_leave : D → List ℕ → Type 0) → QuietLivesAreShown seen may_leave
 quiet_shown seen may_leave bytes o first life player over =
     let quiet = over.quiet in
-    (record { store = quiet.store; opening = quiet.opening; fits = quiet.fits; unswept = quiet.unswept; shows = quiet.shows; device = over.device }, quiet.few)
+    (record { store = quiet.store; opening = quiet.opening; fits = quiet.fits; shows = quiet.shows; device = over.device }, quiet.few)

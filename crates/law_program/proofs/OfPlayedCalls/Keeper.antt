@@ -9,7 +9,7 @@ use Rattle.law_order.specs.Below.fkv_keeper.TheKeeping.{Keeping}
 use Rattle.law_order.specs.Below.fkv_keeper.TheKeeping.TheVariants.{Ended}
 use Rattle.law_order.specs.Below.fkv_opening.TheOpened.{Opened}
 use Rattle.fkv_runs.specs.Below.fkv_playing.ActorCall.{ActorCall}
-use Rattle.fkv_runs.specs.Below.fkv_playing.ActorCall.TheVariants.{Session, Commit, Turn}
+use Rattle.fkv_runs.specs.Below.fkv_playing.ActorCall.TheVariants.{Session, Commit, Trim, Turn}
 use Rattle.law_order.specs.Below.fkv_world.Actors.{is_of_keeper, is_of_session}
 use Rattle.law_order.specs.Below.fkv_world.Past as world
 use Rattle.law_order.specs.Below.fkv_world.Past.{CommitAsked, KeeperAnswered, Past, TraceEvent, Traced, TurnAsked, calls_after, keeper_answered, life_past, traced}
@@ -96,21 +96,25 @@ event_quietly w event e = by_crash w.now.crashed refl
 of_keeper : (its : ActorCall) (event : Event) → IsKeepers its → IsMoveOf its event → is_of_keeper event ≡ true
 of_keeper (Session number asked) event keeper moves = absurd keeper
 of_keeper (Commit kind) event keeper moves = ap is_of_keeper moves.2
+of_keeper Trim event keeper moves = ap is_of_keeper moves.2
 of_keeper Turn event keeper moves = ap is_of_keeper moves.2
 
 of_none : (its : ActorCall) (event : Event) (number : ℕ) → IsKeepers its → IsMoveOf its event → is_of_session number event ≡ false
 of_none (Session number asked) event other keeper moves = absurd keeper
 of_none (Commit kind) event number keeper moves = ap (is_of_session number) moves.2
+of_none Trim event number keeper moves = ap (is_of_session number) moves.2
 of_none Turn event number keeper moves = ap (is_of_session number) moves.2
 
 begun_of_keeper : (its : ActorCall) → IsKeepers its → is_of_keeper (begun_by its) ≡ true
 begun_of_keeper (Session number asked) keeper = absurd keeper
 begun_of_keeper (Commit kind) keeper = refl
+begun_of_keeper Trim keeper = refl
 begun_of_keeper Turn keeper = refl
 
 begun_of_none : (its : ActorCall) (number : ℕ) → IsKeepers its → is_of_session number (begun_by its) ≡ false
 begun_of_none (Session number asked) other keeper = absurd keeper
 begun_of_none (Commit kind) number keeper = refl
+begun_of_none Trim number keeper = refl
 begun_of_none Turn number keeper = refl
 
 module _ (opening : World) (its : ActorCall) (keeper : IsKeepers its) where

@@ -1,10 +1,10 @@
 -- Over an honest device a life goes on by each beat of a call, and shows the device with the world.
-use Rattle.std.proofs.Common.{◌≡◌, ◌∙◌, ℕ, zero, suc, List, [], ◌∷◌, ◌++◌, Bool, true, false, ap, append_assoc, inl, inr, length, refl, replicate, sym, subst}
+use Rattle.std.proofs.Common.{◌≡◌, ◌≢◌, ◌∙◌, ℕ, zero, suc, List, [], ◌∷◌, ◌++◌, Bool, true, false, ap, append_assoc, inl, inr, length, refl, replicate, sym, subst}
 use Rattle.std.specs.Prelude.{Option, Some, None, ⊤}
 use Rattle.law_order.specs.Below.fkv_core.Lives.{IsAnswerSaid, IsSaid, LeadsOn, answers_of}
 use Rattle.law_order.specs.Below.fkv_core.Told.{IsKeepingTold, IsTold, keeper_told}
 use Rattle.law_order.specs.Below.fkv_core.Unswept.{NeverSweeps}
-use Rattle.law_order.specs.Below.fkv_core.Worlds.{BeginsNoSweep, WorldModel, took_place}
+use Rattle.law_order.specs.Below.fkv_core.Worlds.{BeginsNoSweep, WorldModel, may_sweep, took_place}
 use Rattle.law_order.specs.Below.fkv_core.Event as events
 use Rattle.law_order.specs.Below.fkv_core.TheTold as tells
 use Rattle.law_order.specs.Below.fkv_core.TheTold.TheVariants as told
@@ -21,14 +21,14 @@ use Rattle.law_order.specs.Below.fkv_keeper.KeeperTold.TheVariants.{Begun, Commi
 use Rattle.law_order.specs.Below.fkv_keeper.TheKeeping.{Keeping}
 use Rattle.law_order.specs.Below.fkv_keeper.TheKeeping.TheVariants.{Ended}
 use Rattle.fkv_map.specs.declared.operations.Call.{Call}
-use Rattle.fkv_runs.specs.Below.fkv_playing.Beats.{IsBeat, asked_of, event_of, heard, seats_behind}
+use Rattle.fkv_runs.specs.Below.fkv_playing.Beats.{IsBeat, asked_of, event_of, heard, seats_behind, sweeps_behind, turn_move}
 use Rattle.fkv_runs.specs.Below.fkv_playing.Groups.{is_struck_by}
 use Rattle.fkv_runs.specs.Below.fkv_playing.InTurn.{InTurn}
 use Rattle.fkv_runs.specs.Below.fkv_playing.Players.{EngineStep, PlayerState, is_struck}
 use Rattle.fkv_runs.specs.Below.fkv_playing.Seats.{SeatState}
 use Rattle.fkv_runs.specs.Below.fkv_playing.Texts.{text_heard, text_of}
 use Rattle.fkv_runs.specs.Below.fkv_playing.ActorCall.{ActorCall}
-use Rattle.fkv_runs.specs.Below.fkv_playing.ActorCall.TheVariants.{Session, Commit, Turn}
+use Rattle.fkv_runs.specs.Below.fkv_playing.ActorCall.TheVariants.{Session, Commit, Trim, Turn}
 use Rattle.fkv_runs.specs.Below.fkv_playing.Outcome.{Outcome}
 use Rattle.fkv_runs.specs.Below.fkv_playing.Outcome.TheVariants.{GoesOn}
 use Rattle.fkv_runs.specs.Below.fkv_playing.Stage.{Stage}
@@ -37,19 +37,20 @@ use Rattle.fkv_runs.specs.Below.fkv_playing.Telling.{Telling}
 use Rattle.law_order.specs.Below.fkv_world.Opened.{IsOpenedWorld}
 use Rattle.law_order.specs.Below.fkv_world.Past.{Answered, KeeperAnswered, TraceEvent}
 use Rattle.law_order.specs.Below.fkv_world.Runs.{World, run}
-use Rattle.law_order.specs.Below.fkv_world.World.{Event, Moves, Now}
+use Rattle.law_order.specs.Below.fkv_world.World.{Event, KeeperMoves, Moves, Now}
 use Rattle.law_program.specs.PlayedCalls.EachLine.{AreMovesOf, IsMoveOf, IsOfKeeper, begun_by}
 use Rattle.law_program.proofs.OfPlayedCalls.Beats.{HasEnded, ended_heard, unheard, unheard_then, untold}
 use Rattle.law_program.proofs.OfPlayedCalls.Unswept.{step_unswept}
 
 -- ---- by the engine's rules
--- A step leads on each life of an opened store that shows the world and the device before it, and tells what its event gives. It begins no sweep.
+-- A step leads on each life of an opened store that shows the world and the device before it, and tells what its event gives. One that may not sweep begins
+-- no sweep.
 pub record IsLeading {D : Type 0} (seen : D → List ℕ) (may_leave : D → List ℕ → Type 0) (its : events.Event) (world after : WorldModel D) (said : Option tells.Told) : Type 0 where
   pub granted : Bool
   pub done : Bool
   pub leads : LeadsOn world.now after.now (took_place its granted done) said (seen world.device) (seen after.device) (may_leave world.device) (may_leave after.device)
   pub tells : IsTold world.now.crashed world.now after.now (took_place its granted done) said
-  pub no_sweep : BeginsNoSweep world.now.keeper after.now.keeper
+  pub no_sweep : may_sweep its ≡ false → BeginsNoSweep world.now.keeper after.now.keeper
 
 abbrev pub LeadsLives : {D : Type 0} → (D → List ℕ) → (D → List ℕ → Type 0) → (events.Event → WorldModel D → WorldModel D → Option tells.Told → Bool → Type 0) → Type 0
 LeadsLives {D} seen may_leave engine =
@@ -65,13 +66,42 @@ abbrev pub IsEventAt : Stage → ActorCall → Event → Type 0
 IsEventAt stage.Begins its event = event ≡ begun_by its
 IsEventAt stage.Moves its event = IsMoveOf its event
 
-pub took_at : (at : Stage) (its : ActorCall) (granted done : Bool) → IsEventAt at its (took_place (event_of at its) granted done)
-took_at stage.Begins (Session number asked) granted done = refl
-took_at stage.Begins (Commit kind) granted done = refl
-took_at stage.Begins Turn granted done = refl
-took_at stage.Moves (Session number asked) granted done = refl
-took_at stage.Moves (Commit kind) granted done = (granted, done, refl)
-took_at stage.Moves Turn granted done = (granted, done, refl)
+-- a turn's move is the keeper's, whether it may sweep or not
+turn_takes : (sweeps granted done : Bool) → took_place (turn_move sweeps) granted done ≡ KeeperMoves granted done
+turn_takes true granted done = refl
+turn_takes false granted done = refl
+
+pub took_at : (sweeps : Bool) (at : Stage) (its : ActorCall) (granted done : Bool) → IsEventAt at its (took_place (event_of sweeps at its) granted done)
+took_at sweeps stage.Begins (Session number asked) granted done = refl
+took_at sweeps stage.Begins (Commit kind) granted done = refl
+took_at sweeps stage.Begins Trim granted done = refl
+took_at sweeps stage.Begins Turn granted done = refl
+took_at sweeps stage.Moves (Session number asked) granted done = refl
+took_at sweeps stage.Moves (Commit kind) granted done = (granted, done, refl)
+took_at sweeps stage.Moves Trim granted done = (granted, done, refl)
+took_at sweeps stage.Moves Turn granted done = (granted, done, turn_takes sweeps granted done)
+
+-- where turns don't sweep, no event may begin a sweep
+none_may : (at : Stage) (its : ActorCall) → may_sweep (event_of false at its) ≡ false
+none_may stage.Begins (Session number asked) = refl
+none_may stage.Begins (Commit kind) = refl
+none_may stage.Begins Trim = refl
+none_may stage.Begins Turn = refl
+none_may stage.Moves (Session number asked) = refl
+none_may stage.Moves (Commit kind) = refl
+none_may stage.Moves Trim = refl
+none_may stage.Moves Turn = refl
+
+-- nor do they behind any call but a trim
+still_none : (at : Stage) (its : ActorCall) → its ≢ Trim → sweeps_behind at its false ≡ false
+still_none stage.Begins (Session number asked) plain = refl
+still_none stage.Begins (Commit kind) plain = refl
+still_none stage.Begins Trim plain = absurd (plain refl)
+still_none stage.Begins Turn plain = refl
+still_none stage.Moves (Session number asked) plain = refl
+still_none stage.Moves (Commit kind) plain = refl
+still_none stage.Moves Trim plain = refl
+still_none stage.Moves Turn plain = refl
 
 moves_both : (its : ActorCall) (later before : List Event) → AreMovesOf its later → AreMovesOf its before → AreMovesOf its (later ++ before)
 moves_both its [] before newer older = older
@@ -100,16 +130,20 @@ keeping_said : (was_busy : Bool) (step : Keeping) (s : KeeperState) (said : tell
 keeping_said true (Ended its) s said so = asks_said so.0 said so.2
 keeping_said was_busy step s said so = none_some said (sym so)
 
-event_said : (at : Stage) (its : ActorCall) (n after : Now) (granted done : Bool) (said : tells.Told) → IsKeepers its → IsTold false n after (took_place (event_of at its) granted done) (Some said) → IsOfKeeper said
-event_said at (Session number asked) n after granted done said keeper so = absurd keeper
-event_said stage.Begins (Commit kind) n after granted done said keeper so = keeping_said _ after.keeper.step after.keeper said so
-event_said stage.Begins Turn n after granted done said keeper so = keeping_said _ after.keeper.step after.keeper said so
-event_said stage.Moves (Commit kind) n after granted done said keeper so = keeping_said (is_in_hand n.keeper.step) after.keeper.step after.keeper said so
-event_said stage.Moves Turn n after granted done said keeper so = keeping_said (is_in_hand n.keeper.step) after.keeper.step after.keeper said so
+event_said : (sweeps : Bool) (at : Stage) (its : ActorCall) (n after : Now) (granted done : Bool) (said : tells.Told) → IsKeepers its → IsTold false n after (took_place (event_of sweeps at its) granted done) (Some said) → IsOfKeeper said
+event_said sweeps at (Session number asked) n after granted done said keeper so = absurd keeper
+event_said sweeps stage.Begins (Commit kind) n after granted done said keeper so = keeping_said _ after.keeper.step after.keeper said so
+event_said sweeps stage.Begins Trim n after granted done said keeper so = keeping_said _ after.keeper.step after.keeper said so
+event_said sweeps stage.Begins Turn n after granted done said keeper so = keeping_said _ after.keeper.step after.keeper said so
+event_said sweeps stage.Moves (Commit kind) n after granted done said keeper so = keeping_said (is_in_hand n.keeper.step) after.keeper.step after.keeper said so
+event_said sweeps stage.Moves Trim n after granted done said keeper so = keeping_said (is_in_hand n.keeper.step) after.keeper.step after.keeper said so
+event_said sweeps stage.Moves Turn n after granted done said keeper so =
+    keeping_said (is_in_hand n.keeper.step) after.keeper.step after.keeper said (subst (λ (x : Event). IsTold false n after x (Some said)) (turn_takes sweeps granted done) so)
 
-said_by_keeper : (at : Stage) (its : ActorCall) (crashed : Bool) (n after : Now) (granted done : Bool) (said : tells.Told) → IsKeepers its → IsTold crashed n after (took_place (event_of at its) granted done) (Some said) → IsOfKeeper said
-said_by_keeper at its true n after granted done said keeper so = none_some said (sym so)
-said_by_keeper at its false n after granted done said keeper so = event_said at its n after granted done said keeper so
+said_by_keeper : (sweeps : Bool) (at : Stage) (its : ActorCall) (crashed : Bool) (n after : Now) (granted done : Bool) (said : tells.Told) → IsKeepers its → IsTold crashed n after (took_place (event_of sweeps at its) granted done) (Some said)
+    → IsOfKeeper said
+said_by_keeper sweeps at its true n after granted done said keeper so = none_some said (sym so)
+said_by_keeper sweeps at its false n after granted done said keeper so = event_said sweeps at its n after granted done said keeper so
 
 -- the seats stay then
 seats_kept : (asked : Call) (seats : List SeatState) (said : tells.Told) → IsOfKeeper said → seats_behind asked seats (Some said) ≡ seats
@@ -118,10 +152,9 @@ seats_kept asked seats (told.Commit begun) by_keeper = refl
 seats_kept asked seats (told.Turn its) by_keeper = refl
 
 -- ---- beat by beat
--- a life shows the world and the device, and its keeper has swept nothing
+-- a life shows the world and the device
 pub record ShowsBoth {D : Type 0} (seen : D → List ℕ) (may_leave : D → List ℕ → Type 0) (opening : World) (life : List Event) (world : WorldModel D) : Type 0 where
   pub shows : (run opening life).now ≡ world.now
-  pub unswept : NeverSweeps opening life
   pub device : IsAfter (run opening life).past.opened (run opening life).past.calls (seen world.device) (may_leave world.device)
 
 -- It shows them behind a beat.
@@ -138,6 +171,10 @@ pub record IsLedBy {D : Type 0} (seen : D → List ℕ) (may_leave : D → List 
   pub are_moves : AreMovesOf its moves
   pub many : length moves ≡ count
   pub shows : ShowsBoth seen may_leave opening (moves ++ event ∷ life) after
+
+-- in the life the keeper has swept nothing, and turns don't sweep
+abbrev pub SweepsNothing : {D : Type 0} → World → List Event → PlayerState D → Type 0
+SweepsNothing opening life player = NeverSweeps opening life × (player.sweeps ≡ false)
 
 -- What was told is the one answer that a life has had since.
 pub record IsOneAnswer (opening : World) (life later : List Event) (said : tells.Told) : Type 0 where
@@ -175,46 +212,54 @@ pub record IsToldLast {D : Type 0} (seen : D → List ℕ) (may_leave : D → Li
   pub seats : IsKeepers its → after.seats ≡ before.seats
   pub led : IsLedBy seen may_leave its opening at count life after.world
   pub one : IsOneAnswer opening life (led.moves ++ led.event ∷ life) said
+  pub unswept : its ≢ Trim → SweepsNothing opening life before → SweepsNothing opening (led.moves ++ led.event ∷ life) after
 
 module _ {D : Type 0} (seen : D → List ℕ) (may_leave : D → List ℕ → Type 0) (engine : events.Event → WorldModel D → WorldModel D → Option tells.Told → Bool → Type 0) (leads : LeadsLives seen may_leave engine) (telling : Telling) (its : ActorCall) where
+  -- by a beat of any call but a trim the keeper sweeps nothing still
+  none_swept : (opening : World) → IsOpenedWorld opening → (at : Stage) (life : List Event) (before after : PlayerState D) (outcome : Outcome) (text : List ℕ) (event : Event) → (run opening life).now ≡ before.world.now
+      → (run opening (event ∷ life)).now ≡ after.world.now → (may_sweep (event_of before.sweeps at its) ≡ false → BeginsNoSweep before.world.now.keeper after.world.now.keeper)
+      → IsBeat engine telling its at before after outcome text → its ≢ Trim → SweepsNothing opening life before → SweepsNothing opening (event ∷ life) after
+  none_swept opening opened at life before after outcome text event was is no_sweep beat plain swept = (
+    step_unswept opening event life before.world.now after.world.now opened swept.0 was is (no_sweep (ap (λ (x : Bool). may_sweep (event_of x at its)) swept.1 ∙ none_may at its)),
+    beat.sweeps ∙ (ap (sweeps_behind at its) swept.1 ∙ still_none at its plain),
+  )
+
   pub one_on : (opening : World) → IsOpenedWorld opening → (at : Stage) (life : List Event) (before after : PlayerState D) (outcome : Outcome) (text : List ℕ) → ShowsBoth seen may_leave opening life before.world
       → IsBeat engine telling its at before after outcome text → IsLedTo seen may_leave its opening at life after.world
   one_on opening opened at life before after outcome text was beat =
-      let led = leads (event_of at its) before.world after.world beat.its beat.broken beat.step in
+      let led = leads (event_of before.sweeps at its) before.world after.world beat.its beat.broken beat.step in
       let on = led.leads opening life opened was.shows was.device in
-      let event : Event = took_place (event_of at its) led.granted led.done in
       record {
-        event = event;
-        is_at = took_at at its led.granted led.done;
-        shows = record { shows = on.shows; unswept = step_unswept opening event life before.world.now after.world.now opened was.unswept was.shows on.shows led.no_sweep; device = on.device };
+        event = took_place (event_of before.sweeps at its) led.granted led.done;
+        is_at = took_at before.sweeps at its led.granted led.done;
+        shows = record { shows = on.shows; device = on.device };
       }
 
   pub told_last : (opening : World) → IsOpenedWorld opening → (at : Stage) (count : ℕ) (life : List Event) (before after : PlayerState D) (outcome : Outcome) (text : List ℕ) → ShowsBoth seen may_leave opening life before.world → HasEnded outcome
       → InTurn (IsBeat engine telling its) GoesOn (at ∷ replicate count stage.Moves) before after outcome text → IsToldLast seen may_leave telling its opening at count life before after text
   told_last opening opened at zero life before after outcome text was ended beat =
       let end = ended_heard (is_struck before.waits beat.broken) beat.its outcome beat.ends ended in
-      let led = leads (event_of at its) before.world after.world beat.its beat.broken beat.step in
+      let led = leads (event_of before.sweeps at its) before.world after.world beat.its beat.broken beat.step in
       let on = led.leads opening life opened was.shows was.device in
+      let event : Event = took_place (event_of before.sweeps at its) led.granted led.done in
+      let by_keeper : IsKeepers its → IsOfKeeper end.said
+      = λ keeper. said_by_keeper before.sweeps at its before.world.now.crashed before.world.now after.world.now led.granted led.done end.said keeper
+      (subst (λ (x : Option tells.Told). IsTold before.world.now.crashed before.world.now after.world.now event x) end.was led.tells) in
       record {
         said = end.said;
         says = beat.says ∙ ap (text_heard telling (asked_of its) before.seats after.world.now) end.hears;
-        by_keeper = λ keeper. said_by_keeper at its before.world.now.crashed before.world.now after.world.now led.granted led.done end.said keeper
-            (subst (λ (x : Option tells.Told). IsTold before.world.now.crashed before.world.now after.world.now (took_place (event_of at its) led.granted led.done) x) end.was led.tells);
-        seats = λ keeper. beat.seats ∙ (ap (seats_behind (asked_of its) before.seats) end.hears ∙ seats_kept (asked_of its) before.seats end.said (said_by_keeper at its before.world.now.crashed before.world.now after.world.now led.granted led.done end.said keeper
-            (subst (λ (x : Option tells.Told). IsTold before.world.now.crashed before.world.now after.world.now (took_place (event_of at its) led.granted led.done) x) end.was led.tells)));
+        by_keeper = by_keeper;
+        seats = λ keeper. beat.seats ∙ (ap (seats_behind (asked_of its) before.seats) end.hears ∙ seats_kept (asked_of its) before.seats end.said (by_keeper keeper));
         led = record {
-          event = took_place (event_of at its) led.granted led.done;
-          is_at = took_at at its led.granted led.done;
+          event = event;
+          is_at = took_at before.sweeps at its led.granted led.done;
           moves = [];
           are_moves = tt;
           many = refl;
-          shows = record {
-            shows = on.shows;
-            unswept = step_unswept opening (took_place (event_of at its) led.granted led.done) life before.world.now after.world.now opened was.unswept was.shows on.shows led.no_sweep;
-            device = on.device;
-          };
+          shows = record { shows = on.shows; device = on.device };
         };
-        one = one_said opening life (took_place (event_of at its) led.granted led.done) beat.its end.said end.was on.says;
+        one = one_said opening life event beat.its end.said end.was on.says;
+        unswept = none_swept opening opened at life before after outcome text event was.shows on.shows led.no_sweep beat;
       }
   told_last opening opened at (suc count) life before after outcome text was ended beats =
       let between : PlayerState D = beats.0 in
@@ -222,13 +267,12 @@ module _ {D : Type 0} (seen : D → List ℕ) (may_leave : D → List ℕ → Ty
       let none : heard (is_struck before.waits beat.broken) beat.its ≡ None = unheard (is_struck before.waits beat.broken) beat.its beat.ends in
       let silent : beats.1 ≡ [] = beat.says ∙ ap (text_heard telling (asked_of its) before.seats between.world.now) none in
       let seats : between.seats ≡ before.seats = beat.seats ∙ ap (seats_behind (asked_of its) before.seats) none in
-      let leading = leads (event_of at its) before.world between.world beat.its beat.broken beat.step in
+      let leading = leads (event_of before.sweeps at its) before.world between.world beat.its beat.broken beat.step in
       let on = leading.leads opening life opened was.shows was.device in
-      let event : Event = took_place (event_of at its) leading.granted leading.done in
+      let event : Event = took_place (event_of before.sweeps at its) leading.granted leading.done in
       let unsaid : answers_of (run opening (event ∷ life)).past.trace ≡ answers_of (run opening life).past.trace
       = none_said beat.its _ _ (untold (is_struck before.waits beat.broken) beat.its beat.ends) on.says in
-      let unswept : NeverSweeps opening (event ∷ life) = step_unswept opening event life before.world.now between.world.now opened was.unswept was.shows on.shows leading.no_sweep in
-      let rest = told_last opening opened stage.Moves count (event ∷ life) between after outcome beats.2 (record { shows = on.shows; unswept = unswept; device = on.device }) ended beats.4 in
+      let rest = told_last opening opened stage.Moves count (event ∷ life) between after outcome beats.2 (record { shows = on.shows; device = on.device }) ended beats.4 in
       let led = rest.led in
       let same : led.moves ++ led.event ∷ event ∷ life ≡ (led.moves ++ led.event ∷ []) ++ event ∷ life = sym (append_assoc led.moves (led.event ∷ []) (event ∷ life)) in
       let last = rest.one in
@@ -239,7 +283,7 @@ module _ {D : Type 0} (seen : D → List ℕ) (may_leave : D → List ℕ → Ty
         seats = λ keeper. rest.seats keeper ∙ seats;
         led = record {
           event = event;
-          is_at = took_at at its leading.granted leading.done;
+          is_at = took_at before.sweeps at its leading.granted leading.done;
           moves = led.moves ++ led.event ∷ [];
           are_moves = moves_both its led.moves (led.event ∷ []) led.are_moves (led.is_at, tt);
           many = one_longer led.moves led.event ∙ ap suc led.many;
@@ -250,6 +294,8 @@ module _ {D : Type 0} (seen : D → List ℕ) (may_leave : D → List ℕ → Ty
           all = ap (λ (x : List Event). answers_of (run opening x).past.trace) (sym same) ∙ (last.all ∙ ap (λ (x : List TraceEvent). last.answer ∷ x) unsaid);
           is_said = last.is_said;
         };
+        unswept = λ plain swept. subst (λ (x : List Event). SweepsNothing opening x after) same
+            (rest.unswept plain (none_swept opening opened at life before between GoesOn beats.1 event was.shows on.shows leading.no_sweep beat plain swept));
       }
 
 -- ---- where a crash strikes

@@ -47,13 +47,14 @@ module _ {D : Type 0} (honest : D → Type 0) (seen : D → List ℕ) (may_leave
   }
 
   over_device : (image : List ℕ) (opened : Opened) (player : PlayerState D) → IsStoreOf image opened → IsOpeningWorld opened player.world.now → IsAfter image [] (seen player.world.device) (may_leave player.world.device)
-      → player.seats ≡ replicate opened.shape.sessions first_seat → IsLifeOver seen may_leave image opened player.world.now [] player
+      → player.seats ≡ replicate opened.shape.sessions first_seat → player.sweeps ≡ false → IsLifeOver seen may_leave image opened player.world.now [] player
   unfolding run
-  over_device image opened player store opening device seats = record {
+  over_device image opened player store opening device seats off = record {
     quiet = opening_quiet image opened player.world.now store opening;
     device = device;
     rests = opening_idle opened player.world.now opening;
     keeps = subst (SeatsKeepKeys image player.world.now []) (sym seats) (none_kept image player.world.now opened.shape.sessions);
+    begins = λ none. off;
   }
 
   pub lives_begin : LivesBegin seen may_leave (Holds honest seen may_leave refuses)
@@ -61,6 +62,7 @@ module _ {D : Type 0} (honest : D → Type 0) (seen : D → List ℕ) (may_leave
       over_device image opened player store begins.world
       (subst (λ (x : D). IsAfter image [] (seen x) (may_leave x)) (sym begins.over) (synced_so image device holds))
       (ap (λ (x : PlayerState D). x.seats) begins.same)
+      (ap (λ (x : PlayerState D). x.sweeps) begins.same)
 
   pub crashes_go_on : PairsAreMap → CrashesGoOn seen may_leave (Holds honest seen may_leave refuses)
   crashes_go_on pairs image checks agrees before after text crash = record {
@@ -80,15 +82,20 @@ armed_leaves count Blown leaves image left = left
 armed_leaves count (BlownAt at n) leaves image left = left
 
 pub arming_goes_on : {D : Type 0} (seen : D → List ℕ) (may_leave : D → List ℕ → Type 0) → ArmingGoesOn seen may_leave
-arming_goes_on {D} seen may_leave count waits bytes o first life before after its over = record {
-  quiet = subst (IsQuietLife bytes o first life) (sym its.now) over.quiet;
-  device = record {
-    reads = subst (λ (x : D). ReadsAs (run (beginning first bytes) life).past.opened (run (beginning first bytes) life).past.calls (seen x)) (sym its.device) over.device.reads;
-    leaves = λ image left. over.device.leaves image
-        (armed_leaves count (fuse_state before.world.device) (may_leave (fuse_device before.world.device)) image
-        (subst (λ (x : FuseState). FuseLeaves x (may_leave (fuse_device before.world.device)) image) its.state
-        (subst (λ (x : D). FuseLeaves (fuse_state after.world.device) (may_leave x) image) its.device left)));
-  };
-  rests = subst NobodyCalls (sym its.now) over.rests;
-  keeps = subst (SeatsKeepKeys bytes first life) (sym (ap (λ (x : PlayerState (Fuse D)). x.seats) its.same)) over.keeps;
-}
+arming_goes_on {D} seen may_leave count waits bytes o first life before after its over =
+    let sweeps : after.sweeps ≡ before.sweeps = ap (λ (x : PlayerState (Fuse D)). x.sweeps) its.same in (
+      record {
+        quiet = subst (IsQuietLife bytes o first life) (sym its.now) over.quiet;
+        device = record {
+          reads = subst (λ (x : D). ReadsAs (run (beginning first bytes) life).past.opened (run (beginning first bytes) life).past.calls (seen x)) (sym its.device) over.device.reads;
+          leaves = λ image left. over.device.leaves image
+              (armed_leaves count (fuse_state before.world.device) (may_leave (fuse_device before.world.device)) image
+              (subst (λ (x : FuseState). FuseLeaves x (may_leave (fuse_device before.world.device)) image) its.state
+              (subst (λ (x : D). FuseLeaves (fuse_state after.world.device) (may_leave x) image) its.device left)));
+        };
+        rests = subst NobodyCalls (sym its.now) over.rests;
+        keeps = subst (SeatsKeepKeys bytes first life) (sym (ap (λ (x : PlayerState (Fuse D)). x.seats) its.same)) over.keeps;
+        begins = λ none. sweeps ∙ over.begins none;
+      },
+      sweeps,
+    )

@@ -13,11 +13,11 @@ use Rattle.law_order.specs.Below.fkv_core.TheTold as tells
 use Rattle.fkv_epoch.proofs.Shown.{none_some, some_same}
 use Rattle.fkv_map.specs.declared.history.HistoryEntry.{HistoryEntry}
 use Rattle.law_order.specs.Below.fkv_opening.TheOpened.{Opened}
-use Rattle.fkv_runs.specs.Below.fkv_playing.Beats.{IsBeat, effects_behind, event_of, listed, outcome_of}
+use Rattle.fkv_runs.specs.Below.fkv_playing.Beats.{IsBeat, effects_behind, event_of, listed, outcome_of, turn_move}
 use Rattle.fkv_runs.specs.Below.fkv_playing.Players.{PlayerState, is_struck}
 use Rattle.fkv_runs.specs.Below.fkv_playing.Queues.{rank_of}
 use Rattle.fkv_runs.specs.Below.fkv_playing.ActorCall.{ActorCall}
-use Rattle.fkv_runs.specs.Below.fkv_playing.ActorCall.TheVariants.{Commit, Session, Turn}
+use Rattle.fkv_runs.specs.Below.fkv_playing.ActorCall.TheVariants.{Commit, Session, Trim, Turn}
 use Rattle.fkv_runs.specs.Below.fkv_playing.Outcome.{Outcome}
 use Rattle.fkv_runs.specs.Below.fkv_playing.Outcome.TheVariants.{GoesOn}
 use Rattle.fkv_runs.specs.Below.fkv_playing.Stage.{Stage}
@@ -49,7 +49,6 @@ use Rattle.law_program.specs.PlayedCalls.Noted.{IsNoted}
 use Rattle.law_program.proofs.OfPlayedCalls.Beats.{unheard}
 use Rattle.law_program.proofs.OfPlayedCalls.Interleaved.{event_fits}
 use Rattle.law_program.proofs.OfPlayedCalls.Led.{IsEventAt, LeadsLives, took_at}
-use Rattle.law_program.proofs.OfPlayedCalls.Unswept.{step_unswept}
 
 -- ---- histories, the oldest first
 abbrev in_order : List HistoryEntry → List HistoryEntry
@@ -98,6 +97,7 @@ goes_alive at call event n read is = by_event at call is
     begins : (its : ActorCall) → (life_goes n read (begun_by its)).crashed ≡ n.crashed
     begins (Session number asked) = called number asked (slice_get n.sessions number)
     begins (Commit kind) = refl
+    begins Trim = refl
     begins Turn = refl
 
     moves : (number : ℕ) → (life_goes n read (Moves number)).crashed ≡ n.crashed
@@ -110,6 +110,7 @@ goes_alive at call event n read is = by_event at call is
     by_event stage.Begins its e = ap (λ (x : Event). (life_goes n read x).crashed) e ∙ begins its
     by_event stage.Moves (Session number asked) e = ap (λ (x : Event). (life_goes n read x).crashed) e ∙ moves number
     by_event stage.Moves (Commit kind) e = ap (λ (x : Event). (life_goes n read x).crashed) e.2 ∙ keeper_moves e.0 e.1
+    by_event stage.Moves Trim e = ap (λ (x : Event). (life_goes n read x).crashed) e.2 ∙ keeper_moves e.0 e.1
     by_event stage.Moves Turn e = ap (λ (x : Event). (life_goes n read x).crashed) e.2 ∙ keeper_moves e.0 e.1
 
 happens_alive : (at : Stage) (call : ActorCall) (event : Event) (w : World) → IsEventAt at call event → w.now.crashed ≡ false → (happens w event).now.crashed ≡ false
@@ -185,10 +186,12 @@ still_in_hand : (at : Stage) (call : ActorCall) (event : Event) (w after : World
 still_in_hand stage.Begins (Session number asked) event w after is led ready so =
     begun_busy w after number asked (led ∙ ap (happens w) is) (subst (λ (x : Event). IsTold false w.now after.now x None) is so)
 still_in_hand stage.Begins (Commit kind) event w after is led ready so = tt
+still_in_hand stage.Begins Trim event w after is led ready so = tt
 still_in_hand stage.Begins Turn event w after is led ready so = tt
 still_in_hand stage.Moves (Session number asked) event w after is led ready so =
     moved_busy w after number asked (led ∙ ap (happens w) is) ready (subst (λ (x : Event). IsTold false w.now after.now x None) is so)
 still_in_hand stage.Moves (Commit kind) event w after is led ready so = tt
+still_in_hand stage.Moves Trim event w after is led ready so = tt
 still_in_hand stage.Moves Turn event w after is led ready so = tt
 
 -- ---- the others
@@ -198,9 +201,11 @@ off number other far = grind (arith, nat_tests, far)
 apart_at : (at : Stage) (call : ActorCall) (event : Event) (other : ℕ) → IsEventAt at call event → other ≢ rank_of call → is_of_session other event ≡ false
 apart_at stage.Begins (Session number asked) event other is far = ap (is_of_session other) is ∙ off number other far
 apart_at stage.Begins (Commit kind) event other is far = ap (is_of_session other) is
+apart_at stage.Begins Trim event other is far = ap (is_of_session other) is
 apart_at stage.Begins Turn event other is far = ap (is_of_session other) is
 apart_at stage.Moves (Session number asked) event other is far = ap (is_of_session other) is ∙ off number other far
 apart_at stage.Moves (Commit kind) event other is far = ap (is_of_session other) is.2
+apart_at stage.Moves Trim event other is far = ap (is_of_session other) is.2
 apart_at stage.Moves Turn event other is far = ap (is_of_session other) is.2
 
 -- ---- what is noted
@@ -223,15 +228,22 @@ move_noted w after number asked alive led ready = by_seat (slice_get w.now.sessi
         none_asked (in_hand w.now (session number)) (effect_of after.now number) (ap effect_at there)
     by_seat (Some s) e = asked_so w.now after.now number (busy_in_hand w.now number s alive e (ready s e))
 
-event_noted : (at : Stage) (call : ActorCall) (event : Event) (w after : World) → IsEventAt at call event → w.now.crashed ≡ false → after ≡ happens w event → IsReadyAt at w.now call
-    → listed (told_behind w.now after.now event) ≡ effects_behind true (event_of at call) after.now
-event_noted stage.Begins (Session number asked) event w after is alive led ready = ap (λ (x : Event). listed (told_behind w.now after.now x)) is
-event_noted stage.Begins (Commit kind) event w after is alive led ready = ap (λ (x : Event). listed (told_behind w.now after.now x)) is
-event_noted stage.Begins Turn event w after is alive led ready = ap (λ (x : Event). listed (told_behind w.now after.now x)) is
-event_noted stage.Moves (Session number asked) event w after is alive led ready =
+-- nothing is noted of a turn's move
+turn_noted : (sweeps : Bool) (n : Now) → effects_behind true (turn_move sweeps) n ≡ []
+turn_noted true n = refl
+turn_noted false n = refl
+
+event_noted : (sweeps : Bool) (at : Stage) (call : ActorCall) (event : Event) (w after : World) → IsEventAt at call event → w.now.crashed ≡ false → after ≡ happens w event → IsReadyAt at w.now call
+    → listed (told_behind w.now after.now event) ≡ effects_behind true (event_of sweeps at call) after.now
+event_noted sweeps stage.Begins (Session number asked) event w after is alive led ready = ap (λ (x : Event). listed (told_behind w.now after.now x)) is
+event_noted sweeps stage.Begins (Commit kind) event w after is alive led ready = ap (λ (x : Event). listed (told_behind w.now after.now x)) is
+event_noted sweeps stage.Begins Trim event w after is alive led ready = ap (λ (x : Event). listed (told_behind w.now after.now x)) is
+event_noted sweeps stage.Begins Turn event w after is alive led ready = ap (λ (x : Event). listed (told_behind w.now after.now x)) is
+event_noted sweeps stage.Moves (Session number asked) event w after is alive led ready =
     ap (λ (x : Event). listed (told_behind w.now after.now x)) is ∙ ap listed (move_noted w after number asked alive (led ∙ ap (happens w) is) ready)
-event_noted stage.Moves (Commit kind) event w after is alive led ready = ap (λ (x : Event). listed (told_behind w.now after.now x)) is.2
-event_noted stage.Moves Turn event w after is alive led ready = ap (λ (x : Event). listed (told_behind w.now after.now x)) is.2
+event_noted sweeps stage.Moves (Commit kind) event w after is alive led ready = ap (λ (x : Event). listed (told_behind w.now after.now x)) is.2
+event_noted sweeps stage.Moves Trim event w after is alive led ready = ap (λ (x : Event). listed (told_behind w.now after.now x)) is.2
+event_noted sweeps stage.Moves Turn event w after is alive led ready = ap (λ (x : Event). listed (told_behind w.now after.now x)) is.2 ∙ sym (turn_noted sweeps after.now)
 
 -- ---- a beat
 module _ {D : Type 0} (seen : D → List ℕ) (may_leave : D → List ℕ → Type 0) (engine : events.Event → WorldModel D → WorldModel D → Option tells.Told → Bool → Type 0) (leads : LeadsLives seen may_leave engine)
@@ -251,9 +263,9 @@ module _ {D : Type 0} (seen : D → List ℕ) (may_leave : D → List ℕ → Ty
   beat_noted telling life call at before after outcome text was noted ready fit beat =
       let opening : World = beginning first bytes in
       let w : World = run opening life in
-      let led = leads (event_of at call) before.world after.world beat.its beat.broken beat.step in
-      let event : Event = took_place (event_of at call) led.granted led.done in
-      let is : IsEventAt at call event = took_at at call led.granted led.done in
+      let led = leads (event_of before.sweeps at call) before.world after.world beat.its beat.broken beat.step in
+      let event : Event = took_place (event_of before.sweeps at call) led.granted led.done in
+      let is : IsEventAt at call event = took_at before.sweeps at call led.granted led.done in
       let on = led.leads opening life (world_opens o first bytes was.opening) was.shows was.device in
       let behind : World = run opening (event ∷ life) in
       let same : behind ≡ happens w event = run_on opening event life in
@@ -263,15 +275,15 @@ module _ {D : Type 0} (seen : D → List ℕ) (may_leave : D → List ℕ → Ty
       record {
         event = event;
         is_at = is;
-        shown = record { store = was.store; opening = was.opening; fits = (event_fits at call event fit is, was.fits); unswept = step_unswept opening event life before.world.now after.world.now (world_opens o first bytes was.opening) was.unswept was.shows on.shows led.no_sweep; shows = on.shows; device = on.device };
+        shown = record { store = was.store; opening = was.opening; fits = (event_fits at call event fit is, was.fits); shows = on.shows; device = on.device };
         keeps = keeps;
         noted = record {
           goes_on = ap (λ (x : Now). x.crashed) (sym on.shows) ∙ (ap (λ (x : World). x.now.crashed) same ∙ happens_alive at call event w is alive);
           noted = λ keeps_it.
               let were : before.history ≡ kept ++ history_so_far first bytes life = noted.noted (sym keeps ∙ keeps_it) in
-              let added : effects_behind before.keeps_history (event_of at call) after.world.now ≡ listed (told_behind w.now behind.now event)
-              = ap (λ (x : Bool). effects_behind x (event_of at call) after.world.now) (sym keeps ∙ keeps_it)
-              ∙ (ap (effects_behind true (event_of at call)) (sym on.shows) ∙ sym (event_noted at call event w behind is alive same ready_so)) in
+              let added : effects_behind before.keeps_history (event_of before.sweeps at call) after.world.now ≡ listed (told_behind w.now behind.now event)
+              = ap (λ (x : Bool). effects_behind x (event_of before.sweeps at call) after.world.now) (sym keeps ∙ keeps_it)
+              ∙ (ap (effects_behind true (event_of before.sweeps at call)) (sym on.shows) ∙ sym (event_noted before.sweeps at call event w behind is alive same ready_so)) in
               beat.history
               ∙ (ap (λ (x : List HistoryEntry). before.history ++ x) added
               ∙ (ap (λ (x : List HistoryEntry). x ++ listed (told_behind w.now behind.now event)) were

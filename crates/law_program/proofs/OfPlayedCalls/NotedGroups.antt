@@ -18,7 +18,7 @@ use Rattle.fkv_runs.specs.Below.fkv_playing.Players.{PlayerState}
 use Rattle.fkv_runs.specs.Below.fkv_playing.Queues.{NobodyHasSteps, QueueState, given_up, held, held_by, is_of, queue_behind, rank_of, step_of}
 use Rattle.fkv_runs.specs.Below.fkv_playing.Texts.{phase_shown}
 use Rattle.fkv_runs.specs.Below.fkv_playing.ActorCall.{ActorCall}
-use Rattle.fkv_runs.specs.Below.fkv_playing.ActorCall.TheVariants.{Commit, Session, Turn}
+use Rattle.fkv_runs.specs.Below.fkv_playing.ActorCall.TheVariants.{Commit, Session, Trim, Turn}
 use Rattle.fkv_runs.specs.Below.fkv_playing.Outcome.{Outcome}
 use Rattle.fkv_runs.specs.Below.fkv_playing.Outcome.TheVariants.{Answered, GoesOn}
 use Rattle.fkv_runs.specs.Below.fkv_playing.Stage.{Stage}
@@ -52,6 +52,7 @@ idle_minded queues n are = record { hands = λ at queue call found has. none_som
 hand_kept : (call : ActorCall) (n after : Now) → IsInHand n call → slice_get after.sessions (rank_of call) ≡ slice_get n.sessions (rank_of call) → IsInHand after call
 hand_kept (Session number asked) n after busy same = λ s found. busy s (sym same ∙ found)
 hand_kept (Commit kind) n after busy same = tt
+hand_kept Trim n after busy same = tt
 hand_kept Turn n after busy same = tt
 
 -- one queue is put back with its calls, and other actors' calls are as they were

@@ -5,7 +5,7 @@ use Rattle.std.specs.Prelude.{Some, slice_get, ⊤}
 use Rattle.fkv_lines.specs.declared.scripts.Line.{Line}
 use Rattle.fkv_map.specs.declared.operations.Call.TheVariants as call
 use Rattle.fkv_runs.specs.Below.fkv_playing.ActorCall.{ActorCall}
-use Rattle.fkv_runs.specs.Below.fkv_playing.ActorCall.TheVariants.{Session, Commit, Turn}
+use Rattle.fkv_runs.specs.Below.fkv_playing.ActorCall.TheVariants.{Session, Commit, Trim, Turn}
 use Rattle.fkv_runs.specs.Pieces.{IsAlone, line_of, lines_of}
 use Rattle.fkv_runs.specs.declared.pieces.Piece.{Piece}
 use Rattle.fkv_runs.specs.declared.pieces.Piece.TheVariants.{Group, Finish, Crash, CrashAt, FailAt}
@@ -26,6 +26,7 @@ AreOperations pieces ops = ⊥
 its_call : (its : ActorCall) (one : SessionOp) → line_of its ≡ op_line one → its ≡ Session one.0 (call.Op one.1)
 its_call (Session number asked) one same = cc
 its_call (Commit kind) one same = cc
+its_call Trim one same = cc
 its_call Turn one same = cc
 
 -- the first of these lines is the piece's, and the others come behind it

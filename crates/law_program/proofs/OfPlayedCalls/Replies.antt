@@ -43,7 +43,6 @@ use Rattle.law_program.proofs.OfPlayedCalls.Beats.{EndsCall, beats_end}
 use Rattle.law_program.proofs.OfPlayedCalls.InLife.{calls_few, calls_fit, nobody_behind, was_alive, was_there}
 use Rattle.law_program.proofs.OfPlayedCalls.OneCall.{HasOneCall, first_call, played_out, refused_out}
 use Rattle.law_program.proofs.OfPlayedCalls.Steps.{GoesByRules}
-use Rattle.law_program.proofs.OfPlayedCalls.Unswept.{call_unswept}
 
 -- the session that is missing is the call's
 pub missing_number : (number its : ℕ) (c : Bool) → (if c then None else Some number) ≡ Some its → number ≡ its
@@ -106,7 +105,6 @@ at_rest_behind telling number moves asked bytes o first life before after text q
         opening = quiet.opening;
         fits = calls_fit number moves asked life fits quiet.fits;
         few = calls_few number moves asked life few;
-        unswept = call_unswept opening number moves asked life (world_opens o first bytes quiet.opening) quiet.unswept;
         shows = ends.shows;
       };
       rests = subst NobodyCalls ends.shows (nobody_behind opening life number moves asked answered.s answered.its here is_now answered.at_rest);

@@ -8,7 +8,7 @@ use Rattle.fkv_runs.specs.Below.fkv_playing.Groups.{GroupState, IsGroup, is_stru
 use Rattle.fkv_runs.specs.Below.fkv_playing.Players.{PlayerState}
 use Rattle.fkv_runs.specs.Below.fkv_playing.Queues.{AreQueuesOf, NobodyHasSteps, QueueState, given_up, next_step, step_of}
 use Rattle.fkv_runs.specs.Below.fkv_playing.ActorCall.{ActorCall}
-use Rattle.fkv_runs.specs.Below.fkv_playing.ActorCall.TheVariants.{Session, Commit, Turn}
+use Rattle.fkv_runs.specs.Below.fkv_playing.ActorCall.TheVariants.{Session, Commit, Trim, Turn}
 use Rattle.fkv_runs.specs.Below.fkv_playing.Outcome.{Outcome}
 use Rattle.fkv_runs.specs.Below.fkv_playing.Outcome.TheVariants.{Answered, Closed, GoesOn, Struck}
 use Rattle.fkv_runs.specs.Below.fkv_playing.Stage.TheVariants as stage
@@ -56,6 +56,7 @@ same_struck Closed = refl
 refused_same : {D : Type 0} (one : ActorCall) (before after : PlayerState D) (text : List ℕ) → IsRefusedLine one before after text → after ≡ before
 refused_same (Session number asked) before after text refused = refused.0
 refused_same (Commit kind) before after text refused = absurd refused
+refused_same Trim before after text refused = absurd refused
 refused_same Turn before after text refused = absurd refused
 
 pub both_ways : {X : Type 0} (over : Bool) → over ≡ false → over ≡ true → X
@@ -229,7 +230,7 @@ module _ {D : Type 0} (seen : D → List ℕ) (may_leave : D → List ℕ → Ty
       }
 
   prepared : (piece : Piece) (its : LifeInHand) (before after : RunState D) (count : ℕ) (waits : Waits) (over : Bool) (text : List ℕ) → IsShown seen may_leave its before.player → Prepares medium count waits before after over text
-      → IsShown seen may_leave its after.player
+      → IsShown seen may_leave its after.player × (after.player.sweeps ≡ before.player.sweeps)
   prepared piece its before after count waits over text shown its_line = arms count waits its before.player after.player its_line.armed shown
 
   piece_goes_on : (piece : Piece) (its : LifeInHand) (before after : RunState D) (over : Bool) (text : List ℕ) → IsShown seen may_leave its before.player → IsPlain piece → calls_in its.events + begun_in piece < 2 ^ 64 - 1
@@ -258,16 +259,20 @@ module _ {D : Type 0} (seen : D → List ℕ) (may_leave : D → List ℕ → Ty
   piece_goes_on Crash its before after over text shown plain few seats crashed =
       let there = crash_seen its its.events [] before after over text refl (still_shown its before.player shown) crashed in
       record { next = there.next; says = inr (record { said = []; reported = text; up_to = refl; crash = there.crash; says = refl }); counted = λ goes. let none = there.begun goes in omega (arith, none) }
-  piece_goes_on (CrashAt count) its before after over text shown plain few seats line = record {
-    next = record { bytes = its.bytes; opened = its.opened; first = its.first; events = its.events };
-    says = inl (record { goes_on = line.goes_on; events = its.events; same_life = refl; says = (refl, line.silent); shown = prepared (CrashAt count) its before after _ _ over text shown line });
-    counted = λ goes. omega arith;
-  }
-  piece_goes_on (FailAt count) its before after over text shown plain few seats line = record {
-    next = record { bytes = its.bytes; opened = its.opened; first = its.first; events = its.events };
-    says = inl (record { goes_on = line.goes_on; events = its.events; same_life = refl; says = (refl, line.silent); shown = prepared (FailAt count) its before after _ _ over text shown line });
-    counted = λ goes. omega arith;
-  }
+  piece_goes_on (CrashAt count) its before after over text shown plain few seats line =
+      let still = prepared (CrashAt count) its before after _ _ over text shown line in
+      record {
+        next = record { bytes = its.bytes; opened = its.opened; first = its.first; events = its.events };
+        says = inl (record { goes_on = line.goes_on; events = its.events; same_life = refl; says = (refl, line.silent, still.1); shown = still.0 });
+        counted = λ goes. omega arith;
+      }
+  piece_goes_on (FailAt count) its before after over text shown plain few seats line =
+      let still = prepared (FailAt count) its before after _ _ over text shown line in
+      record {
+        next = record { bytes = its.bytes; opened = its.opened; first = its.first; events = its.events };
+        says = inl (record { goes_on = line.goes_on; events = its.events; same_life = refl; says = (refl, line.silent, still.1); shown = still.0 });
+        counted = λ goes. omega arith;
+      }
 
   -- ---- one behind the other
   shown_behind : (piece : Piece) (its next : LifeInHand) (before after : RunState D) (text : List ℕ) → IsPieceInLives seen may_leave medium settings piece its next before after false text → IsShown seen may_leave next after.player

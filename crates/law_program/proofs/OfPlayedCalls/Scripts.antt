@@ -125,7 +125,7 @@ module _ {D S : Type 0} (engine : events.Event → WorldModel D → WorldModel D
 -- ---- as a life begins
 pub opening_quiet : (bytes : List ℕ) (o : Opened) (n : Now) → IsStoreOf bytes o → IsOpeningWorld o n → IsQuietLife bytes o n [] n
 unfolding run
-opening_quiet bytes o n store opening = record { store = store; opening = opening; fits = tt; few = omega arith; unswept = tt; shows = refl }
+opening_quiet bytes o n store opening = record { store = store; opening = opening; fits = tt; few = omega arith; shows = refl }
 
 pub opening_idle : (o : Opened) (n : Now) → IsOpeningWorld o n → NobodyCalls n
 opening_idle o n opening number s found = let its : IsOpeningSession o number s = opening.its_sessions number s found in its.opened.none_in_hand

@@ -37,13 +37,13 @@ pub record IsRuled (event : Event) (n after : Now) (told : Option tells.Told) : 
 -- each step of a session's call over this engine
 abbrev pub GoesByRules : {D : Type 0} → (events.Event → WorldModel D → WorldModel D → Option tells.Told → Bool → Type 0) → Type 0
 GoesByRules {D} engine =
-    (at : Stage) (number : ℕ) (call : Call) (world after : WorldModel D) (told : Option tells.Told) (broken : Bool) → engine (event_of at (Session number call)) world after told broken
+    (sweeps : Bool) (at : Stage) (number : ℕ) (call : Call) (world after : WorldModel D) (told : Option tells.Told) (broken : Bool) → engine (event_of sweeps at (Session number call)) world after told broken
     → IsRuled (stage_event at number call) world.now after.now told
 
 pub engine_rules : {D : Type 0} (honest : D → Type 0) (seen : D → List ℕ) (may_leave : D → List ℕ → Type 0) (failed : D → ℕ) (refuses : D → ℕ → Bool) (expects : D → List Kind → Foretold) (broken : D → Bool)
     → GoesByRules (EngineStep honest seen may_leave failed refuses expects broken)
-engine_rules honest seen may_leave failed refuses expects broken stage.Begins number call world after told is_broken step = record { read = step.0.read; now = step.0.now; tells = step.0.tells }
-engine_rules honest seen may_leave failed refuses expects broken stage.Moves number call world after told is_broken step = record { read = step.0.read; now = step.0.now; tells = step.0.tells }
+engine_rules honest seen may_leave failed refuses expects broken sweeps stage.Begins number call world after told is_broken step = record { read = step.0.read; now = step.0.now; tells = step.0.tells }
+engine_rules honest seen may_leave failed refuses expects broken sweeps stage.Moves number call world after told is_broken step = record { read = step.0.read; now = step.0.now; tells = step.0.tells }
 
 -- ---- where it leads
 -- whatever the device reads as, a session's step leads to the same world

@@ -1,6 +1,8 @@
 -- Each line of a call, and each finish, over a device that is honest: a life goes on by it, and shows the device with the world.
-use Rattle.std.specs.Prelude.{◌≡◌, ◌⊎◌, ◌+◌, ◌-◌, ◌^◌, ◌<◌, ⊤, ℕ, Bool, true, false, List, [], ◌∷◌, ◌++◌, length, take, Option}
+use Rattle.std.specs.Prelude.{◌≡◌, ◌≢◌, ◌⊎◌, ◌+◌, ◌-◌, ◌^◌, ◌<◌, ⊤, ℕ, Bool, true, false, List, [], ◌∷◌, ◌++◌, length, take, Option}
+use Rattle.fkv_base.specs.declared.commits.CommitKind.TheVariants.{Full}
 use Rattle.law_order.specs.Below.fkv_core.Openings.{beginning}
+use Rattle.law_order.specs.Below.fkv_core.Unswept.{NeverSweeps}
 use Rattle.law_order.specs.Below.fkv_core.Worlds.{WorldModel}
 use Rattle.law_order.specs.Below.fkv_core.Event as events
 use Rattle.law_order.specs.Below.fkv_core.TheTold as tells
@@ -17,7 +19,7 @@ use Rattle.fkv_runs.specs.Below.fkv_playing.Queues.{AreQueuesOf, QueueState}
 use Rattle.fkv_runs.specs.Below.fkv_playing.Seats.{SeatState}
 use Rattle.fkv_runs.specs.Below.fkv_playing.Texts.{text_of}
 use Rattle.fkv_runs.specs.Below.fkv_playing.ActorCall.{ActorCall}
-use Rattle.fkv_runs.specs.Below.fkv_playing.ActorCall.TheVariants.{Session, Commit, Turn}
+use Rattle.fkv_runs.specs.Below.fkv_playing.ActorCall.TheVariants.{Session, Commit, Trim, Turn}
 use Rattle.fkv_runs.specs.Below.fkv_playing.Outcome.{Outcome}
 use Rattle.fkv_runs.specs.Below.fkv_playing.Telling.{Telling}
 use Rattle.fkv_runs.specs.Below.fkv_playing.Telling.TheVariants.{Finished, Whole}
@@ -38,10 +40,11 @@ use Rattle.law_program.specs.WholeCalls.WholeCalls.{IsAnsweredByMap, map_after}
 use Rattle.law_order.specs.Below.law_refine.Results.Results.{NobodyCalls}
 
 -- ---- a call that is alone, in a life
--- the event by which a call begins
+-- the event by which a call begins; a trim is a full commit
 abbrev pub begun_by : ActorCall → Event
 begun_by (Session number asked) = Calls number asked
 begun_by (Commit kind) = Commits kind
+begun_by Trim = Commits Full
 begun_by Turn = Turns
 
 -- A move of its actor. In one of the keeper memory is granted or not, and the device's call succeeds or fails.
@@ -58,6 +61,10 @@ pub record IsCalledAlone (its : ActorCall) (life later : List Event) : Type 0 wh
   pub moves : List Event
   pub are_moves : AreMovesOf its moves
   pub so : later ≡ moves ++ begun_by its ∷ life
+
+-- in the life the keeper has swept nothing, and turns don't sweep
+abbrev pub IsUnswept : {D : Type 0} → List ℕ → Now → List Event → PlayerState D → Type 0
+IsUnswept bytes first life player = NeverSweeps (beginning first bytes) life × (player.sweeps ≡ false)
 
 -- its numbers fit in words
 abbrev pub ItsNumbersFit : ActorCall → Type 0
@@ -104,20 +111,22 @@ IsEndOfFinish text = (text ≡ []) ⊎ (text ≡ not_finished) ⊎ (text ≡ not
 -- ---- over a device
 module _ {D : Type 0} (seen : D → List ℕ) (may_leave : D → List ℕ → Type 0) where
   -- A life of a store that these bytes hold shows the player's world. It shows the device too, which reads as, and may leave, what the life's calls of it give.
-  -- No session has a call in hand. Seats keep the keys of the tickets that were told.
+  -- No session has a call in hand. Seats keep the keys of the tickets that were told. As the life begins, turns don't sweep.
   pub record IsLifeOver (bytes : List ℕ) (o : Opened) (first : Now) (life : List Event) (player : PlayerState D) : Type 0 where
     pub quiet : IsQuietLife bytes o first life player.world.now
     pub device : IsAfter (run (beginning first bytes) life).past.opened (run (beginning first bytes) life).past.calls (seen player.world.device) (may_leave player.world.device)
     pub rests : NobodyCalls player.world.now
     pub keeps : SeatsKeepKeys bytes first life player.seats
+    pub begins : life ≡ [] → player.sweeps ≡ false
 
-  -- What is printed is what the call was told, and the life has gone on with the call alone.
+  -- What is printed is what the call was told, and the life has gone on with the call alone. By any call but a trim an unswept life stays so.
   pub record IsPlayedInLife (telling : Telling) (its : ActorCall) (bytes : List ℕ) (o : Opened) (first : Now) (life later : List Event) (before after : PlayerState D) (text : List ℕ) : Type 0 where
     pub said : tells.Told
     pub says : text ≡ text_of telling (asked_of its) before.seats after.world.now said
     pub alone : IsCalledAlone its life later
     pub told : IsToldInLife bytes o first life later before.seats its said
     pub goes_on : IsLifeOver bytes o first later after
+    pub unswept : its ≢ Trim → IsUnswept bytes first life before → IsUnswept bytes first later after
 
   -- so are these calls, one behind the other
   abbrev pub ArePlayedInLife : Telling → List ActorCall → List ℕ → Opened → Now → List Event → List Event → PlayerState D → PlayerState D → List ℕ → Type 0
@@ -131,7 +140,7 @@ module _ {D : Type 0} (seen : D → List ℕ) (may_leave : D → List ℕ → Ty
     pub later : List Event
     pub played : IsPlayedInLife Whole its bytes o first life later before after text
 
-  -- Of a finish: the first so many calls of its rounds, one behind the other, and what it says behind them.
+  -- Of a finish: the first so many calls of its rounds, one behind the other, and what it says behind them. An unswept life stays so.
   pub record IsFinishInLife (bytes : List ℕ) (o : Opened) (first : Now) (life : List Event) (before after : PlayerState D) (text : List ℕ) : Type 0 where
     pub count : ℕ
     pub later : List Event
@@ -141,6 +150,7 @@ module _ {D : Type 0} (seen : D → List ℕ) (may_leave : D → List ℕ → Ty
     pub ends : IsEndOfFinish behind
     pub says : text ≡ said ++ behind
     pub goes_on : IsLifeOver bytes o first later after
+    pub unswept : IsUnswept bytes first life before → IsUnswept bytes first later after
 
   -- One in which a crash strikes has printed the lines of the calls that had ended before, and no more.
   pub record IsFinishCutShort (bytes : List ℕ) (o : Opened) (first : Now) (life : List Event) (before : PlayerState D) (text : List ℕ) : Type 0 where

@@ -1,8 +1,10 @@
 -- What a poll has finished, by the history.
 use Rattle.std.specs.Prelude.{◌≡◌, ℕ, List, ◌∷◌, ◌++◌, Some, slice_get}
 use Rattle.fkv_base.specs.declared.numbers.Serial.{Serial}
+use Rattle.law_order.specs.Below.fkv_core.Openings.{beginning}
 use Rattle.law_order.specs.Below.fkv_core.TheTold as tells
 use Rattle.law_order.specs.Below.fkv_core.TheTold.TheVariants as told
+use Rattle.law_order.specs.Below.fkv_core.Unswept.{NeverSweeps}
 use Rattle.fkv_map.specs.History.{content}
 use Rattle.fkv_map.specs.Map.{reply_to}
 use Rattle.fkv_map.specs.declared.operations.Reply.{Reply}
@@ -33,9 +35,10 @@ abbrev pub AreRepliedAtEffects : List ℕ → Opened → Now → List Event → 
 AreRepliedAtEffects bytes o first life number answer =
     (serial : Serial) (reply : Reply) → IsIn (finished.Update serial reply) (finished_by answer) → IsRepliedAtEffect bytes o first life number serial.0 reply
 
--- The session is answered. What is finished with it, as the history says: updates as they took effect, and reads as they were called.
+-- The session is answered. Updates that are finished with it are as the history says at their effects. While the keeper has swept nothing, reads are as it says at
+-- their calls.
 pub record IsCallAnswered (bytes : List ℕ) (o : Opened) (first : Now) (life later : List Event) (number : ℕ) (seats : List SeatState) (said : tells.Told) : Type 0 where
   pub answer : Answer
   pub same : said ≡ told.Session number answer
   pub updates : AreRepliedAtEffects bytes o first later number answer
-  pub reads : (seat : SeatState) → slice_get seats number ≡ Some seat → AreReadAtCalls bytes o first life number seat.waiting answer
+  pub reads : NeverSweeps (beginning first bytes) later → (seat : SeatState) → slice_get seats number ≡ Some seat → AreReadAtCalls bytes o first life number seat.waiting answer

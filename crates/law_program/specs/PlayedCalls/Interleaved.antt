@@ -1,7 +1,6 @@
 -- A life goes on by whatever beats of calls, interleaved ones too.
 use Rattle.std.specs.Prelude.{◌≡◌, ◌≤◌, ◌+◌, ⊤, ℕ, Bool, List, [], ◌∷◌, ◌++◌, length, Option, Some, None}
 use Rattle.law_order.specs.Below.fkv_core.Openings.{IsOpeningWorld, beginning}
-use Rattle.law_order.specs.Below.fkv_core.Unswept.{NeverSweeps}
 use Rattle.law_order.specs.Below.fkv_core.Worlds.{WorldModel}
 use Rattle.law_order.specs.Below.fkv_core.Event as events
 use Rattle.law_order.specs.Below.fkv_core.TheTold as tells
@@ -21,12 +20,11 @@ use Rattle.law_order.specs.Tickets.Few.{HasFewCalls, calls_in}
 use Rattle.law_program.specs.PlayedCalls.EachLine.{IsLifeOver, ItsNumbersFit}
 use Rattle.law_program.specs.PlayedCalls.FewCalls.{left_in}
 
--- A life of a store that these bytes hold shows the player's world and its device, whatever calls are in hand. Its keeper has swept nothing.
+-- A life of a store that these bytes hold shows the player's world and its device, whatever calls are in hand.
 pub record IsLifeShown {D : Type 0} (seen : D → List ℕ) (may_leave : D → List ℕ → Type 0) (bytes : List ℕ) (o : Opened) (first : Now) (life : List Event) (player : PlayerState D) : Type 0 where
   pub store : IsStoreOf bytes o
   pub opening : IsOpeningWorld o first
   pub fits : CallsFit life
-  pub unswept : NeverSweeps (beginning first bytes) life
   pub shows : (run (beginning first bytes) life).now ≡ player.world.now
   pub device : IsAfter (run (beginning first bytes) life).past.opened (run (beginning first bytes) life).past.calls (seen player.world.device) (may_leave player.world.device)
 

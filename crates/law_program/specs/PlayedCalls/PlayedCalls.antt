@@ -2,7 +2,6 @@
 use Rattle.std.specs.Prelude.{◌≡◌, ◌⊎◌, ℕ, Bool, false, List, [], ◌∷◌, Option, Some, slice_get, ◌++◌, replicate, true, ⊤}
 use Rattle.fkv_base.specs.declared.faults.Fault.TheVariants.{NoSession}
 use Rattle.law_order.specs.Below.fkv_core.Openings.{IsOpeningWorld, beginning}
-use Rattle.law_order.specs.Below.fkv_core.Unswept.{NeverSweeps}
 use Rattle.law_order.specs.Below.fkv_core.Worlds.{WorldModel}
 use Rattle.law_order.specs.Below.fkv_core.Event as events
 use Rattle.law_order.specs.Below.fkv_core.TheTold as tells
@@ -37,13 +36,12 @@ use Rattle.fkv_map.specs.Fits.{OpFits}
 use Rattle.law_order.specs.Served.Fits.{CallFits, CallsFit}
 use Rattle.law_order.specs.Tickets.Few.{HasFewCalls}
 
--- A life of a store that these bytes hold, which began with its first world: one of which the order law speaks. It shows this world, and its keeper has swept nothing.
+-- A life of a store that these bytes hold, which began with its first world: one of which the order law speaks. It shows this world.
 pub record IsQuietLife (bytes : List ℕ) (o : Opened) (first : Now) (life : List Event) (n : Now) : Type 0 where
   pub store : IsStoreOf bytes o
   pub opening : IsOpeningWorld o first
   pub fits : CallsFit life
   pub few : HasFewCalls life
-  pub unswept : NeverSweeps (beginning first bytes) life
   pub shows : (run (beginning first bytes) life).now ≡ n
 
 -- An operation is told nothing but this: an update that it is done or has to wait, a read what it found or that it has to wait; and each may be refused.

@@ -39,18 +39,18 @@ module _ {D : Type 0} (seen : D → List ℕ) (may_leave : D → List ℕ → Ty
   abbrev pub IsShown : LifeInHand → PlayerState D → Type 0
   IsShown its player = IsLifeOver seen may_leave its.bytes its.opened its.first its.events player
 
-  -- a line that fails a device, or crashes it, leaves each life as it is
+  -- a line that fails a device, or crashes it, leaves each life as it is, and whether turns sweep
   abbrev pub ArmsInLife : (ℕ → Waits → PlayerState D → PlayerState D → Type 0) → Type 0
-  ArmsInLife armed = (count : ℕ) (waits : Waits) (its : LifeInHand) (before after : PlayerState D) → armed count waits before after → IsShown its before → IsShown its after
+  ArmsInLife armed = (count : ℕ) (waits : Waits) (its : LifeInHand) (before after : PlayerState D) → armed count waits before after → IsShown its before → IsShown its after × (after.sweeps ≡ before.sweeps)
 
   -- ---- in the life in hand
-  -- a line of a call is refused, or played; a finish goes by its calls; and a line that fails or crashes a device says nothing
+  -- A line of a call is refused, or played. A finish goes by its calls. A line that fails or crashes a device says nothing, and turns sweep as before.
   abbrev pub SaysInLife : Piece → LifeInHand → List Event → PlayerState D → PlayerState D → List ℕ → Type 0
   SaysInLife (Group calls) its later before after text =
       (one : ActorCall) × (calls.items ≡ one ∷ [])
       × (((later ≡ its.events) × IsRefusedLine one before after text) ⊎ IsPlayedInLife seen may_leave Whole one its.bytes its.opened its.first its.events later before after text)
   SaysInLife Finish its later before after text = (finish : IsFinishInLife seen may_leave its.bytes its.opened its.first its.events before after text) × (finish.later ≡ later)
-  SaysInLife other its later before after text = (later ≡ its.events) × (text ≡ [])
+  SaysInLife other its later before after text = (later ≡ its.events) × (text ≡ []) × (after.sweeps ≡ before.sweeps)
 
   pub record GoesOnInLife (piece : Piece) (its next : LifeInHand) (before after : RunState D) (over : Bool) (text : List ℕ) : Type 0 where
     pub goes_on : over ≡ false
