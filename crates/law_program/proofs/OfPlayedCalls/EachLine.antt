@@ -35,6 +35,7 @@ use Rattle.law_order.specs.Below.fkv_world.Runs.{World, run}
 use Rattle.law_order.specs.Below.fkv_world.World.{Calls, Event, Moves, Now}
 use Rattle.law_order.specs.OneHistory.EachLife.{InEachLife, IsLife}
 use Rattle.law_order.specs.Prefix.Law.{TellsFinished}
+use Rattle.law_order.specs.Rules.InTime.{ReadsInTime}
 use Rattle.law_order.specs.Rules.Waiting.{WaitingReadsInTime}
 use Rattle.law_order.specs.Rules.Ordered.{HasLegalHistory, OrdersItsCalls, ReadsFreshly}
 use Rattle.law_order.specs.Served.Fits.{CallFits, CallsFit}
@@ -148,7 +149,7 @@ ends_so Answered = inr (inl refl)
 ends_so other = inl refl
 
 -- ---- a call that is played alone
-module _ {D : Type 0} (legal : InEachLife HasLegalHistory) (ordered : InEachLife OrdersItsCalls) (fresh : InEachLife ReadsFreshly) (waiting : InEachLife WaitingReadsInTime) (unswept : UnsweptLivesKeepBegin) (whole : AnswersWholeCalls) (tells_finished : InEachLife TellsFinished) (seen : D → List ℕ) (may_leave : D → List ℕ → Type 0)
+module _ {D : Type 0} (legal : InEachLife HasLegalHistory) (ordered : InEachLife OrdersItsCalls) (fresh : InEachLife ReadsFreshly) (waiting : InEachLife WaitingReadsInTime) (in_time : InEachLife ReadsInTime) (unswept : UnsweptLivesKeepBegin) (whole : AnswersWholeCalls) (tells_finished : InEachLife TellsFinished) (seen : D → List ℕ) (may_leave : D → List ℕ → Type 0)
     (engine : events.Event → WorldModel D → WorldModel D → Option tells.Told → Bool → Type 0) (rules : GoesByRules engine) (leads : LeadsLives seen may_leave engine) where
   -- what is printed, and where the life goes
   pub record IsPlayed (telling : Telling) (its : ActorCall) (bytes : List ℕ) (o : Opened) (first : Now) (life : List Event) (before after : PlayerState D) (text : List ℕ) : Type 0 where
@@ -172,7 +173,7 @@ module _ {D : Type 0} (legal : InEachLife HasLegalHistory) (ordered : InEachLife
         answer = answered.answer;
         same = answered.same;
         updates = updates_answered legal ordered number count asked bytes o first life answered.its answered.s.finished answered.answer at is_life answered.is_told;
-        reads = λ never. reads_answered fresh waiting bytes o first life number count asked answered.its answered.s.finished at is_life unswept never opened before.seats answered.answer answered.is_told over.keeps;
+        reads = reads_answered fresh waiting in_time bytes o first life number count asked answered.its answered.s.finished at is_life unswept opened before.seats answered.answer answered.is_told over.keeps;
       }
 
   told_in_life : (telling : Telling) (number count : ℕ) (asked : Call) (bytes : List ℕ) (o : Opened) (first : Now) (life : List Event) (before after : PlayerState D) (text : List ℕ) → IsLifeOver seen may_leave bytes o first life before

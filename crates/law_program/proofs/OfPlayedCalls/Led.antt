@@ -43,8 +43,8 @@ use Rattle.law_program.proofs.OfPlayedCalls.Beats.{HasEnded, ended_heard, unhear
 use Rattle.law_program.proofs.OfPlayedCalls.Unswept.{step_unswept}
 
 -- ---- by the engine's rules
--- A step leads on each life of an opened store that shows the world and the device before it, and tells what its event gives. One that may not sweep begins
--- no sweep.
+-- A step leads on each life of an opened store that shows the world and the device before it, and tells what its event gives. One that may not sweep
+-- begins no sweep.
 pub record IsLeading {D : Type 0} (seen : D → List ℕ) (may_leave : D → List ℕ → Type 0) (its : events.Event) (world after : WorldModel D) (said : Option tells.Told) : Type 0 where
   pub granted : Bool
   pub done : Bool

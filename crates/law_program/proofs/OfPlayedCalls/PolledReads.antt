@@ -1,4 +1,4 @@
--- The value that a poll gives for a read is its key's as the read was called.
+-- The value that a poll gives for a read is one that its key has had since the call. While the keeper has swept nothing, it is the key's at that call.
 use Rattle.std.proofs.Common.{◌≡◌, ◌<◌, ◌+◌, ◌∙◌, ℕ, List, [], ◌∷◌, ◌++◌, ap, append_assoc, arith, inl, inr, length, refl, replicate, sym, subst}
 use Rattle.std.specs.Prelude.{Option, Some, slice_get}
 use Rattle.std.proofs.lemmas.List.{append-nil}
@@ -26,6 +26,7 @@ use Rattle.law_order.specs.Below.fkv_session.Told.{Told}
 use Rattle.law_order.specs.Below.fkv_session.Told.TheVariants as told
 use Rattle.fkv_texts.specs.Polls.{key_of_ticket}
 use Rattle.law_order.specs.Below.fkv_world.Opened.{IsOpenedWorld, answers_of}
+use Rattle.law_order.specs.Below.fkv_world.Past as world
 use Rattle.law_order.specs.Below.fkv_world.Past.{Answered, Called, Traced}
 use Rattle.law_order.specs.Below.fkv_world.Runs.{run}
 use Rattle.law_order.specs.Below.fkv_world.World.{Calls, Event, Moves, Now}
@@ -33,16 +34,17 @@ use Rattle.law_log.specs.Trace.{AnswersRead, CallsRead, Effect, IsIn, TraceLine,
 use Rattle.law_order.specs.Known.Begins.{BeginStays}
 use Rattle.law_order.specs.OneHistory.EachLife.{InEachLife, IsLife, Life}
 use Rattle.law_order.specs.Below.law_opening.Log.Maps.{opening_map}
-use Rattle.law_order.specs.Rules.InTime.{IsInTime}
+use Rattle.law_order.specs.Rules.InTime.{IsInTime, ReadsInTime}
 use Rattle.law_order.specs.Rules.Ordered.{ReadsFreshly, effects_so_far, lines_so_far}
 use Rattle.law_order.specs.Rules.Waiting.{WaitingReadsInTime, waiting_read}
 use Rattle.law_order.proofs.OfReads.LifeNumbers.{life_numbered}
 use Rattle.law_order.proofs.OfReads.Numbers.{own_below}
-use Rattle.law_order.specs.Below.law_refine.Calls.Calls.{event_adds}
+use Rattle.law_order.proofs.Below.law_world.OfRuns.Added.{history_so}
+use Rattle.law_order.specs.Below.law_refine.Calls.Calls.{effects_in_log, event_adds}
 use Rattle.law_order.specs.Below.law_refine.Events.GhostEvents.{serials_in}
 use Rattle.law_order.specs.Below.law_refine.Events.Lines.{event_lines, lines_of, read_reply}
 use Rattle.law_program.specs.PlayedCalls.PlayedCalls.{called_alone}
-use Rattle.law_program.specs.PlayedCalls.Waiting.{AreReadAtCalls, IsReadAtCall, IsReadCalled, SeatsKeepKeys, StandsForKey, key_told, reader_of}
+use Rattle.law_program.specs.PlayedCalls.Waiting.{AreKeptAndRead, IsReadAtCall, IsReadCalled, IsReadInTime, SeatsKeepKeys, StandsForKey, key_told, reader_of}
 use Rattle.law_program.proofs.OfPlayedCalls.Polled.{IsPolled, IsTraced, finished_in, line_in, polled, trace_of_call}
 use Rattle.law_program.proofs.OfPlayedCalls.InLife.{was_there}
 use Rattle.law_program.proofs.OfPlayedCalls.ReadCalls.{called_before}
@@ -71,9 +73,35 @@ alone_so m effects key reply its =
     its.value
     ∙ ap (λ (x : List HistoryEntry). reply_to (content m x) (Read key)) (ap (λ (x : List HistoryEntry). history_of effects ++ x) (none_more (history_of effects) its.between its.newer its.all) ∙ append-nil (history_of effects))
 
-module _ (fresh : InEachLife ReadsFreshly) (waiting : InEachLife WaitingReadsInTime) (bytes : List ℕ) (o : Opened) (first : Now) (life : List Event) (number count : ℕ) (asked : Call) (its : Told) (list : List Finished)
+-- a life that has gone on has a history no shorter
+one_longer : (bytes : List ℕ) (first : Now) (event : Event) (life : List Event)
+    → (more : List HistoryEntry) × (history_of (effects_so_far first bytes (event ∷ life)) ≡ history_of (effects_so_far first bytes life) ++ more)
+unfolding run
+one_longer bytes first event life = elim (history_so (run (beginning first bytes) life) event) [
+  | inl same ↦ ([], ap (λ (x : List world.Effect). history_of (effects_in_log x)) same ∙ sym (append-nil (history_of (effects_so_far first bytes life))))
+  | inr its ↦ (its.0.entry ∷ [], ap (λ (x : List world.Effect). history_of (effects_in_log x)) its.1)
+]
+
+grown : (bytes : List ℕ) (first : Now) (behind life : List Event)
+    → (more : List HistoryEntry) × (history_of (effects_so_far first bytes (behind ++ life)) ≡ history_of (effects_so_far first bytes life) ++ more)
+grown bytes first [] life = ([], sym (append-nil (history_of (effects_so_far first bytes life))))
+grown bytes first (event ∷ behind) life =
+    let rest = grown bytes first behind life in
+    let one = one_longer bytes first event (behind ++ life) in
+    (rest.0 ++ one.0, one.1 ∙ (ap (λ (x : List HistoryEntry). x ++ one.0) rest.1 ∙ append_assoc (history_of (effects_so_far first bytes life)) rest.0 one.0))
+
+-- so what is in time is so later, too
+in_time_still : (m : Map) (first last more all : List HistoryEntry) (key : ℕ) (reply : Reply) → all ≡ last ++ more → IsInTime m first last key reply → IsInTime m first all key reply
+in_time_still m first last more all key reply longer its = record {
+  between = its.between;
+  newer = its.newer ++ more;
+  all = longer ∙ (ap (λ (x : List HistoryEntry). x ++ more) its.all ∙ (append_assoc first (its.between ++ its.newer) more ∙ ap (λ (x : List HistoryEntry). first ++ x) (append_assoc its.between its.newer more)));
+  value = its.value;
+}
+
+module _ (fresh : InEachLife ReadsFreshly) (waiting : InEachLife WaitingReadsInTime) (in_time : InEachLife ReadsInTime) (bytes : List ℕ) (o : Opened) (first : Now) (life : List Event) (number count : ℕ) (asked : Call) (its : Told) (list : List Finished)
     (at : IsTraced bytes first life number count asked its list) (is_life : IsLife (record { bytes = bytes; opened = o; world = first; events = called_alone number count asked life }))
-    (unswept : UnsweptLivesKeepBegin) (never : NeverSweeps (beginning first bytes) (called_alone number count asked life)) where
+    (unswept : UnsweptLivesKeepBegin) where
   abbrev later : List Event
   later = called_alone number count asked life
 
@@ -125,8 +153,46 @@ module _ (fresh : InEachLife ReadsFreshly) (waiting : InEachLife WaitingReadsInT
       (subst (λ (x : Told). IsIn (AnswersRead (reader_of bytes first life number ticket) (read_reply value)) (event_lines (serials_in first) (call ∷ (run (beginning first bytes) life).past.trace) (Answered number (telling x list)))) (sym is.polled)
       (finished_in number (call ∷ (run (beginning first bytes) life).past.trace) (finished.Read ticket value) list is.is_in))
 
-  read_at_call : (ticket : Ticket) (value : Option Value) (key : Key) → IsPolled its list (finished.Read ticket value) → StandsForKey bytes first life number ticket key → IsReadAtCall bytes o first life number ticket key value
-  read_at_call ticket value key is stands = record { read = read; by_map = alone_so (opening_map bytes o) (effects_so_far first bytes read.earlier) key (read_reply value) so }
+  read_in_time : (ticket : Ticket) (value : Option Value) (key : Key) → IsPolled its list (finished.Read ticket value) → StandsForKey bytes first life number ticket key → IsReadInTime bytes o first life later number ticket key value
+  read_in_time ticket value key is stands = record { read = read; in_time = so }
+    where
+      read : IsReadCalled bytes first life number ticket (reader_of bytes first life number ticket) key
+      read = called_so ticket value key is stands
+
+      calls : Event
+      calls = Calls number (call.Op (Read key))
+
+      between : List Event
+      between = at.given.between ++ (read.since ++ replicate read.moves (Moves number))
+
+      answered : List Event
+      answered = at.given.answer ∷ (between ++ calls ∷ read.earlier)
+
+      mid : at.given.between ++ life ≡ between ++ calls ∷ read.earlier
+      mid =
+          ap (λ (x : List Event). at.given.between ++ x) (read.called ∙ sym (append_assoc read.since (replicate read.moves (Moves number)) (calls ∷ read.earlier)))
+          ∙ sym (append_assoc at.given.between (read.since ++ replicate read.moves (Moves number)) (calls ∷ read.earlier))
+
+      whole : later ≡ at.given.behind ++ answered
+      whole = at.given.so ∙ ap (λ (x : List Event). at.given.behind ++ at.given.answer ∷ x) mid
+
+      by_law : IsInTime (opening_map bytes o) (history_of (effects_so_far first bytes (calls ∷ read.earlier))) (history_of (effects_so_far first bytes answered)) key.0 (read_reply value)
+      by_law =
+          in_time lived is_life at.given.behind between read.earlier calls at.given.answer (reader_of bytes first life number ticket) key.0 (read_reply value) whole read.line
+          (subst (λ (x : List Event). IsIn (AnswersRead (reader_of bytes first life number ticket) (read_reply value)) (event_adds (beginning first bytes) x at.given.answer)) mid (answer_line ticket value is))
+
+      behind : (more : List HistoryEntry) × (history_of (effects_so_far first bytes (at.given.behind ++ answered)) ≡ history_of (effects_so_far first bytes answered) ++ more)
+      behind = grown bytes first at.given.behind answered
+
+      so : IsInTime (opening_map bytes o) (history_of (effects_so_far first bytes read.earlier)) (history_of (effects_so_far first bytes later)) key.0 (read_reply value)
+      so =
+          subst (λ (x : List Effect). IsInTime (opening_map bytes o) (history_of x) (history_of (effects_so_far first bytes later)) key.0 (read_reply value)) (call_adds_none bytes first read.earlier number (call.Op (Read key)))
+          (in_time_still (opening_map bytes o) (history_of (effects_so_far first bytes (calls ∷ read.earlier))) (history_of (effects_so_far first bytes answered)) behind.0 (history_of (effects_so_far first bytes later)) key.0 (read_reply value)
+          (ap (λ (x : List Event). history_of (effects_so_far first bytes x)) whole ∙ behind.1) by_law)
+
+  read_at_call : NeverSweeps (beginning first bytes) later → (ticket : Ticket) (value : Option Value) (key : Key) → IsPolled its list (finished.Read ticket value) → StandsForKey bytes first life number ticket key
+      → IsReadAtCall bytes o first life number ticket key value
+  read_at_call never ticket value key is stands = record { read = read; by_map = alone_so (opening_map bytes o) (effects_so_far first bytes read.earlier) key (read_reply value) so }
     where
       read : IsReadCalled bytes first life number ticket (reader_of bytes first life number ticket) key
       read = called_so ticket value key is stands
@@ -165,9 +231,10 @@ module _ (fresh : InEachLife ReadsFreshly) (waiting : InEachLife WaitingReadsInT
           (subst (λ (x : List Effect). IsInTime (opening_map bytes o) (history_of (effects_so_far first bytes (calls ∷ read.earlier))) (history_of x) key.0 (read_reply value)) read.none by_law)
 
   pub reads_answered : IsOpenedWorld (beginning first bytes) → (seats : List SeatState) (given : Answer) → IsAnswerTold its list given → SeatsKeepKeys bytes first life seats → (seat : SeatState) → slice_get seats number ≡ Some seat
-      → AreReadAtCalls bytes o first life number seat.waiting given
+      → AreKeptAndRead bytes o first life later number seat.waiting given
   reads_answered opened seats given is_told keeps seat there ticket value is_in =
       let is = polled its list given (finished.Read ticket value) is_told is_in in
       let key = key_kept opened ticket value is in
       let kept : key_of_ticket seat.waiting ticket ≡ Some key.0 = keeps.told number seat there ticket ∙ key.1 in
-      record { key = key.0; kept = kept; at_call = read_at_call ticket value key.0 is (keeps.stand number seat there ticket key.0 kept) }
+      let stands = keeps.stand number seat there ticket key.0 kept in
+      record { key = key.0; kept = kept; in_time = read_in_time ticket value key.0 is stands; at_call = λ never. read_at_call never ticket value key.0 is stands }

@@ -1,4 +1,4 @@
--- Where turns don't sweep, the keeper sweeps nothing: a step of the engine begins no sweep then, and an event of a session leaves the keeper as it is.
+-- Where turns don't sweep, the keeper sweeps nothing: a step begins no sweep then, and an event of a session leaves the keeper as it is.
 use Rattle.std.proofs.Common.{◌≡◌, ◌∙◌, ℕ, zero, suc, List, [], ◌∷◌, ◌++◌, replicate, ap, refl, sym, subst, false}
 use Rattle.law_order.specs.Below.fkv_core.Unswept.{NeverSweeps}
 use Rattle.law_order.specs.Below.fkv_core.Worlds.{BeginsNoSweep}

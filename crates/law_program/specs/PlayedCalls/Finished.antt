@@ -1,10 +1,8 @@
 -- What a poll has finished, by the history.
 use Rattle.std.specs.Prelude.{◌≡◌, ℕ, List, ◌∷◌, ◌++◌, Some, slice_get}
 use Rattle.fkv_base.specs.declared.numbers.Serial.{Serial}
-use Rattle.law_order.specs.Below.fkv_core.Openings.{beginning}
 use Rattle.law_order.specs.Below.fkv_core.TheTold as tells
 use Rattle.law_order.specs.Below.fkv_core.TheTold.TheVariants as told
-use Rattle.law_order.specs.Below.fkv_core.Unswept.{NeverSweeps}
 use Rattle.fkv_map.specs.History.{content}
 use Rattle.fkv_map.specs.Map.{reply_to}
 use Rattle.fkv_map.specs.declared.operations.Reply.{Reply}
@@ -17,7 +15,7 @@ use Rattle.law_order.specs.Below.fkv_world.World.{Event, Now}
 use Rattle.law_log.specs.Trace.{Effect, IsIn, called_as, history_of}
 use Rattle.law_order.specs.Below.law_opening.Log.Maps.{opening_map}
 use Rattle.law_order.specs.Rules.Ordered.{effects_so_far, lines_so_far}
-use Rattle.law_program.specs.PlayedCalls.Waiting.{AreReadAtCalls}
+use Rattle.law_program.specs.PlayedCalls.Waiting.{AreKeptAndRead}
 
 -- The update that the session called under this serial has taken effect in this life, and is replied so by the map that it found.
 pub record IsRepliedAtEffect (bytes : List ℕ) (o : Opened) (first : Now) (life : List Event) (number serial : ℕ) (reply : Reply) : Type 0 where
@@ -35,10 +33,10 @@ abbrev pub AreRepliedAtEffects : List ℕ → Opened → Now → List Event → 
 AreRepliedAtEffects bytes o first life number answer =
     (serial : Serial) (reply : Reply) → IsIn (finished.Update serial reply) (finished_by answer) → IsRepliedAtEffect bytes o first life number serial.0 reply
 
--- The session is answered. Updates that are finished with it are as the history says at their effects. While the keeper has swept nothing, reads are as it says at
--- their calls.
+-- The session is answered. Each update that is finished with it is replied by the map at its effect. Each read that is finished gives a value that
+-- its key has had since its call.
 pub record IsCallAnswered (bytes : List ℕ) (o : Opened) (first : Now) (life later : List Event) (number : ℕ) (seats : List SeatState) (said : tells.Told) : Type 0 where
   pub answer : Answer
   pub same : said ≡ told.Session number answer
   pub updates : AreRepliedAtEffects bytes o first later number answer
-  pub reads : NeverSweeps (beginning first bytes) later → (seat : SeatState) → slice_get seats number ≡ Some seat → AreReadAtCalls bytes o first life number seat.waiting answer
+  pub reads : (seat : SeatState) → slice_get seats number ≡ Some seat → AreKeptAndRead bytes o first life later number seat.waiting answer

@@ -44,7 +44,7 @@ module _ {D : Type 0} (seen : D → List ℕ) (may_leave : D → List ℕ → Ty
   ArmsInLife armed = (count : ℕ) (waits : Waits) (its : LifeInHand) (before after : PlayerState D) → armed count waits before after → IsShown its before → IsShown its after × (after.sweeps ≡ before.sweeps)
 
   -- ---- in the life in hand
-  -- A line of a call is refused, or played. A finish goes by its calls. A line that fails or crashes a device says nothing, and turns sweep as before.
+  -- A line of a call is refused, or played. A finish goes by its calls. A line that fails or crashes a device says nothing. Turns sweep as before.
   abbrev pub SaysInLife : Piece → LifeInHand → List Event → PlayerState D → PlayerState D → List ℕ → Type 0
   SaysInLife (Group calls) its later before after text =
       (one : ActorCall) × (calls.items ≡ one ∷ [])

@@ -3,6 +3,7 @@ use Rattle.std.specs.Prelude.{◌≡◌, ◌<◌, ℕ, List, [], ◌∷◌, ◌+
 use Rattle.fkv_base.specs.declared.numbers.Key.{Key}
 use Rattle.fkv_base.specs.declared.numbers.Value.{Value}
 use Rattle.law_order.specs.Below.fkv_core.Openings.{beginning}
+use Rattle.law_order.specs.Below.fkv_core.Unswept.{NeverSweeps}
 use Rattle.fkv_map.specs.Map.{reply_to}
 use Rattle.fkv_map.specs.declared.operations.Call.TheVariants as call
 use Rattle.fkv_map.specs.declared.operations.Op.TheVariants.{Read}
@@ -17,7 +18,9 @@ use Rattle.fkv_texts.specs.declared.polls.WaitingRead.{WaitingRead}
 use Rattle.law_order.specs.Below.fkv_world.Past.{Traced}
 use Rattle.law_order.specs.Below.fkv_world.Runs.{run}
 use Rattle.law_order.specs.Below.fkv_world.World.{Calls, Event, Now}
-use Rattle.law_log.specs.Trace.{CallsRead, IsIn}
+use Rattle.law_log.specs.Trace.{CallsRead, IsIn, history_of}
+use Rattle.law_order.specs.Below.law_opening.Log.Maps.{opening_map}
+use Rattle.law_order.specs.Rules.InTime.{IsInTime}
 use Rattle.law_order.specs.Rules.Ordered.{effects_so_far, lines_so_far}
 use Rattle.law_order.specs.Rules.Waiting.{HasWaiting, waiting_read}
 use Rattle.law_program.specs.PlayedCalls.PlayedCalls.{called_alone}
@@ -66,19 +69,27 @@ pub record SeatsKeepKeys (bytes : List ℕ) (first : Now) (life : List Event) (s
   pub stand : (number : ℕ) (seat : SeatState) → slice_get seats number ≡ Some seat → (ticket : Ticket) (key : Key) → key_of_ticket seat.waiting ticket ≡ Some key → StandsForKey bytes first life number ticket key
 
 -- ---- a poll's value
+-- The ticket is of a read of this key that the session called in the life. The value is one that the key had at some moment between that call and
+-- the end of the later life.
+pub record IsReadInTime (bytes : List ℕ) (o : Opened) (first : Now) (life later : List Event) (number : ℕ) (ticket : Ticket) (key : Key) (value : Option Value) : Type 0 where
+  pub read : IsReadCalled bytes first life number ticket (reader_of bytes first life number ticket) key
+  pub in_time : IsInTime (opening_map bytes o) (history_of (effects_so_far first bytes read.earlier)) (history_of (effects_so_far first bytes later)) key.0 (read_reply value)
+
 -- The ticket is of a read of this key that the session called in the life. This is what the map of that moment replies: the one that the store showed as the read
 -- was called.
 pub record IsReadAtCall (bytes : List ℕ) (o : Opened) (first : Now) (life : List Event) (number : ℕ) (ticket : Ticket) (key : Key) (value : Option Value) : Type 0 where
   pub read : IsReadCalled bytes first life number ticket (reader_of bytes first life number ticket) key
   pub by_map : read_reply value ≡ reply_to (map_after o first bytes read.earlier) (Read key)
 
--- The seat keeps the key of its ticket, and the value is that key's.
-pub record IsKeptAndReadAtCall (bytes : List ℕ) (o : Opened) (first : Now) (life : List Event) (number : ℕ) (waiting : List WaitingRead) (ticket : Ticket) (value : Option Value) : Type 0 where
+-- The seat keeps the key of its ticket. The value is one that this key has had since the read's call. While the keeper has swept nothing, it is the
+-- key's at that call.
+pub record IsKeptAndRead (bytes : List ℕ) (o : Opened) (first : Now) (life later : List Event) (number : ℕ) (waiting : List WaitingRead) (ticket : Ticket) (value : Option Value) : Type 0 where
   pub key : Key
   pub kept : key_of_ticket waiting ticket ≡ Some key
-  pub at_call : IsReadAtCall bytes o first life number ticket key value
+  pub in_time : IsReadInTime bytes o first life later number ticket key value
+  pub at_call : NeverSweeps (beginning first bytes) later → IsReadAtCall bytes o first life number ticket key value
 
 -- so is each read that an answer says is finished
-abbrev pub AreReadAtCalls : List ℕ → Opened → Now → List Event → ℕ → List WaitingRead → Answer → Type 0
-AreReadAtCalls bytes o first life number waiting answer =
-    (ticket : Ticket) (value : Option Value) → IsIn (finished.Read ticket value) (finished_by answer) → IsKeptAndReadAtCall bytes o first life number waiting ticket value
+abbrev pub AreKeptAndRead : List ℕ → Opened → Now → List Event → List Event → ℕ → List WaitingRead → Answer → Type 0
+AreKeptAndRead bytes o first life later number waiting answer =
+    (ticket : Ticket) (value : Option Value) → IsIn (finished.Read ticket value) (finished_by answer) → IsKeptAndRead bytes o first life later number waiting ticket value
