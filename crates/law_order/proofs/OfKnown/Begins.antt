@@ -1,5 +1,5 @@
 -- Over a life the log begins at first where the store was opened, and no record lies below that. Where it comes to begin all below is fixed.
-use Rattle.std.proofs.Common.{◌≡◌, ℕ, ◌≤◌, ◌∙◌, ⊎_elim, inl, inr, sym, ap, subst, arith, List, [], ◌∷◌, ◌++◌}
+use Rattle.std.proofs.Common.{ℕ, ◌≤◌, ◌∙◌, ⊎_elim, inl, inr, sym, arith, List, [], ◌++◌}
 use Rattle.std.proofs.lemmas.Bool.{cases_lt}
 use Rattle.law_commit.specs.Below.fkv_world.Runs.{run}
 use Rattle.law_commit.specs.Below.fkv_world.World.{Event}
@@ -13,7 +13,7 @@ use Rattle.law_log.proofs.Shown.{above_live, run_held}
 use Rattle.law_opening.proofs.OfChanges.LifeEvents.{life_low}
 use Rattle.law_order.specs.Known.Begins.{BeginStays, BegunLife, begin_in, home_of_world}
 use Rattle.law_order.proofs.OfServed.Device.{begins_linked}
-use Rattle.law_order.proofs.OfSwept.Low.{IsLow, flushed_is_fixed, life_low as keeper_low}
+use Rattle.law_order.proofs.OfSwept.Low.{flushed_is_fixed, life_low as keeper_low}
 
 -- it never goes back
 pub begin_rises : (life : BegunLife) (later before : List Event) → begin_in (run life.opening before) ≤ begin_in (run life.opening (later ++ before))

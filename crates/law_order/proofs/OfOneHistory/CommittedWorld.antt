@@ -1,5 +1,5 @@
 -- The world of the life with two commits is one with which a new store opens: that of the worked lives, with a keeper of which all is known that a commit needs.
-use Rattle.std.proofs.Common.{◌≡◌, ◌∙◌, List, [], ◌∷◌, true, false, refl, sym, ap, subst}
+use Rattle.std.proofs.Common.{◌≡◌, List, [], ◌∷◌, true, false, refl, sym, ap}
 use Rattle.std.specs.Prelude.{None}
 use Rattle.fkv_base.specs.declared.classes.StoreClass.TheVariants.{Specified}
 use Rattle.fkv_base.specs.declared.numbers.Addr.{Addr}

@@ -7,8 +7,7 @@ use Rattle.fkv_base.specs.declared.numbers.Addr.{Addr}
 use Rattle.fkv_base.specs.declared.phases.Phase.TheVariants.{Rest}
 use Rattle.fkv_base.specs.declared.shapes.Shape.{Shape}
 use Rattle.fkv_marks.specs.Marks.{mark}
-use Rattle.fkv_plane.specs.declared.places.Places.{Places}
-use Rattle.fkv_sweep.specs.Sweeping.{Sweeper, sweep_begun}
+use Rattle.fkv_sweep.specs.Sweeping.{sweep_begun}
 use Rattle.law_opening.specs.Below.fkv_core.OpeningWords.{AreWordsOfOpened, frames_of, laid_round, ring_words, warm_place, words_before_frames, words_of_sessions, words_once}
 use Rattle.law_opening.specs.Below.fkv_core.Openings.{IsOpeningSession, IsOpeningWorld, newest_commit}
 use Rattle.law_opening.specs.Below.fkv_creating.Created.{IsNewStore}

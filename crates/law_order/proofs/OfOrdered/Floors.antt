@@ -1,13 +1,12 @@
 -- Each session of a life goes by floors that aren't above the log's begin, and the log does without what lies below that. Where the begin moves a sweep has shown it.
-use Rattle.std.proofs.Common.{◌≡◌, ◌⊎◌, ◌∙◌, inl, inr, ℕ, ◌≤◌, refl, ap, sym, subst, arith, List, [], ◌∷◌, ◌++◌}
+use Rattle.std.proofs.Common.{◌≡◌, ◌⊎◌, ◌∙◌, inl, inr, ℕ, ◌≤◌, refl, ap, sym, subst, arith, List, [], ◌∷◌}
 use Rattle.std.specs.Prelude.{Some, None}
 use Rattle.fkv_base.specs.declared.numbers.Addr.{Addr}
 use Rattle.law_commit.specs.Below.fkv_commit.Commit.{Commit}
 use Rattle.law_commit.specs.Below.fkv_keeper.CheckpointLaws.{IsFinished}
 use Rattle.law_commit.specs.Below.fkv_keeper.Keeping.{Finality, KeeperState, keeper_ask}
 use Rattle.law_commit.specs.Below.fkv_keeper.KeeperRun.{KeeperEvent, keeper_happens, keeper_run}
-use Rattle.law_commit.specs.Below.fkv_world.OwnEvents.{keeper_part_of}
-use Rattle.law_commit.specs.Below.fkv_world.Runs.{World, run}
+use Rattle.law_commit.specs.Below.fkv_world.Runs.{run}
 use Rattle.law_commit.specs.Below.fkv_world.World.{Event, Now}
 use Rattle.law_commit.specs.Below.law_refine.Events.GhostEvents.{life_ghosts, mapped}
 use Rattle.law_commit.specs.Below.law_refine.Seen.Floors.{GoesUpto, HaveFloorsUpto, TellsUpto, TriesUpto}

@@ -1,6 +1,6 @@
 -- No begin of the log and no end of a sweep lies above the flushed offset. At first each is where the log of the opened store begins. Later it is at or below
 -- the first address of a commit that was finished, whose end was flushed before it was written.
-use Rattle.std.proofs.Common.{◌≡◌, ◌⊎◌, inl, inr, ℕ, ◌≤◌, ◌∙◌, List, [], ◌∷◌, ◌++◌, refl, ap, sym, subst, arith, Bool, true, false}
+use Rattle.std.proofs.Common.{◌≡◌, ◌⊎◌, inl, inr, ℕ, ◌≤◌, List, [], ◌∷◌, refl, ap, sym, subst, arith, Bool, true, false}
 use Rattle.std.specs.Prelude.{Option, Some, None, if◌then◌else◌}
 use Rattle.fkv_base.specs.declared.numbers.Addr.{Addr}
 use Rattle.fkv_base.specs.declared.shapes.Shape.{Shape}
@@ -16,7 +16,7 @@ use Rattle.law_commit.specs.Below.fkv_keeper.SlotLaws.{HasBegin, HasMoved}
 use Rattle.law_commit.specs.Below.fkv_keeper.TheKeeping.{Keeping}
 use Rattle.law_commit.specs.Below.fkv_keeper.TheKeeping.TheVariants.{Ended, Finishes, Writes}
 use Rattle.law_commit.specs.Below.fkv_world.OwnEvents.{keeper_events}
-use Rattle.law_commit.specs.Below.fkv_world.Runs.{World, happens, run}
+use Rattle.law_commit.specs.Below.fkv_world.Runs.{happens, run}
 use Rattle.law_commit.specs.Below.fkv_world.World.{Event}
 use Rattle.law_commit.specs.Below.law_refine.Events.GhostEvents.{life_ghosts, safe_at}
 use Rattle.law_commit.specs.Below.law_world.Guarded.Shows.{seen_by_guard}

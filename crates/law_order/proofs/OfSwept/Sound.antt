@@ -1,26 +1,21 @@
 -- The keeper's sweep is sound beside the log of its life, event by event. So where the log comes to begin, it does without what lies below.
-use Rattle.std.proofs.Common.{◌≡◌, ◌⊎◌, inl, inr, ℕ, ◌≤◌, ◌<◌, ◌∙◌, List, [], ◌∷◌, ◌++◌, refl, ap, sym, subst, arith, Bool, true, false, eqb-true}
-use Rattle.std.specs.Prelude.{Option, Some, None, if◌then◌else◌}
+use Rattle.std.proofs.Common.{◌≡◌, inl, inr, ℕ, ◌≤◌, ◌<◌, ◌∙◌, List, [], ◌∷◌, refl, ap, sym, subst, arith, Bool, true, false, eqb-true}
+use Rattle.std.specs.Prelude.{Some, if◌then◌else◌}
 use Rattle.fkv_base.specs.declared.numbers.Addr.{Addr}
 use Rattle.fkv_base.specs.declared.shapes.Shape.{Shape}
 use Rattle.fkv_disk.specs.Bytes.{bytes_at}
-use Rattle.fkv_plane.specs.declared.asks.Ask.TheVariants.{Load}
-use Rattle.fkv_plane.specs.declared.places.Places.{Places}
-use Rattle.fkv_plane.specs.declared.places.SharedWord.TheVariants as one
-use Rattle.fkv_plane.specs.Asked.{reply_to, word_at}
-use Rattle.fkv_plane.specs.Places.{shared_place}
+use Rattle.fkv_plane.specs.Asked.{reply_to}
 use Rattle.fkv_sweep.proofs.Shown.{IsSweepSound, sweep_begun_sound, sweep_failed_sound, sweep_sound_loads, sweep_sound_swept, sweep_turn_sound}
 use Rattle.fkv_sweep.specs.declared.sweeping.Sweeping.{Sweeping}
 use Rattle.fkv_sweep.specs.declared.sweeping.Sweeping.TheVariants.{LoadsHead}
-use Rattle.fkv_sweep.specs.Sweeping.{Sweeper, piece_bytes, read_place, sweep_ask, sweep_begun, sweep_failed, sweep_next, sweep_read, sweeping_ask, turn_begun}
+use Rattle.fkv_sweep.specs.Sweeping.{Sweeper, piece_bytes, read_place, sweep_ask, sweep_begun, sweep_next, sweep_read, sweeping_ask}
 use Rattle.fkv_sweep.specs.SweptLogs.{SweptLog}
 use Rattle.law_commit.specs.Below.fkv_commit.Commit.{Commit}
 use Rattle.law_commit.specs.Below.fkv_flush.GuardLevels.{levels_of}
-use Rattle.law_commit.specs.Below.fkv_keeper.CheckpointLaws.{IsFinished, MayFollow, MayStep}
-use Rattle.law_commit.specs.Below.fkv_keeper.Keeping.{Finality, KeeperState, is_swept, keeper_ask, may_set, sweep_set}
+use Rattle.law_commit.specs.Below.fkv_keeper.CheckpointLaws.{MayStep}
+use Rattle.law_commit.specs.Below.fkv_keeper.Keeping.{KeeperState, is_swept, keeper_ask, may_set, sweep_set}
 use Rattle.law_commit.specs.Below.fkv_keeper.KeeperRun.{Calls, KeeperEvent, Replies, keeper_happens, keeper_run}
-use Rattle.law_commit.specs.Below.fkv_keeper.SlotLaws.{HasBegin, HasMoved}
-use Rattle.law_commit.specs.Below.fkv_keeper.SweepLaws.{IsSweepBegun, IsSweepLeft, IsSweepSet}
+use Rattle.law_commit.specs.Below.fkv_keeper.SlotLaws.{HasBegin}
 use Rattle.law_commit.specs.Below.fkv_keeper.TheKeeping.{Keeping}
 use Rattle.law_commit.specs.Below.fkv_keeper.TheKeeping.TheVariants.{Finishes, Sweeps}
 use Rattle.law_commit.specs.Below.fkv_world.OwnEvents.{keeper_events, keeper_part_of}
@@ -28,8 +23,8 @@ use Rattle.law_commit.specs.Below.fkv_world.Runs.{World, read_by_keeper, run}
 use Rattle.law_commit.specs.Below.fkv_world.World.{Event, Calls as CallsSession, Moves, Commits, Turns, KeeperMoves, Crashes, Now}
 use Rattle.law_commit.specs.Below.law_refine.Events.GhostEvents.{life_ghosts, mapped}
 use Rattle.law_commit.specs.Below.law_refine.Records.Changes.{AreChangesPublished}
-use Rattle.law_commit.proofs.Below.fkv_keeper.Shown.{IsOfStore, each_move, run_begins, run_of_store, sweep_moves}
-use Rattle.law_commit.proofs.Below.fkv_world.Shown.{happens_keeper, keeper_runs, keeper_runs_on, places_stay, shape_stays}
+use Rattle.law_commit.proofs.Below.fkv_keeper.Shown.{IsOfStore, each_move, run_of_store, sweep_moves}
+use Rattle.law_commit.proofs.Below.fkv_world.Shown.{happens_keeper, keeper_runs}
 use Rattle.law_commit.proofs.Below.law_refine.OfMail.GoneTold.{begin_above}
 use Rattle.law_commit.proofs.Below.law_refine.OfSeen.HeadStays.{KeepsHead, head_stays}
 use Rattle.law_commit.proofs.Below.law_world.OfKeeper.OwnRun.{keeper_begins}
@@ -46,7 +41,7 @@ use Rattle.law_order.proofs.OfSwept.Device.{device_seen, life_read_sound}
 use Rattle.law_order.proofs.OfSwept.Heads.{head_next, head_read}
 use Rattle.law_order.proofs.OfSwept.Knows.{KnowsWords, begun_knows, failed_knows, knows_then, read_knows, replied_knows}
 use Rattle.law_order.proofs.OfSwept.Life.{head_flushed, life_live_swept, life_sound}
-use Rattle.law_order.proofs.OfSwept.Low.{FirstBy, IsLow, flushed_is_fixed, flushed_on, life_first, life_low, move_to}
+use Rattle.law_order.proofs.OfSwept.Low.{IsLow, flushed_is_fixed, flushed_on, life_first, life_low, move_to}
 use Rattle.law_order.proofs.OfSwept.Moves.{IsRead, IsReplied, IsSet, ReadFails, Stays, SweepMove, TurnBegins, move_of}
 use Rattle.law_order.proofs.OfSwept.Replies.{reply_sound}
 use Rattle.law_order.proofs.OfSwept.Told.{IsSlotAsk, IsTold, event_parts, finishes_no_slot, sweeps_leave, sweeps_no_slot, sweeps_read, sweeps_reply}

@@ -1,14 +1,13 @@
 -- From the load of its first address on a commit is under way: first it starts, and then it is in hand. Meanwhile no sweep moves, and no commit is finished.
-use Rattle.std.proofs.Common.{◌≡◌, ◌⊎◌, ◌∙◌, inl, inr, ℕ, List, refl, ap, sym, subst, Bool, true, false}
-use Rattle.std.specs.Prelude.{⊤, ◌≤◌, nat_le, if◌then◌else◌, Option, Some, None}
+use Rattle.std.proofs.Common.{◌≡◌, ◌⊎◌, ◌∙◌, inl, inr, ℕ, refl, ap, sym, subst, Bool, true, false}
+use Rattle.std.specs.Prelude.{⊤, nat_le, if◌then◌else◌, Option, Some, None}
 use Rattle.fkv_base.specs.Limits.{last_of}
-use Rattle.fkv_base.specs.declared.commits.CommitKind.{CommitKind}
 use Rattle.fkv_base.specs.declared.numbers.Addr.{Addr}
 use Rattle.fkv_base.specs.declared.numbers.Version.{Version}
 use Rattle.fkv_base.specs.declared.phases.Phase.TheVariants as phase
 use Rattle.fkv_base.specs.declared.shapes.Shape.{Shape}
 use Rattle.fkv_plane.specs.declared.asks.Ask.{Ask}
-use Rattle.fkv_plane.specs.declared.asks.Ask.TheVariants.{Load, Store, Swap, Cas, Add, Max, Put, Take, Done}
+use Rattle.fkv_plane.specs.declared.asks.Ask.TheVariants.{Done}
 use Rattle.fkv_plane.specs.declared.places.Places.{Places}
 use Rattle.fkv_plane.specs.Passing.{passed}
 use Rattle.fkv_words.specs.declared.phase_words.PhaseSaid.{PhaseSaid}
@@ -16,19 +15,19 @@ use Rattle.fkv_words.specs.declared.phase_words.PhaseSaid.TheVariants.{Says}
 use Rattle.fkv_words.specs.PhaseWords.{phase_said}
 use Rattle.law_commit.specs.Below.fkv_commit.Commit.{Commit}
 use Rattle.law_commit.specs.Below.fkv_commit.DeferAnswer.{DeferAnswer}
-use Rattle.law_commit.specs.Below.fkv_commit.DeferAnswer.TheVariants.{Armed, Held, Spent}
+use Rattle.law_commit.specs.Below.fkv_commit.DeferAnswer.TheVariants.{Held, Spent}
 use Rattle.law_commit.specs.Below.fkv_commit.Deferring.{defer_ask, defer_next}
 use Rattle.law_commit.specs.Below.fkv_commit.StartAnswer.{StartAnswer}
 use Rattle.law_commit.specs.Below.fkv_commit.StartAnswer.TheVariants as start
 use Rattle.law_commit.specs.Below.fkv_commit.Starting.{StartState, is_lost_full, phase_found, seek_led, start_ask, start_next, starting_ask, starting_next}
 use Rattle.law_commit.specs.Below.fkv_commit.TheStarting.{Starting}
 use Rattle.law_commit.specs.Below.fkv_commit.TheStarting.TheVariants as starting
-use Rattle.law_commit.specs.Below.fkv_keeper.CheckpointLaws.{IsFinished, MayFollow, MayStep}
+use Rattle.law_commit.specs.Below.fkv_keeper.CheckpointLaws.{MayStep}
 use Rattle.law_commit.specs.Below.fkv_keeper.Keeping.{KeeperState, keeping_called, keeping_given, keeping_next, start_ledto}
 use Rattle.law_commit.specs.Below.fkv_keeper.KeeperTold.{KeeperTold}
-use Rattle.law_commit.specs.Below.fkv_keeper.KeeperRun.{BeginsCommit, BeginsTurn, Calls, Gets, KeeperEvent, Replies, begins, is_in_hand, keeper_happens}
+use Rattle.law_commit.specs.Below.fkv_keeper.KeeperRun.{BeginsCommit, BeginsTurn, Calls, Gets, KeeperEvent, Replies, keeper_happens}
 use Rattle.law_commit.specs.Below.fkv_keeper.SlotLaws.{HasBegin}
-use Rattle.law_commit.specs.Below.fkv_keeper.SweepLaws.{IsBeginAfter, IsBeginChosen, IsBeginKept}
+use Rattle.law_commit.specs.Below.fkv_keeper.SweepLaws.{IsBeginAfter}
 use Rattle.law_commit.specs.Below.fkv_keeper.TheKeeping.{Keeping}
 use Rattle.law_commit.specs.Below.fkv_keeper.TheKeeping.TheVariants.{Ended, Starts, Maintains, LoadsPhase, Enters, Copies, Seeks, Waits, Writes, Finishes, Sweeps}
 use Rattle.law_commit.proofs.Below.fkv_keeper.Shown.{begin_moves, each_move, sweep_moves}

@@ -16,8 +16,7 @@ use Rattle.fkv_sweep.specs.declared.sweeping.SweepAnswer.{SweepAnswer}
 use Rattle.fkv_sweep.specs.declared.sweeping.SweepAnswer.TheVariants as sweep
 use Rattle.fkv_sweep.specs.Swept.{IsLoadOrEnd}
 use Rattle.fkv_sweep.specs.Sweeping.{piece_bytes, read_place, sweep_ask}
-use Rattle.law_commit.specs.Below.fkv_commit.FinishAnswer.{FinishAnswer}
-use Rattle.law_commit.specs.Below.fkv_commit.Finishing.{FinishState, finish_ask, finishing_ask}
+use Rattle.law_commit.specs.Below.fkv_commit.Finishing.{finishing_ask}
 use Rattle.law_commit.specs.Below.fkv_commit.TheFinishing.{Finishing}
 use Rattle.law_commit.specs.Below.fkv_commit.TheFinishing.TheVariants as finishing
 use Rattle.law_commit.specs.Below.fkv_keeper.KeeperAsks.{keeping_read}

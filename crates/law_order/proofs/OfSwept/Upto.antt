@@ -1,8 +1,7 @@
 -- While a commit is under way the log does without what its begin leaves out, in the versions up to the commit's. For no record is of a later one as its first
 -- address is loaded.
-use Rattle.std.proofs.Common.{◌≡◌, ◌⊎◌, ◌∙◌, inl, inr, ℕ, ◌+◌, ◌≤◌, List, [], ◌∷◌, ◌++◌, refl, ap, sym, subst, arith, Bool, true, false}
+use Rattle.std.proofs.Common.{◌≡◌, ◌∙◌, inl, inr, ℕ, ◌+◌, ◌≤◌, List, [], ◌∷◌, ◌++◌, ap, sym, subst, arith, true, false}
 use Rattle.std.specs.Prelude.{Some, None}
-use Rattle.std.proofs.lemmas.Bool.{cases_lt}
 use Rattle.fkv_base.specs.declared.numbers.Addr.{Addr}
 use Rattle.fkv_base.specs.declared.numbers.Version.{Version}
 use Rattle.fkv_base.specs.declared.shapes.Shape.{Shape}
@@ -21,10 +20,10 @@ use Rattle.law_commit.specs.Below.fkv_keeper.KeeperTold.TheVariants.{CommitRefus
 use Rattle.law_commit.specs.Below.fkv_keeper.TheKeeping.{Keeping}
 use Rattle.law_commit.specs.Below.fkv_keeper.TheKeeping.TheVariants.{Starts}
 use Rattle.law_commit.specs.Below.fkv_world.OwnEvents.{keeper_events, keeper_part_of}
-use Rattle.law_commit.specs.Below.fkv_world.Runs.{World, run}
+use Rattle.law_commit.specs.Below.fkv_world.Runs.{run}
 use Rattle.law_commit.specs.Below.fkv_world.World.{Event, Now}
 use Rattle.law_commit.specs.Below.law_refine.Events.GhostEvents.{life_ghosts, mapped}
-use Rattle.law_commit.specs.Phases.Staged.{Stage, Prepares, StartAt, StartsIt, StepAt, stage_version}
+use Rattle.law_commit.specs.Phases.Staged.{Stage, Prepares, StartAt, StepAt, stage_version}
 use Rattle.law_commit.specs.Versions.Cells.{CellsUpto}
 use Rattle.law_commit.specs.Versions.Laws.{HasCellsUpto, version_now}
 use Rattle.law_commit.proofs.Below.fkv_keeper.Shown.{run_begins}
@@ -36,11 +35,9 @@ use Rattle.law_log.specs.Enabled.{AreEnabled}
 use Rattle.law_log.specs.Ghosts.{Log}
 use Rattle.law_order.specs.Apart.Lives.{OpensApart}
 use Rattle.law_order.specs.Known.Begins.{BegunLife, begin_in, home_of_world}
-use Rattle.law_order.specs.Swept.Logs.{swept_log}
 use Rattle.law_order.proofs.OfOneHistory.StaysLive.{life_stays, life_upto}
-use Rattle.law_order.proofs.OfSwept.Low.{flushed_is_fixed, life_low}
 use Rattle.law_order.proofs.OfSwept.Sound.{SweepsSo, sweep_live}
-use Rattle.law_order.proofs.OfSwept.Starts.{CameUnderWay, IsUnderWay, LoadsFirst, StaysThere, came_under_way}
+use Rattle.law_order.proofs.OfSwept.Starts.{CameUnderWay, IsUnderWay, LoadsFirst, came_under_way}
 use Rattle.law_order.proofs.OfSwept.Told.{IsSlotAsk, event_parts}
 
 -- The log does without what lies below the begin of the newest finished commit. So it does below the end of a sweep that is done and began there.

@@ -1,5 +1,5 @@
 -- By `law_paper`, of a checkpoint of this life or of the opening's.
-use Rattle.std.proofs.Common.{◌∙◌, ℕ, inl, inr, ap, sym, subst, arith, List}
+use Rattle.std.proofs.Common.{◌∙◌, ℕ, inl, inr, ap, arith, List}
 use Rattle.fkv_base.specs.declared.numbers.Addr.{Addr}
 use Rattle.fkv_record.specs.declared.triples.Triple.{Triple}
 use Rattle.law_log.specs.Ghosts.{Log}
