@@ -338,7 +338,7 @@ module _ {D : Type 0} (legal : InEachLife HasLegalHistory) (ordered : InEachLife
     later : List Event
     all : ArePlayedInLife seen may_leave Finished calls bytes o first life later before after text
     over : IsLifeOver seen may_leave bytes o first later after
-    unswept : IsUnswept bytes first life before → IsUnswept bytes first later after
+    stays : IsUnswept bytes first life before → IsUnswept bytes first later after
 
   one_alone : (its : ActorCall) (bytes : List ℕ) (o : Opened) (first : Now) (life : List Event) (before after : PlayerState D) (outcome : Outcome) (text : List ℕ) → IsLifeOver seen may_leave bytes o first life before → ItsNumbersFit its
       → HasFewCalls (begun_by its ∷ life) → is_struck_by outcome ≡ false → IsPlayedAlone engine Finished its before after outcome text → IsPlayed Finished its bytes o first life before after text
@@ -351,12 +351,12 @@ module _ {D : Type 0} (legal : InEachLife HasLegalHistory) (ordered : InEachLife
         later = life;
         all = (refl, all.0, all.2);
         over = subst (IsLifeOver seen may_leave bytes o first life) (sym all.0) over;
-        unswept = subst (IsUnswept bytes first life) (sym all.0);
+        stays = subst (IsUnswept bytes first life) (sym all.0);
       }
   all_alone (its ∷ []) bytes o first life before after outcome text over fit few calm all =
       let more = begun_counted its life in
       let one = one_alone its bytes o first life before after outcome text over fit.0 (omega (arith, few, more)) calm all in
-      record { later = one.later; all = (one.later, after, text, [], one.played, (refl, refl, refl), sym (append-nil text)); over = one.played.goes_on; unswept = one.played.unswept fit.1 }
+      record { later = one.later; all = (one.later, after, text, [], one.played, (refl, refl, refl), sym (append-nil text)); over = one.played.goes_on; stays = one.played.unswept fit.1 }
   all_alone (its ∷ next ∷ rest) bytes o first life before after outcome text over fit few calm all =
       let more = begun_counted its life in
       let one = one_alone its bytes o first life before all.0 Answered all.1 over fit.0 (omega (arith, few, more)) refl all.3 in
@@ -366,7 +366,7 @@ module _ {D : Type 0} (legal : InEachLife HasLegalHistory) (ordered : InEachLife
         later = others.later;
         all = (one.later, all.0, all.1, all.2, one.played, others.all, all.5);
         over = others.over;
-        unswept = λ swept. others.unswept (one.played.unswept fit.1 swept);
+        stays = λ swept. others.stays (one.played.unswept fit.1 swept);
       }
 
   rounds_in_life : (bytes : List ℕ) (o : Opened) (first : Now) (life : List Event) (before after : PlayerState D) (outcome : Outcome) (text : List ℕ)
@@ -376,7 +376,7 @@ module _ {D : Type 0} (legal : InEachLife HasLegalHistory) (ordered : InEachLife
       let calls : List ActorCall = rounds most_rounds (round_of before.seats) in
       let fewer = taken_few its.count calls in
       let all = all_alone (take its.count calls) bytes o first life before after outcome its.said over (fit_taken its.count calls (fit_rounds most_rounds (round_of before.seats) (fit_round before.seats))) (omega (arith, few, fewer)) calm its.calls in
-      record { count = its.count; later = all.later; said = its.said; played = all.all; behind = behind_rounds outcome; ends = ends_so outcome; says = its.says; goes_on = all.over; unswept = all.unswept }
+      record { count = its.count; later = all.later; said = its.said; played = all.all; behind = behind_rounds outcome; ends = ends_so outcome; says = its.says; goes_on = all.over; unswept = all.stays }
 
   nothing_in_life : (bytes : List ℕ) (o : Opened) (first : Now) (life : List Event) (before after : PlayerState D) (text : List ℕ)
       → IsLifeOver seen may_leave bytes o first life before → after ≡ before → text ≡ nothing_to_finish → IsFinishInLife seen may_leave bytes o first life before after text

@@ -1,5 +1,5 @@
 -- A life begins over a device that holds a store's image.
-use Rattle.std.proofs.Common.{◌≡◌, ◌∙◌, ℕ, zero, suc, List, [], ap, replicate, sym, subst}
+use Rattle.std.proofs.Common.{◌≡◌, ◌∙◌, ℕ, zero, suc, List, [], ap, false, replicate, sym, subst}
 use Rattle.std.specs.Prelude.{Bool, Some, slice_get}
 use Rattle.law_order.specs.Below.fkv_core.Openings.{IsOpeningWorld, beginning}
 use Rattle.fkv_disk.specs.Calls.{ReadsAs}
