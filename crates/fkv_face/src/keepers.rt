@@ -188,8 +188,8 @@ fn ask(keeper: &mut HeldKeeper, kind: u32) -> Result<Version, Fault>
     keeper.lent().ask_commit(kind)
 }
 
-/// Begins a commit, and tells its number: a full one where `kind` is 0, one behind which the log's front is swept where it is 2, and else a log commit. `Broken`,
-/// `CommitRunning`, also in the middle of a turn, `VersionsSpent`, `LostFull`, `EpochsSpent`, `DrainFull`.
+/// Begins a commit, and tells its number: a full one where `kind` is 0, one behind which the log's front is swept where it is 2, and else a log
+/// commit. `Broken`, `CommitRunning`, also in the middle of a turn, `VersionsSpent`, `LostFull`, `EpochsSpent`, `DrainFull`.
 #[unsafe(no_mangle)]
 pub extern "C" fn fkv_commit(keeper: &mut HeldKeeper, kind: u32, number: &mut u64) -> i32
     ensures { says.HasAsked ⟦<Posted<'static> as Device>⟧ kind keeper.old.value result number.old number.new keeper.new.value }

@@ -82,8 +82,8 @@ impl<D: Device + Drop> KeeperSeat<D> {
 
     /// Begins a turn, and carries it on up to its next call of the device, which isn't made, or to its end. So it ends with any of the turn's faults but
     /// `Device`. Where a call of the device is due nothing changes, and `Device` is answered again. While the writes of a commit rest, or a flush
-    /// does, a turn serves and does nothing else. If the caller lets what rests go on, writes go on behind that, and a flush in the next turn. With no commit in hand a sweep
-    /// goes on if the caller lets it, behind a commit of `ask_trim`.
+    /// does, a turn serves and does nothing else. If the caller lets what rests go on, writes go on behind that, and a flush in the next turn. With no
+    /// commit in hand a sweep goes on if the caller lets it, behind a commit of `ask_trim`.
     pub fn drive(&mut self, leave: Leave) -> TurnAsk
         ensures driven { said.IsDriven D.Device self.old result self.new }
     {
@@ -150,8 +150,8 @@ impl<D: Device + Drop> KeeperSeat<D> {
         answer
     }
 
-    /// The keys that the sweep's last turn has found wanted, 16 at most. The log's front can't be given up before somebody has written them anew, as by a merge of
-    /// the kind `Keep`. The next turn probes each again.
+    /// The keys that the sweep's last turn has found wanted, 16 at most. The log's front can't be given up before somebody has written them anew, as by a
+    /// merge of the kind `Keep`. The next turn probes each again.
     pub fn wanted(&self) -> &[Key]
         ensures { result.now ≡ self.now.machine.state.sweep.wanted }
     {

@@ -1,4 +1,5 @@
 -- Each kind of event leads where the rules of the world lead.
+use Rattle.std.specs.Prelude.{true, false}
 use Rattle.fkv_world.specs.World.{Now}
 use Rattle.fkv_core.specs.Worlds.{states_of}
 use Rattle.fkv_core.proofs.Answered.{lived}
