@@ -88,6 +88,7 @@ LINES = [
     ("0 put 1", "Word", f'"put" is unknown; this place takes {SESSION}'),
     ("k tur", "Word", '"tur" is unknown; this place takes commit, turn or finish'),
     ("k commit full", "Word", '"full" is unknown; this place takes log or nothing'),
+    ("k commit trim", "Word", '"trim" is unknown; this place takes log or nothing'),
     ("k", "Count", '"k" takes a verb, and has 0 words behind it'),
     ("0 up 1", "Count", '"up" takes two numbers, and has 1 word behind it'),
     ("0 poll 1 2", "Count", '"poll" takes no word, and has 2 words behind it'),
@@ -101,8 +102,10 @@ LINES = [
 # and of lines behind `large`
 LARGE_LINES = [
     ("0 put 1", "Word", f'"put" is unknown; this place takes {LARGE_SESSION}'),
+    ("k commit full", "Word", '"full" is unknown; this place takes log, trim or nothing'),
     ("0 min 1", "Count", '"min" takes two numbers, and has 1 word behind it'),
     ("0 keep 1 2", "Count", '"keep" takes one number, and has 2 words behind it'),
+    ("k commit trim 1", "Count", '"commit" takes log, trim or nothing, and has 2 words behind it'),
     (f"0 first 1 {2**64}", "Number", f'"{2**64}" is no number from 0 to {MOST}'),
 ]
 
