@@ -844,7 +844,7 @@ def shared_lives(program):
 
 # ---- Interleaved calls ----------------------------------------------------------------------------------------------------------------
 
-SEEDED = "4 16 8 4 3 0 128"
+SEEDED = "4 16 8 4 3 225 128"
 SEEDS = 8
 
 
@@ -852,7 +852,8 @@ def seeded_script(dice):
     """Parts of three sessions' calls, which are interleaved with the keeper's turns up to the next finish. No key has two calls in one part. With it what
     each session updates in each of two lives, by its serials."""
     lines, lives = [f"large {SEEDED}"], []
-    quiet = [it for _ in range(3) for it in (*(f"{n} {word}" for n in range(3) for word in ("refresh", "poll")), "k turn")]
+    # a finish without a commit does nothing, but calls on both sides of it aren't interleaved
+    quiet = [it for _ in range(4) for it in ("k turn", "k finish", *(f"{n} {word}" for n in range(3) for word in ("refresh", "poll")), "k finish")]
     for _ in range(2):
         updates = [[], [], []]
         for kind in (TRIM, None, None, TRIM, None, LOG, TRIM, None, FULL):
@@ -870,7 +871,7 @@ def seeded_script(dice):
             for n in range(3):
                 asked = iter([f"{n} {word} {key}" + f" {value}" * (value is not None) for word, key, value in updates[n][-6:]])
                 part = [next(asked) if re.match(rf"{n} (up|add|keep|del) ", line) else line for line in part]
-            lines += [*part, "k finish", *quiet, "k finish"]
+            lines += [*part, "k finish", *quiet]
         lives.append(updates)
         lines.append("crash")
     return lines, lives
