@@ -470,7 +470,60 @@ def trimmed_again(times):
     return store
 
 
+def deletes_alone():
+    """Of a log of deletes nothing is wanted, and nothing is left: the next commit's log begins at its end."""
+    store = Store()
+    for key in (1, 2, 3):
+        store.delete(key)
+    store.commit(TRIM)
+    store.turn()
+    for kind in (LOG, FULL):
+        store.commit(kind)
+        store.crash()
+    for key in (1, 2, 3):
+        store.get(key)
+    store.up(1, 10)
+    store.commit(LOG)
+    store.crash()
+    return store
+
+
+def keys_of_one_home():
+    """Keys of one home follow each other in one chain. Each is wanted by itself, as is the greatest key that there is."""
+    keys = (1, 1 + 2**19, 1 + 2**20, 2**64 - 1, 2**63)
+    store = written((1, 1 + 2**19, 1 + 2**20))
+    store.up(2**64 - 1, 2**64 - 2)
+    store.up(2**63, 0)
+    store.commit(TRIM)
+    store.turn()
+    for key in keys[1:]:
+        store.keep(key)
+        store.turn()
+    store.delete(1)
+    store.turn()
+    store.commit(LOG)
+    return store
+
+
+def failed_sweep():
+    """The device fails in a sweep's first read: nothing is lost that a commit has kept, and the next life sweeps anew."""
+    store = written((1, 2))
+    store.commit(TRIM)
+    store.say("fail 1")
+    store.say("k turn", "k refused 14 Device")
+    store.say("k turn", "k refused 13 Broken")
+    store.say("k commit trim", "k refused 13 Broken")
+    store.get(1)
+    store.crash()
+    store.commit(TRIM)
+    store.turn()
+    return store
+
+
 BY_HAND = {
+    "deletes alone": deletes_alone,
+    "keys of one home": keys_of_one_home,
+    "a device that fails in a sweep": failed_sweep,
     "a key that is written anew, or kept": passed_again,
     "two records of a key, and deletes": wanted_twice,
     "keys that are deleted behind a sweep's end": deleted_again,
@@ -603,6 +656,22 @@ def other_in_file(program, store):
     return None
 
 
+def other_behind_opening(program, store):
+    """What a life behind an opening leaves in the file otherwise. It can't trim, and its commits keep the begin."""
+    if "crash" in store.lines[: store.cuts[-1][0]] or store.keys[-1] not in store.cuts[-1][2][2]:
+        return None
+    count, begin, (number, _, pairs) = store.cuts[-1]
+    with tempfile.TemporaryDirectory() as folder:
+        ran(program, store.lines[:count], "--file", STORE, folder=folder)
+        lines = ["open", f"0 up {store.keys[-1]} 1", "k commit", "k finish", "k turn", f"0 up {store.keys[-1]} 2", "k commit log", "k finish"]
+        ran(program, lines, "--file", STORE, folder=folder)
+        image = contents(os.path.join(folder, STORE))
+    slot, found = slot_of(image, shape_of(image), newest(image)), find(image)
+    wanted = "".join(f" {key}={value}" for key, value in sorted({**pairs, store.keys[-1]: 2}.items()))
+    is_same = (slot.number, slot.begin, found[0].partition(", pairs")[2]) == (number + 2, begin, wanted)
+    return None if is_same else f"behind an opening the file holds {found}, and not begin {begin}, pairs{wanted}"
+
+
 DRAWN, FILED = 200, 8
 
 
@@ -614,7 +683,7 @@ def drawn_lives(program):
         moved += store.begin > 1
         done = ran(program, store.lines, "--check")
         other = first_other(done.stdout, whole(store.answers).encode()) if done.stdout != whole(store.answers).encode() else None
-        other = other or (other_in_file(program, store) if seed % FILED == 0 else None)
+        other = other or ((other_in_file(program, store) or other_behind_opening(program, store)) if seed % FILED == 0 and store.cuts else None)
         others += [f"a life with trims, drawn by {seed}: {other}"] if other else []
     others += [f"the begin moves in {moved} lives of {DRAWN}"] if moved < DRAWN // 5 else []
     return DRAWN, others
