@@ -1007,8 +1007,21 @@ def other_of_read(program, turns):
     return None if written[-CHAIN - 1 : -1] == pairs else f"a crash leaves {written[-CHAIN - 1 :]}"
 
 
+def other_of_kept_read(program):
+    """So a read waits for the home's last record, while the other session writes all its keys anew and the begin moves. Then it finds the new record."""
+    keys = [BEHIND * n for n in range(1, CHAIN + 1)]
+    lines = ["large 0 64 8 4 2 0 128", *(f"0 up {key} 1" for key in keys), "k commit", "k finish", "crash", "k commit trim", "k finish", f"0 get {BEHIND}"]
+    lines += [*(f"1 up {key} 2" for key in keys), "k turn", "k commit log", "k finish", *["k turn", "0 poll"] * CHAIN, "crash"]
+    written = ran(program, lines, "--check").stdout.decode().splitlines()
+    kept = f"k finished 3 points {CHAIN} {CHAIN}"
+    wanted = [f"0 get {BEHIND} pending @1", kept, f"0 @1 get {BEHIND} = 2", *(f"pair {key} 2" for key in keys)]
+    is_same = [line for line in written if line in wanted][-len(wanted) :] == wanted
+    return None if is_same else f"it writes {[line for line in written if ' #' not in line]}"
+
+
 def waiting_reads(program):
     others = [(turns, other_of_read(program, turns)) for turns in (0, 1, 5, 10)]
+    others += [("no", other_of_kept_read(program))]
     return len(others), [f"a read that waits for {turns} turns before the begin moves: {other}" for turns, other in others if other]
 
 
