@@ -13,7 +13,7 @@ from dataclasses import dataclass
 
 sys.path.append(os.path.join(os.path.dirname(os.path.abspath(__file__)), "..", "openings"))
 from crashes import AGREES, TORN
-from rows import SECONDS, STORE, Row, contents, first_other, told, whole
+from rows import SECONDS, STORE, Row, contents, first_other, whole
 from slow_opening import find, newest, shape_of, slot_of
 from threads import agree
 
