@@ -672,7 +672,7 @@ def other_behind_opening(program, store):
     return None if is_same else f"behind an opening the file holds {found}, and not begin {begin}, pairs{wanted}"
 
 
-DRAWN, FILED = 200, 8
+DRAWN, FILED = 96, 8
 
 
 def drawn_lives(program):
