@@ -1,5 +1,5 @@
-"""Stores whose log begins above address 1. No program moves a begin so far, so tools/openings makes their files: by hand (samples.py), and from lives whose
-begin moves (moving.py).
+"""Stores whose log begins above address 1. Scripts over a file that is opened move no begin, so tools/openings makes the files: by hand (samples.py), and from lives
+whose begin moves (moving.py).
 
 A life over such a file has to be answered what a plain map of its updates says. It has to wait for as many records as its log has on the key's way, and
 for none below the begin. Each slot that it writes has to say the begin. strace tells the calls of its file, so that a crash can be made at each of them."""

@@ -32,6 +32,7 @@ Lines of a script, the first of which makes or opens the store:
   N refresh, N poll         Sees how far the store has come; tries what is pending once more
   N sleep, N wake           Nobody waits for the session; it comes back
   k commit, k commit log    Begins a commit; one that copies no index
+  k commit trim             Behind large alone: a full one, behind which turns go over the log's front
   k turn, k finish          A turn of the keeper; turns up to a commit's end
   crash, crash J, fail J    Crashes and recovers; in the J-th call of the device; that call and all later ones fail
 
@@ -88,6 +89,7 @@ LINES = [
     ("0 put 1", "Word", f'"put" is unknown; this place takes {SESSION}'),
     ("k tur", "Word", '"tur" is unknown; this place takes commit, turn or finish'),
     ("k commit full", "Word", '"full" is unknown; this place takes log or nothing'),
+    ("k commit trim", "Word", '"trim" is unknown; this place takes log or nothing'),
     ("k", "Count", '"k" takes a verb, and has 0 words behind it'),
     ("0 up 1", "Count", '"up" takes two numbers, and has 1 word behind it'),
     ("0 poll 1 2", "Count", '"poll" takes no word, and has 2 words behind it'),
@@ -101,8 +103,10 @@ LINES = [
 # and of lines behind `large`
 LARGE_LINES = [
     ("0 put 1", "Word", f'"put" is unknown; this place takes {LARGE_SESSION}'),
+    ("k commit full", "Word", '"full" is unknown; this place takes log, trim or nothing'),
     ("0 min 1", "Count", '"min" takes two numbers, and has 1 word behind it'),
     ("0 keep 1 2", "Count", '"keep" takes one number, and has 2 words behind it'),
+    ("k commit trim 1", "Count", '"commit" takes log, trim or nothing, and has 2 words behind it'),
     (f"0 first 1 {2**64}", "Number", f'"{2**64}" is no number from 0 to {MOST}'),
 ]
 

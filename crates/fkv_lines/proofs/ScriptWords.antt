@@ -174,16 +174,18 @@ session_words opening session (verb ∷ words) said e =
     let n = bound (number_of session) (λ n. Ok (line.Call n its.0)) said its.2 in
     subst IsLineOfWords (ok_is (line.Call n.0 its.0) said n.2) (number_small session n.0 n.1, call_words opening verb words its.0 its.1)
 
-commit_words : (words : List (List ℕ)) (said : Line) → commit_line words ≡ Ok said → IsLineOfWords said
+commit_words : (opening : Opening) (words : List (List ℕ)) (said : Line) → commit_line opening words ≡ Ok said → IsLineOfWords said
 unfolding commit_line
-commit_words [] said e = subst IsLineOfWords (ok_is (line.Commit Full) said e) tt
-commit_words (kind ∷ words) said e = by_if (bytes_eq kind (codes "log")) _ _ said (alone_words IsLineOfWords words (line.Commit Log) said tt) (no_err fault.Word said) e
+commit_words opening [] said e = subst IsLineOfWords (ok_is (line.Commit Full) said e) tt
+commit_words opening (kind ∷ words) said e =
+    by_if (bytes_eq kind (codes "log")) _ _ said (alone_words IsLineOfWords words (line.Commit Log) said tt)
+    (by_if (bytes_eq kind (codes "trim") && opens_living opening) _ _ said (alone_words IsLineOfWords words line.Trim said tt) (no_err fault.Word said)) e
 
-keeper_words : (words : List (List ℕ)) (said : Line) → keeper_line words ≡ Ok said → IsLineOfWords said
+keeper_words : (opening : Opening) (words : List (List ℕ)) (said : Line) → keeper_line opening words ≡ Ok said → IsLineOfWords said
 unfolding keeper_line
-keeper_words [] said e = no_err fault.Count said e
-keeper_words (verb ∷ words) said e =
-    by_if (bytes_eq verb (codes "commit")) _ _ said (commit_words words said)
+keeper_words opening [] said e = no_err fault.Count said e
+keeper_words opening (verb ∷ words) said e =
+    by_if (bytes_eq verb (codes "commit")) _ _ said (commit_words opening words said)
     (by_if (bytes_eq verb (codes "turn")) _ _ said (alone_words IsLineOfWords words line.Turn said tt)
     (by_if (bytes_eq verb (codes "finish")) _ _ said (alone_words IsLineOfWords words line.Finish said tt) (no_err fault.Word said))) e
 
@@ -215,7 +217,7 @@ later_words mode opening (head ∷ words) said e =
     by_if (is_opening head) _ _ said (no_err fault.Order said)
     (by_if (bytes_eq head (codes "crash")) _ _ said (λ is. let crash = bound (crash_line words) (λ made. in_memory mode made) said is in memory_words mode crash.0 said (crash_words words crash.0 crash.1) crash.2)
     (by_if (bytes_eq head (codes "fail")) _ _ said (λ is. let fails = bound (fail_line words) (λ made. in_memory mode made) said is in memory_words mode fails.0 said (fail_words words fails.0 fails.1) fails.2)
-    (by_if (bytes_eq head (codes "k")) _ _ said (keeper_words words said)
+    (by_if (bytes_eq head (codes "k")) _ _ said (keeper_words opening words said)
     (by_if (is_ascii_digit (slice_index head 0)) _ _ said (session_words opening head words said) (no_err fault.Word said))))) e
 
 at_line_is : {A : Type 0} (number : ℕ) (r : Result A ScriptFault) (v : A) → at_line number r ≡ Ok v → r ≡ Ok v

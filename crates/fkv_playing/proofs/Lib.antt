@@ -1,4 +1,5 @@
 pub mod Shown
+mod Hearing
 pub mod Silence
 pub mod Comparing
 pub mod Putting

@@ -7,7 +7,7 @@ use Rattle.fkv_base.specs.declared.phases.Phase.{Phase}
 use Rattle.fkv_base.specs.declared.numbers.Version.{Version}
 use Rattle.fkv_keeper.specs.declared.answers.Finished.{Finished}
 use Rattle.fkv_keeper.specs.declared.answers.Turn.{Turn}
-use Rattle.fkv_texts.specs.Lines.{keeper_line, keys_text, phase_text, points_text}
+use Rattle.fkv_texts.specs.Lines.{keeper_line, keys_text, line_of, phase_text, points_text}
 use Rattle.fkv_texts.specs.Refusals.{keeper_refusal}
 
 -- `k commit 1`, or its refusal
@@ -35,9 +35,13 @@ abbrev pub wants_text : List Key → List ℕ
 wants_text [] = []
 wants_text wanted = codes " wants" ++ keys_text wanted
 
--- `k turn prepare 1`, with the phase and the version of the phase word after the turn
+-- `k turn prepare 1`, with the phase and the version of the phase word after the turn, and a full drain behind it
+abbrev pub turn_head : Phase → Version → Bool → List ℕ
+turn_head phase version drain_full = codes "k turn" ++ phase_text phase version ++ drain_text drain_full
+
+-- and behind those the keys that a sweep wants
 abbrev pub turn_line : Phase → Version → Bool → List Key → List ℕ
-turn_line phase version drain_full wanted = keeper_line (codes "turn" ++ phase_text phase version ++ drain_text drain_full ++ wants_text wanted)
+turn_line phase version drain_full wanted = line_of (turn_head phase version drain_full ++ wants_text wanted)
 
 -- the line of a turn, and behind it that of the commit that it has finished; or the refusal
 abbrev pub turn_text : Phase → Version → List Key → Result Turn Fault → List ℕ

@@ -1,7 +1,7 @@
 //! The lines of the keeper.
 ghost use Rattle.std.specs.Prelude.{OnOk};
 ghost use Rattle.std.specs.Io.KnownBytes.{Appends};
-ghost use Rattle.fkv_texts.specs.Keeper.{commit_text, finished_commit_text, turn_line, turn_text, wants_text, nothing_to_finish, not_finished};
+ghost use Rattle.fkv_texts.specs.Keeper.{commit_text, finished_commit_text, turn_head, turn_line, turn_text, wants_text, nothing_to_finish, not_finished};
 
 use crate::lines::{PhaseText, write_keys, write_points};
 use crate::refusals::write_keeper_refusal;
@@ -55,13 +55,20 @@ fn write_turn_line<W: Write>(
 ) -> io::Result<()>
     ensures { OnOk result (Appends (W.contents output.old) (W.contents output.new) (turn_line after.0 after.1 drain_full wanted.now)) }
 {
-    if drain_full {
-        write!(output, "k turn{after} drain full")?;
-    } else {
-        write!(output, "k turn{after}")?;
-    }
+    write_turn_head(output, after, drain_full)?;
     write_wants(output, wanted)?;
     writeln!(output)
+}
+
+/// `k turn prepare 1`, and ` drain full` behind it where a part was left to a later turn.
+fn write_turn_head<W: Write>(output: &mut W, after: PhaseText, drain_full: bool) -> io::Result<()>
+    ensures { OnOk result (Appends (W.contents output.old) (W.contents output.new) (turn_head after.0 after.1 drain_full)) }
+{
+    if drain_full {
+        write!(output, "k turn{after} drain full")
+    } else {
+        write!(output, "k turn{after}")
+    }
 }
 
 /// The keys that a sweep wants: ` wants 7 9`, and nothing where there are none.

@@ -48,7 +48,7 @@ impl<'a> LineFault<'a> {
             ScriptFault::Order if is_opening(head) => LineFault::SecondOpening(Quoted(head)),
             ScriptFault::Order => LineFault::NoOpening(Quoted(head)),
             ScriptFault::Word => unknown_word(script, line, head),
-            ScriptFault::Count => wrong_count(line, head),
+            ScriptFault::Count => wrong_count(script, line, head),
             ScriptFault::Number => no_number(line, head),
             ScriptFault::Mode if is_opening(head) => LineFault::NeedsFile(Quoted(head)),
             ScriptFault::Mode => LineFault::NeedsMemory(Quoted(head)),
@@ -92,8 +92,8 @@ fn is_session(head: &[u8]) -> bool {
     matches!(head, [b'0'..=b'9', ..])
 }
 
-/// Whether the script makes a living store: behind that line alone there are merges.
-fn takes_merges(script: &[u8]) -> bool {
+/// Whether the script makes a living store: behind that line alone there are merges and trims.
+fn opens_living(script: &[u8]) -> bool {
     for line in script.split(|byte| *byte == b'\n') {
         match word_at(line, 0) {
             b"" | [b'#', ..] => {}
@@ -105,10 +105,19 @@ fn takes_merges(script: &[u8]) -> bool {
 
 /// What a place takes behind a session's number.
 fn verbs(script: &[u8]) -> &'static str {
-    if takes_merges(script) {
+    if opens_living(script) {
         "up, del, add, max, get, keep, min, sub, and, or, first, refresh, poll, sleep or wake"
     } else {
         "up, del, add, max, get, refresh, poll, sleep or wake"
+    }
+}
+
+/// What `k commit` takes behind it.
+fn commits(script: &[u8]) -> &'static str {
+    if opens_living(script) {
+        "log, trim or nothing"
+    } else {
+        "log or nothing"
     }
 }
 
@@ -116,7 +125,7 @@ fn unknown_word<'a>(script: &'a [u8], line: &'a [u8], head: &'a [u8]) -> LineFau
     let verb = word_at(line, 1);
     let (word, known) = match (head, verb) {
         ([b'0'..=b'9', ..], _) => (verb, verbs(script)),
-        (b"k", b"commit") => (word_at(line, 2), "log or nothing"),
+        (b"k", b"commit") => (word_at(line, 2), commits(script)),
         (b"k", _) => (verb, "commit, turn or finish"),
         _ => (head, "a session's number, k, crash or fail"),
     };
@@ -124,7 +133,7 @@ fn unknown_word<'a>(script: &'a [u8], line: &'a [u8], head: &'a [u8]) -> LineFau
     LineFault::Unknown { word, known }
 }
 
-fn wrong_count<'a>(line: &'a [u8], head: &'a [u8]) -> LineFault<'a> {
+fn wrong_count<'a>(script: &'a [u8], line: &'a [u8], head: &'a [u8]) -> LineFault<'a> {
     // A session's number, or `k`, stands before the verb.
     let place = if is_session(head) || head == b"k".as_slice() {
         1
@@ -138,7 +147,7 @@ fn wrong_count<'a>(line: &'a [u8], head: &'a [u8]) -> LineFault<'a> {
         b"shape" | b"large" => "seven numbers",
         b"crash" => "the number of a call or nothing",
         b"fail" => "the number of a call",
-        b"commit" => "log or nothing",
+        b"commit" => commits(script),
         b"up" | b"add" | b"max" | b"min" | b"sub" | b"and" | b"or" | b"first" => "two numbers",
         b"del" | b"get" | b"keep" => "one number",
         _ => "no word",

@@ -29,6 +29,7 @@ Lines of a script, the first of which makes or opens the store:
   N refresh, N poll         Sees how far the store has come; tries what is pending once more
   N sleep, N wake           Nobody waits for the session; it comes back
   k commit, k commit log    Begins a commit; one that copies no index
+  k commit trim             Behind large alone: a full one, behind which turns go over the log's front
   k turn, k finish          A turn of the keeper; turns up to a commit's end
   crash, crash J, fail J    Crashes and recovers; in the J-th call of the device; that call and all later ones fail
 
