@@ -16,7 +16,7 @@ pub fn law_each_life<M: Crashes>()
     law_log_opened();
 }
 
-/// And a line by which a call of the device is to fail, or a crash to strike, leaves the life as it is, and whether turns sweep.
+/// And a line by which a call of the device is to fail, or a crash to strike, leaves the life as it is. Turns sweep as before.
 pub fn law_arming<D: Device>()
     ensures { said.ArmingGoesOn D.seen D.may_leave }
 {}

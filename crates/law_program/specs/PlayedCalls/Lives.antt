@@ -49,7 +49,7 @@ fuse_seen seen fuse = seen (fuse_device fuse)
 abbrev pub fuse_may_leave : {D : Type 0} → (D → List ℕ → Type 0) → Fuse D → List ℕ → Type 0
 fuse_may_leave may_leave fuse image = FuseLeaves (fuse_state fuse) (may_leave (fuse_device fuse)) image
 
--- A line by which a call of the device is to fail, or a crash to strike, leaves the life as it is, and whether turns sweep.
+-- A line by which a call of the device is to fail, or a crash to strike, leaves the life as it is. Turns sweep as before.
 abbrev pub ArmingGoesOn : {D : Type 0} → (D → List ℕ) → (D → List ℕ → Type 0) → Type 0
 ArmingGoesOn {D} seen may_leave =
     (count : ℕ) (waits : Waits) (bytes : List ℕ) (o : Opened) (first : Now) (life : List Event) (before after : PlayerState (Fuse D)) → IsArmed count waits before after
