@@ -17,7 +17,7 @@ use Rattle.fkv_map.specs.declared.operations.Call.TheVariants as call
 use Rattle.fkv_options.specs.declared.options.Options.{Options}
 use Rattle.fkv_playing.specs.InTurn.{Writes}
 use Rattle.fkv_playing.specs.declared.calls.ActorCall.{ActorCall}
-use Rattle.fkv_playing.specs.declared.calls.ActorCall.TheVariants.{Session, Commit, Turn}
+use Rattle.fkv_playing.specs.declared.calls.ActorCall.TheVariants.{Session, Commit, Trim, Turn}
 use Rattle.fkv_runs.specs.Pieces.{ArePieces, IsAlone, line_of, lines_of}
 use Rattle.fkv_runs.specs.declared.pieces.Piece.{Piece}
 use Rattle.fkv_runs.specs.declared.pieces.Piece.TheVariants.{Group, Finish, Crash, CrashAt, FailAt}
@@ -39,6 +39,7 @@ call_fits number asked its = tt
 pub fits_words : (one : ActorCall) → IsLineOfWords (line_of one) → ItsNumbersFit one
 fits_words (Session number asked) its = call_fits number asked its.1
 fits_words (Commit kind) its = tt
+fits_words Trim its = tt
 fits_words Turn its = tt
 
 plain_group : (items : List ActorCall) (behind : List Line) → length items ≡ 1 → All IsLineOfWords (map line_of items ++ behind) → ((one : ActorCall) × (items ≡ one ∷ []) × ItsNumbersFit one) × All IsLineOfWords behind
