@@ -133,6 +133,20 @@ fn unknown_word<'a>(script: &'a [u8], line: &'a [u8], head: &'a [u8]) -> LineFau
     LineFault::Unknown { word, known }
 }
 
+/// What a verb takes behind it.
+fn taken_by(script: &[u8], verb: &[u8]) -> &'static str {
+    match verb {
+        b"" => "a verb",
+        b"shape" | b"large" => "seven numbers",
+        b"crash" => "the number of a call or nothing",
+        b"fail" => "the number of a call",
+        b"commit" => commits(script),
+        b"up" | b"add" | b"max" | b"min" | b"sub" | b"and" | b"or" | b"first" => "two numbers",
+        b"del" | b"get" | b"keep" => "one number",
+        _ => "no word",
+    }
+}
+
 fn wrong_count<'a>(script: &'a [u8], line: &'a [u8], head: &'a [u8]) -> LineFault<'a> {
     // A session's number, or `k`, stands before the verb.
     let place = if is_session(head) || head == b"k".as_slice() {
@@ -142,16 +156,7 @@ fn wrong_count<'a>(script: &'a [u8], line: &'a [u8], head: &'a [u8]) -> LineFaul
     };
     let verb = word_at(line, place);
     let given = count_words(line).saturating_sub(place).saturating_sub(1);
-    let takes = match verb {
-        b"" => "a verb",
-        b"shape" | b"large" => "seven numbers",
-        b"crash" => "the number of a call or nothing",
-        b"fail" => "the number of a call",
-        b"commit" => commits(script),
-        b"up" | b"add" | b"max" | b"min" | b"sub" | b"and" | b"or" | b"first" => "two numbers",
-        b"del" | b"get" | b"keep" => "one number",
-        _ => "no word",
-    };
+    let takes = taken_by(script, verb);
     let word = Quoted(if verb.is_empty() { head } else { verb });
     LineFault::Count { word, takes, given }
 }
