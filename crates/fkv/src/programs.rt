@@ -26,9 +26,9 @@ use std::io::{Read, Write};
 ///
 /// In memory a life goes on by each line of a call too, by the keeper's and by each finish, and shows the device behind it (`each_line`). What a poll has
 /// finished is as the history says. A read gives a value that its key had since the read's call: in a life without a trim so far, the one at the call. Just
-/// the commits finish that turns tell as finished. Each life begins so, the first one and each behind a crash (`lives`). A line by which a call of the device is to fail, or a crash to strike, leaves it (`armed`). So the pieces of a script that are
-/// played in memory go on, each in the life in hand, or behind a crash in the next one (`runs`). A script for a new store in memory, of which no call is
-/// interleaved with another, has printed so (`in_lives`).
+/// the commits finish that turns tell as finished. Each life begins so, the first one and each behind a crash (`lives`). A line by which a call of the
+/// device is to fail, or a crash to strike, leaves it (`armed`). So the pieces of a script that are played in memory go on, each in the life in hand, or
+/// behind a crash in the next one (`runs`). A script for a new store in memory, of which no call is interleaved with another, has printed so (`in_lives`).
 ///
 /// The report of a crash is of the store that one current commit keeps of such a life, and no image of a crash is refused but by the device (`kept`).
 ///
