@@ -520,6 +520,32 @@ def failed_sweep():
     return store
 
 
+def row_of(name, steps):
+    """A row of lines, each with its answers."""
+    return Row(name, whole([line for line, _ in steps]), whole([it for _, answers in steps for it in answers]))
+
+
+def drain_full():
+    """Session 1 never refreshes, so what each turn defers stays in one of the eight drain slots. From the ninth on a turn has none, and says so before its wants."""
+    steps = [("large 6 4 64 1 2 0 128", ()), ("0 up 1 1", ["0 #1 done"]), ("0 up 2 2", ["0 #2 done"])]
+    steps += [(f"k {TRIM}", ["k commit 1"]), ("k finish", ["k finished 1 points 2 0"]), ("k turn", ["k turn rest 2 wants 1 2"])]
+    for turn in range(10):
+        steps += [(f"0 up {key} 1", [f"0 #{key} done"]) for key in range(4 * turn + 3, 4 * turn + 7)]
+        steps += [("k turn", [f"k turn rest 2{' drain full' * (turn >= 8)} wants 1 2"])]
+    return row_of("no drain slot is free in a sweep", steps)
+
+
+def resting_flush():
+    """The turn that writes a page rests before its sync, and sweeps nothing. So what was wanted before is told again, though it is kept."""
+    steps = [("large 8 64 4 1 1 0 64", ()), *((f"0 up {key} 1", [f"0 #{key} done"]) for key in range(1, 10))]
+    steps += [(f"k {TRIM}", ["k commit 1"]), ("k finish", ["k finished 1 points 9"]), ("k turn", ["k turn rest 2 wants 1 2 3 4 5 6 7 8 9"])]
+    steps += [(f"0 up {key} 1", [f"0 #{key} done"]) for key in range(10, 101)]
+    for key, first in ((1, 2), (2, 2), (3, 4)):
+        wants = " ".join(map(str, range(first, 10)))
+        steps += [(f"0 keep {key}", [f"0 #{100 + key} = 1"]), ("0 refresh", ["0 refresh rest 2"]), ("k turn", [f"k turn rest 2 wants {wants}"])]
+    return row_of("a flush that rests in a sweep", steps)
+
+
 BY_HAND = {
     "deletes alone": deletes_alone,
     "keys of one home": keys_of_one_home,
@@ -563,6 +589,8 @@ THREADED = ["large 4 16 4 2 2 0 64", *(f"{n % 2} up {n} {n}" for n in range(20))
 
 def trims():
     yield from (store().row(name) for name, store in BY_HAND.items())
+    yield drain_full()
+    yield resting_flush()
     yield from (Row(f"{lines[-1]}, {wanted}", whole(lines), f"script line {wanted}\n", 2, words) for lines, wanted, words in WORDS)
     lines = [it for line in THREADED for it in ((f"k {line}", "k finish") if line in KINDS else (line,))]
     for file in ((), ("--file", STORE)):
