@@ -264,22 +264,22 @@ module _ {D : Type 0} (seen : D → List ℕ) (medium : Medium D) (settings : Se
   abbrev NotesKept : Life → List Life → List HistoryEntry
   NotesKept its before = kept_of_all (points_of its) before
 
-  abbrev HasNoted : Life → List Life → ℕ → PlayerState D → PlayerState D → List QueueState → Type 0
-  HasNoted its before to_begin player after left = HasNotedOn seen medium.may_leave (NotesKept its before) its.bytes its.opened its.world its.events to_begin player after left
+  abbrev HasNoted : Life → List Life → ℕ → PlayerState D → PlayerState D → List QueueState → List QueueState → Type 0
+  HasNoted its before to_begin player after queues left = HasNotedOn seen medium.may_leave (NotesKept its before) its.bytes its.opened its.world its.events to_begin player after queues left
 
   group_gone : (its : Life) (lives : List Life) (before after : PlayerState D) (queues left : List QueueState) (struck : Bool) (text : List ℕ) → AreShown seen medium.may_leave settings.checks its lives before → QueuesFit queues → AreIdle queues
-      → IsGroup medium.engine (record { player = before; queues = queues }) (record { player = after; queues = left }) struck text → HasNoted its lives (left_in queues) before after left
+      → IsGroup medium.engine (record { player = before; queues = queues }) (record { player = after; queues = left }) struck text → HasNoted its lives (left_in queues) before after queues left
   group_gone its lives before after queues left struck text were fit idle group =
       laws.groups (NotesKept its lives) its.bytes its.opened its.world its.events before after queues left struck text were.shown were.noted.life fit idle group
 
   -- so the life that has gone on is shown
-  gone_shown : (its : Life) (lives : List Life) (to_begin : ℕ) (before after : PlayerState D) (left : List QueueState) → AreShown seen medium.may_leave settings.checks its lives before → (on : HasNoted its lives to_begin before after left)
+  gone_shown : (its : Life) (lives : List Life) (to_begin : ℕ) (before after : PlayerState D) (queues left : List QueueState) → AreShown seen medium.may_leave settings.checks its lives before → (on : HasNoted its lives to_begin before after queues left)
       → HasFewCalls on.gone.later → HasFewSeats after → AreShown seen medium.may_leave settings.checks (with_events its on.gone.later) lives after
-  gone_shown its lives to_begin before after left were on few seats =
+  gone_shown its lives to_begin before after queues left were on few seats =
       let gone = on.gone in on_with its gone.later lives before after were gone.shown few seats (noted_on settings.checks its gone.later lives before after were.noted on.keeps on.noted)
 
   module _ (calls : List ActorCall) (before : RunInLives D) (behind : RunState D) (over : Bool) (text : List ℕ) (were : AreNow before) (fit : AreFitting calls) (few : calls_in before.its.events + length calls < 2 ^ 64 - 1) (played : IsGroupPlayed medium settings calls before.run behind over text) where
-    on_so_far : HasNoted before.its before.before (left_in played.queues) before.run.player played.leg.player played.left
+    on_so_far : HasNoted before.its before.before (left_in played.queues) before.run.player played.leg.player played.queues played.left
     on_so_far = group_gone before.its before.before before.run.player played.leg.player played.queues played.left played.leg.struck played.leg.said were (laws.queues calls played.queues fit played.are_queues)
         (laws.idle calls played.queues played.are_queues) played.leg.part
 
@@ -298,7 +298,7 @@ module _ {D : Type 0} (seen : D → List ℕ) (medium : Medium D) (settings : Se
         (group_seats medium.engine (record { player = before.run.player; queues = played.queues }) (record { player = played.leg.player; queues = played.left }) played.leg.struck played.leg.said played.leg.part) were.seats
 
     are_so_far : AreShown seen medium.may_leave settings.checks struck_life before.before played.leg.player
-    are_so_far = gone_shown before.its before.before (left_in played.queues) before.run.player played.leg.player played.left were on_so_far few_gone seats_gone
+    are_so_far = gone_shown before.its before.before (left_in played.queues) before.run.player played.leg.player played.queues played.left were on_so_far few_gone seats_gone
 
     -- where no crash strikes its rest is played in the life in hand
     record Stayed : Type 0 where
@@ -390,7 +390,7 @@ module _ {D : Type 0} (seen : D → List ℕ) (medium : Medium D) (settings : Se
               };
               counted = λ goes. counted;
               agrees = λ goes. rest.2 ∙ (let report = on.report e in report.counted);
-              shown = λ goes. gone_shown on.next (last ∷ before.before) (left_in played.left) played.between.player behind.player rest.0 begins noted (omega (arith, counted, few))
+              shown = λ goes. gone_shown on.next (last ∷ before.before) (left_in played.left) played.between.player behind.player played.left rest.0 begins noted (omega (arith, counted, few))
                   (few_still played.between.player behind.player
                   (group_seats medium.engine (record { player = played.between.player; queues = played.left }) (record { player = behind.player; queues = rest.0 }) false played.rest rest.1) begins.seats);
             }
@@ -411,7 +411,7 @@ module _ {D : Type 0} (seen : D → List ℕ) (medium : Medium D) (settings : Se
       same : RunState D
       same = record { player = leg.player; agrees = before.run.agrees }
 
-      on_so_far : HasNoted before.its before.before (length (rounds most_rounds (round_of before.run.player.seats))) before.run.player leg.player []
+      on_so_far : HasNoted before.its before.before (length (rounds most_rounds (round_of before.run.player.seats))) before.run.player leg.player [] []
       on_so_far = laws.finishes (NotesKept before.its before.before) before.its.bytes before.its.opened before.its.world before.its.events before.run.player leg.player leg.part.0 leg.said were.shown were.noted.life leg.part.1
 
       later : List Event
@@ -427,7 +427,7 @@ module _ {D : Type 0} (seen : D → List ℕ) (medium : Medium D) (settings : Se
       seats = few_still before.run.player leg.player (finish_seats medium.engine (phase_shown before.run.player.world.now).0 before.run.player leg.player leg.part.0 leg.said leg.part.1) were.seats
 
       are_so_far : AreShown seen medium.may_leave settings.checks (with_events before.its later) before.before leg.player
-      are_so_far = gone_shown before.its before.before (length (rounds most_rounds (round_of before.run.player.seats))) before.run.player leg.player [] were on_so_far (omega (arith, counted, few)) seats
+      are_so_far = gone_shown before.its before.before (length (rounds most_rounds (round_of before.run.player.seats))) before.run.player leg.player [] [] were on_so_far (omega (arith, counted, few)) seats
 
       by_struck : (c : Bool) → leg.struck ≡ c → PieceOn Finish before behind over text
       by_struck false none =

@@ -139,7 +139,7 @@ module _ {D : Type 0} (seen : D → List ℕ) (may_leave : D → List ℕ → Ty
       crashed = subst (λ (x : Bool). IsCrashedWhere x medium settings (record before { player = played.leg.player }) played.between over played.leg.reported) struck played.leg.crashed
 
       -- the life goes on to the crash
-      gone : HasGoneOn seen may_leave its.bytes its.opened its.first its.events (left_in played.queues) played.leg.player played.left
+      gone : HasGoneOn seen may_leave its.bytes its.opened its.first its.events (left_in played.queues) before.player played.leg.player played.queues played.left
       gone =
           groups its.bytes its.opened its.first its.events before.player played.leg.player played.queues played.left true played.leg.said (still_shown its before.player shown)
           (fitting items played.queues (subst AreFitting (sym is) (fit, tt)) played.are_queues) part
