@@ -14,6 +14,8 @@ use Rattle.fkv_runs.specs.Below.fkv_playing.Queues.{AreQueuesOf, QueueState}
 use Rattle.fkv_runs.specs.Below.fkv_playing.ActorCall.{ActorCall}
 use Rattle.fkv_runs.specs.Below.fkv_playing.ActorCall.TheVariants.{Trim}
 use Rattle.fkv_runs.specs.Below.fkv_playing.Outcome.{Outcome}
+use Rattle.fkv_runs.specs.declared.pieces.Piece.{Piece}
+use Rattle.fkv_runs.specs.declared.pieces.Piece.TheVariants.{Group}
 use Rattle.law_order.specs.Below.fkv_world.Runs.{run}
 use Rattle.law_order.specs.Below.fkv_world.World.{Event, Now}
 use Rattle.law_order.specs.Served.Fits.{CallsFit}
@@ -58,6 +60,11 @@ QueuesFit queues = QueuesAre ItsNumbersFit queues
 -- it is no trim
 abbrev pub IsNoTrim : ActorCall → Type 0
 IsNoTrim its = its ≢ Trim
+
+-- nor is any of a piece
+abbrev pub HasNoTrim : Piece → Type 0
+HasNoTrim (Group calls) = AreAll IsNoTrim calls.items
+HasNoTrim other = ⊤
 
 -- The life has gone on from these events, and shows the player behind the beats. The calls that are left fit as well. No more have begun than those that stood
 -- to begin and are not left.

@@ -70,11 +70,12 @@ FinishesAreNoted {D} seen may_leave engine =
     → IsLifeShown seen may_leave bytes o first life before → IsNoted kept bytes first life before → IsFinish engine before after outcome text
     → HasNotedOn seen may_leave kept bytes o first life (length (rounds most_rounds (round_of before.seats))) before after [] []
 
--- a line that fails a device, or crashes it, changes nothing of it
+-- a line that fails a device, or crashes it, changes nothing of it, nor whether turns sweep
 pub record KeepsNotes {D : Type 0} (before after : PlayerState D) : Type 0 where
   pub now : after.world.now ≡ before.world.now
   pub history : after.history ≡ before.history
   pub keeps : after.keeps_history ≡ before.keeps_history
+  pub sweeps : after.sweeps ≡ before.sweeps
 
 abbrev pub ArmsKeepNotes : {D : Type 0} → (ℕ → Waits → PlayerState D → PlayerState D → Type 0) → Type 0
 ArmsKeepNotes {D} armed = (count : ℕ) (waits : Waits) (before after : PlayerState D) → armed count waits before after → KeepsNotes before after
