@@ -1,15 +1,14 @@
 -- Runs over all their lives, piece by piece.
 use Rattle.std.specs.FinMap.{empty}
+use Rattle.std.specs.Prelude.{⊤}
 use Rattle.std.proofs.Common.{◌≡◌, ◌∙◌, ◌≤◌, ◌<◌, ◌+◌, ◌-◌, ◌^◌, ◌++◌, ℕ, List, [], ◌∷◌, append_assoc, Bool, true, false, ap, arith, length, refl, sym, subst}
 use Rattle.fkv_base.specs.declared.faults.Fault.TheVariants as fault
 use Rattle.fkv_base.specs.declared.shapes.Shape.{Shape}
 use Rattle.law_order.specs.Below.fkv_core.Openings.{beginning}
 use Rattle.law_order.specs.Below.fkv_creating.Created.{IsCreated}
 use Rattle.fkv_disk.specs.Calls.{MayLeave, ReadsAs}
-use Rattle.fkv_disk.specs.Device.{IsAfter}
 use Rattle.fkv_disk.specs.Fuses.{fuse_device, fuse_state}
 use Rattle.fkv_disk.specs.Fuse.{FuseLeaves}
-use Rattle.fkv_disk.specs.declared.fuses.Fuse.{Fuse}
 use Rattle.fkv_disk.specs.declared.fuses.FuseState.{FuseState}
 use Rattle.fkv_runs.specs.Below.fkv_playing.Finishes.{most_rounds, round_of, rounds}
 use Rattle.fkv_map.specs.History.{content, kept}
@@ -18,15 +17,13 @@ use Rattle.law_order.specs.Below.fkv_opening.Opened.{IsStoreOf}
 use Rattle.law_order.specs.Below.fkv_opening.TheOpened.{Opened}
 use Rattle.law_order.specs.Below.fkv_pairs.Pairs.{log_of_store}
 use Rattle.fkv_runs.specs.Below.fkv_playing.Groups.{IsGroup}
-use Rattle.fkv_runs.specs.Below.fkv_playing.InTurn.{InTurn}
 use Rattle.fkv_runs.specs.Below.fkv_playing.Players.{IsArmed, PlayerState}
 use Rattle.fkv_runs.specs.Below.fkv_playing.Queues.{QueueState}
 use Rattle.fkv_runs.specs.Below.fkv_playing.Texts.{phase_shown}
 use Rattle.fkv_runs.specs.Below.fkv_playing.ActorCall.{ActorCall}
-use Rattle.fkv_runs.specs.Below.fkv_playing.Waits.{Waits}
 use Rattle.fkv_runs.specs.Crashes.{crash_text, kept_behind}
 use Rattle.fkv_runs.specs.Openings.{Medium}
-use Rattle.fkv_runs.specs.Runs.{IsCrashed, IsCrashedWhere, IsFinishStruck, IsGroupPlayed, IsLegOf, IsPiece, Prepares, RunState}
+use Rattle.fkv_runs.specs.Runs.{IsCrashed, IsCrashedWhere, IsGroupPlayed, IsPiece, RunState}
 use Rattle.fkv_runs.specs.declared.pieces.Piece.{Piece}
 use Rattle.fkv_runs.specs.declared.pieces.Piece.TheVariants.{Group, Finish, Crash, CrashAt, FailAt}
 use Rattle.fkv_runs.specs.declared.settings.Settings.{Settings}
@@ -38,10 +35,10 @@ use Rattle.law_order.specs.Below.law_opening.Log.Maps.{opening_map}
 use Rattle.law_order.specs.OneHistory.EachLife.{InEachLife, IsLife, Life}
 use Rattle.law_order.specs.Prefix.Law.{AreLives, BeginsBehind, BeginsWithKept, HoldsPrefix, LivesFollow, LivesReachFar, MayBeFound, RecoversPrefix, calls_so_far, first_of, kept_of_all, map_of, points_of}
 use Rattle.law_order.specs.Tickets.Few.{HasFewCalls, calls_in}
-use Rattle.law_program.specs.PlayedCalls.AllLives.{AreShown, ArePlayedOverLives, ArmsShown, CrashTaken, CrashesEndLives, EndsLife, EndsLifeWhere, IsPieceOverLives, NewStoresAreShown, PieceFits, PiecesFit, ReportsAllKept, ReportsOverLives, RunInLives, RunsOverLives, Shows, StaysInLife, crash_in, struck_in, with_events}
+use Rattle.law_program.specs.PlayedCalls.AllLives.{AreShown, ArmsShown, CrashTaken, CrashesEndLives, EndsLife, EndsLifeWhere, IsPieceOverLives, NewStoresAreShown, PieceFits, ReportsAllKept, ReportsOverLives, RunInLives, RunsOverLives, Shows, SweepsNone, crash_in, struck_in, with_events}
 use Rattle.law_program.specs.PlayedCalls.EachLine.{IsLifeOver}
 use Rattle.law_program.specs.PlayedCalls.FewCalls.{ArmsKeepSeats, HasFewSeats, begun_in, left_in, most_of_finish}
-use Rattle.law_program.specs.PlayedCalls.Interleaved.{AreFitting, FittingCallsMakeQueues, QueuesFit, QuietLivesAreShown}
+use Rattle.law_program.specs.PlayedCalls.Interleaved.{AreAll, AreFitting, FittingCallsMakeQueues, HasNoTrim, IsNoTrim, QueuesAre, QueuesFit, QuietLivesAreShown}
 use Rattle.law_program.specs.PlayedCalls.Noted.{AreIdle, AreNoted, ArmsKeepNotes, CallsMakeIdleQueues, FinishesAreNoted, GroupsAreNoted, HasNotedOn}
 use Rattle.law_program.proofs.OfPlayedCalls.Checked.{agrees, kept_so, noted_armed, noted_first, noted_next, noted_on, still_agrees}
 use Rattle.law_program.specs.PlayedCalls.Lives.{LivesBegin, fuse_may_leave, fuse_seen}
@@ -49,6 +46,7 @@ use Rattle.law_program.proofs.OfPlayedCalls.CrashReports.{only_device}
 use Rattle.law_program.proofs.OfPlayedCalls.FewCalls.{calls_grow, finish_counted, queues_counted}
 use Rattle.law_order.proofs.OfPrefix.Forgotten.{as_left}
 use Rattle.law_program.proofs.OfPlayedCalls.FewSeats.{begin_seats, few_still, finish_seats, group_seats}
+use Rattle.law_program.proofs.OfPlayedCalls.Interleaved.{queues_all}
 use Rattle.law_program.proofs.OfPlayedCalls.Lives.{armed_leaves}
 use Rattle.law_program.proofs.OfPlayedCalls.NewStores.{PairsAreMap}
 use Rattle.law_program.proofs.OfPlayedCalls.Runs.{both_ways}
@@ -78,8 +76,8 @@ pub record ByLaws {D : Type 0} (seen : D → List ℕ) (medium : Medium D) : Typ
 
 module _ {D : Type 0} (seen : D → List ℕ) (medium : Medium D) (settings : Settings) (laws : ByLaws seen medium) where
   -- ---- a crash
-  abbrev Ends : RunInLives D → RunInLives D → Bool → CrashTaken D → Type 0
-  Ends before after over crash = EndsLife seen medium.may_leave medium settings before after over crash
+  abbrev Ends : Type 0 → RunInLives D → RunInLives D → Bool → CrashTaken D → Type 0
+  Ends NoTrim before after over crash = EndsLife seen medium.may_leave medium settings NoTrim before after over crash
 
   life_of : (its : Life) (player : PlayerState D) → Shows seen medium.may_leave its player → HasFewCalls its.events → IsLife its
   life_of its player shown few = record { store = shown.store; begins = shown.opening; fits = shown.fits; few = few }
@@ -110,6 +108,7 @@ module _ {D : Type 0} (seen : D → List ℕ) (medium : Medium D) (settings : Se
     report : over ≡ false → ReportsAllKept seen medium.may_leave medium settings last before next crash
     refusal : over ≡ true → crash.report ≡ last_refusal fault.Device
     begun : over ≡ false → calls_in next.events ≡ 0
+    unswept : over ≡ false → (let behind = crash.behind in SweepsNone next behind.player)
     shown : over ≡ false → AreShown seen medium.may_leave settings.checks next (last ∷ before) crash.behind.player
 
   crash_on : (last : Life) (before : List Life) (struck behind : RunState D) (over : Bool) (text : List ℕ) → AreShown seen medium.may_leave settings.checks last before struck.player → IsCrashed medium settings struck behind over text
@@ -128,6 +127,7 @@ module _ {D : Type 0} (seen : D → List ℕ) (medium : Medium D) (settings : Se
         report = λ goes. both_ways over goes e;
         refusal = λ stops. let its = crashed.refusal stops in only_device image text its.0 holds.faultless its.1 its.2 its.3;
         begun = λ goes. both_ways over goes e;
+        unswept = λ goes. both_ways over goes e;
         shown = λ goes. both_ways over goes e;
       }
       by_over false e =
@@ -168,6 +168,7 @@ module _ {D : Type 0} (seen : D → List ℕ) (medium : Medium D) (settings : Se
                 };
             refusal = λ stops. both_ways over e stops;
             begun = λ goes. refl;
+            unswept = λ goes. (tt, over_it.begins refl);
             shown = λ goes. record {
               shown = quiet.0;
               few = quiet.1;
@@ -205,47 +206,51 @@ module _ {D : Type 0} (seen : D → List ℕ) (medium : Medium D) (settings : Se
   abbrev GrowsTo : RunInLives D → List Event → Type 0
   GrowsTo before events = (since : List Event) × (events ≡ since ++ before.its.events)
 
+  -- where no call is a trim it stays unswept
+  abbrev StaysUnswept : Type 0 → RunInLives D → List Event → PlayerState D → Type 0
+  StaysUnswept NoTrim before events player = NoTrim → (let run = before.run in SweepsNone before.its run.player) → SweepsNone (with_events before.its events) player
+
   stays : (piece : Piece) (before : RunInLives D) (behind : RunState D) (over : Bool) (text : List ℕ) (played : IsPiece medium settings piece before.run behind over text) → AreNow before
       → struck_in seen medium.may_leave medium settings piece before.run behind over text played ≡ false → (events : List Event) → GrowsTo before events → Shows seen medium.may_leave (with_events before.its events) behind.player
-      → calls_in events ≤ calls_in before.its.events + begun_in piece → HasFewBy piece before → HasFewSeats behind.player → NotesAll (with_events before.its events) before.before behind.player → behind.agrees ≡ before.run.agrees → PieceOn piece before behind over text
-  stays piece before behind over text played were none events grows shown counted few seats noted agree =
+      → StaysUnswept (HasNoTrim piece) before events behind.player → calls_in events ≤ calls_in before.its.events + begun_in piece → HasFewBy piece before → HasFewSeats behind.player → NotesAll (with_events before.its events) before.before behind.player → behind.agrees ≡ before.run.agrees → PieceOn piece before behind over text
+  stays piece before behind over text played were none events grows shown unswept counted few seats noted agree =
       let after : RunInLives D = record { its = with_events before.its events; before = before.before; run = behind } in
       record {
         its = with_events before.its events;
         lives = before.before;
         says = (
           played,
-          subst (λ (x : Bool). EndsLifeWhere seen medium.may_leave medium settings x before after over (crash_in seen medium.may_leave medium settings piece before.run behind over text played)) (sym none)
-              (record { events = events; since = grows.0; grown = grows.1; same = refl; lives = refl; shown = shown }),
+          subst (λ (x : Bool). EndsLifeWhere seen medium.may_leave medium settings x (HasNoTrim piece) before after over (crash_in seen medium.may_leave medium settings piece before.run behind over text played)) (sym none)
+              (record { events = events; since = grows.0; grown = grows.1; same = refl; lives = refl; shown = shown; unswept = unswept }),
         );
         counted = λ goes. counted;
         agrees = λ goes. agree;
         shown = λ goes. on_with before.its events before.before before.run.player behind.player were shown (omega (arith, counted, few)) seats noted;
       }
 
-  record Ended (before : RunInLives D) (behind : RunState D) (over : Bool) (crash : CrashTaken D) (begun : ℕ) : Type 0 where
+  record Ended (NoTrim : Type 0) (before : RunInLives D) (behind : RunState D) (over : Bool) (crash : CrashTaken D) (begun : ℕ) : Type 0 where
     its : Life
     lives : List Life
     agrees : over ≡ false → behind.agrees ≡ (let struck = crash.struck in struck.agrees)
-    ends : Ends before (record { its = its; before = lives; run = behind }) over crash
+    ends : Ends NoTrim before (record { its = its; before = lives; run = behind }) over crash
     counted : over ≡ false → calls_in its.events ≤ begun
     shown : over ≡ false → AreShown seen medium.may_leave settings.checks its lives behind.player
 
-  ended : (before : RunInLives D) (events : List Event) (struck behind : RunState D) (over : Bool) (text : List ℕ) → AreNow before → GrowsTo before events → Shows seen medium.may_leave (with_events before.its events) struck.player
-      → HasFewCalls events → HasFewSeats struck.player → NotesAll (with_events before.its events) before.before struck.player → IsCrashed medium settings struck behind over text → Ended before behind over (record { struck = struck; behind = behind; report = text }) 0
-  ended before events struck behind over text were grows shown few seats noted crashed =
+  ended : (NoTrim : Type 0) (before : RunInLives D) (events : List Event) (struck behind : RunState D) (over : Bool) (text : List ℕ) → AreNow before → GrowsTo before events → Shows seen medium.may_leave (with_events before.its events) struck.player
+      → StaysUnswept NoTrim before events struck.player → HasFewCalls events → HasFewSeats struck.player → NotesAll (with_events before.its events) before.before struck.player → IsCrashed medium settings struck behind over text → Ended NoTrim before behind over (record { struck = struck; behind = behind; report = text }) 0
+  ended NoTrim before events struck behind over text were grows shown unswept few seats noted crashed =
       let on = crash_on (with_events before.its events) before.before struck behind over text (on_with before.its events before.before before.run.player struck.player were shown few seats noted) crashed in
       record {
         its = on.next;
         lives = with_events before.its events ∷ before.before;
-        ends = record { events = events; since = grows.0; grown = grows.1; shown = shown; report = on.report; refusal = on.refusal; lives = λ goes. refl };
+        ends = record { events = events; since = grows.0; grown = grows.1; shown = shown; unswept = unswept; next_unswept = λ goes none. on.unswept goes; report = on.report; refusal = on.refusal; lives = λ goes. refl };
         counted = λ goes. let none = on.begun goes in omega (arith, none);
         agrees = λ goes. let report = on.report goes in report.counted;
         shown = on.shown;
       }
 
   of_ended : (piece : Piece) (before : RunInLives D) (behind : RunState D) (over : Bool) (text : List ℕ) (begun : ℕ) (played : IsPiece medium settings piece before.run behind over text)
-      → struck_in seen medium.may_leave medium settings piece before.run behind over text played ≡ true → Ended before behind over (crash_in seen medium.may_leave medium settings piece before.run behind over text played) begun
+      → struck_in seen medium.may_leave medium settings piece before.run behind over text played ≡ true → Ended (HasNoTrim piece) before behind over (crash_in seen medium.may_leave medium settings piece before.run behind over text played) begun
       → begun ≤ calls_in before.its.events + begun_in piece
       → (let crash = crash_in seen medium.may_leave medium settings piece before.run behind over text played in let was = crash.struck in was.agrees ≡ before.run.agrees) → PieceOn piece before behind over text
   of_ended piece before behind over text begun played struck end few same =
@@ -254,7 +259,7 @@ module _ {D : Type 0} (seen : D → List ℕ) (medium : Medium D) (settings : Se
         its = end.its;
         lives = end.lives;
         says =
-            (played, subst (λ (x : Bool). EndsLifeWhere seen medium.may_leave medium settings x before after over (crash_in seen medium.may_leave medium settings piece before.run behind over text played)) (sym struck) end.ends);
+            (played, subst (λ (x : Bool). EndsLifeWhere seen medium.may_leave medium settings x (HasNoTrim piece) before after over (crash_in seen medium.may_leave medium settings piece before.run behind over text played)) (sym struck) end.ends);
         counted = λ goes. let counted = end.counted goes in omega (arith, counted, few);
         agrees = λ goes. end.agrees goes ∙ same;
         shown = end.shown;
@@ -264,22 +269,22 @@ module _ {D : Type 0} (seen : D → List ℕ) (medium : Medium D) (settings : Se
   abbrev NotesKept : Life → List Life → List HistoryEntry
   NotesKept its before = kept_of_all (points_of its) before
 
-  abbrev HasNoted : Life → List Life → ℕ → PlayerState D → PlayerState D → List QueueState → Type 0
-  HasNoted its before to_begin player after left = HasNotedOn seen medium.may_leave (NotesKept its before) its.bytes its.opened its.world its.events to_begin player after left
+  abbrev HasNoted : Life → List Life → ℕ → PlayerState D → PlayerState D → List QueueState → List QueueState → Type 0
+  HasNoted its before to_begin player after queues left = HasNotedOn seen medium.may_leave (NotesKept its before) its.bytes its.opened its.world its.events to_begin player after queues left
 
   group_gone : (its : Life) (lives : List Life) (before after : PlayerState D) (queues left : List QueueState) (struck : Bool) (text : List ℕ) → AreShown seen medium.may_leave settings.checks its lives before → QueuesFit queues → AreIdle queues
-      → IsGroup medium.engine (record { player = before; queues = queues }) (record { player = after; queues = left }) struck text → HasNoted its lives (left_in queues) before after left
+      → IsGroup medium.engine (record { player = before; queues = queues }) (record { player = after; queues = left }) struck text → HasNoted its lives (left_in queues) before after queues left
   group_gone its lives before after queues left struck text were fit idle group =
       laws.groups (NotesKept its lives) its.bytes its.opened its.world its.events before after queues left struck text were.shown were.noted.life fit idle group
 
   -- so the life that has gone on is shown
-  gone_shown : (its : Life) (lives : List Life) (to_begin : ℕ) (before after : PlayerState D) (left : List QueueState) → AreShown seen medium.may_leave settings.checks its lives before → (on : HasNoted its lives to_begin before after left)
+  gone_shown : (its : Life) (lives : List Life) (to_begin : ℕ) (before after : PlayerState D) (queues left : List QueueState) → AreShown seen medium.may_leave settings.checks its lives before → (on : HasNoted its lives to_begin before after queues left)
       → HasFewCalls on.gone.later → HasFewSeats after → AreShown seen medium.may_leave settings.checks (with_events its on.gone.later) lives after
-  gone_shown its lives to_begin before after left were on few seats =
+  gone_shown its lives to_begin before after queues left were on few seats =
       let gone = on.gone in on_with its gone.later lives before after were gone.shown few seats (noted_on settings.checks its gone.later lives before after were.noted on.keeps on.noted)
 
   module _ (calls : List ActorCall) (before : RunInLives D) (behind : RunState D) (over : Bool) (text : List ℕ) (were : AreNow before) (fit : AreFitting calls) (few : calls_in before.its.events + length calls < 2 ^ 64 - 1) (played : IsGroupPlayed medium settings calls before.run behind over text) where
-    on_so_far : HasNoted before.its before.before (left_in played.queues) before.run.player played.leg.player played.left
+    on_so_far : HasNoted before.its before.before (left_in played.queues) before.run.player played.leg.player played.queues played.left
     on_so_far = group_gone before.its before.before before.run.player played.leg.player played.queues played.left played.leg.struck played.leg.said were (laws.queues calls played.queues fit played.are_queues)
         (laws.idle calls played.queues played.are_queues) played.leg.part
 
@@ -292,19 +297,26 @@ module _ {D : Type 0} (seen : D → List ℕ) (medium : Medium D) (settings : Se
     few_gone : HasFewCalls struck_life.events
     few_gone = let gone = on_so_far.gone in let counted = gone.counted in let most = begun in omega (arith, counted, most, few)
 
+    no_trims : AreAll IsNoTrim calls → QueuesAre IsNoTrim played.queues
+    no_trims none = queues_all IsNoTrim calls played.queues none played.are_queues
+
+    unswept_gone : AreAll IsNoTrim calls → SweepsNone before.its before.run.player → SweepsNone struck_life played.leg.player
+    unswept_gone none = let gone = on_so_far.gone in gone.unswept (no_trims none)
+
     seats_gone : HasFewSeats played.leg.player
     seats_gone =
         few_still before.run.player played.leg.player
         (group_seats medium.engine (record { player = before.run.player; queues = played.queues }) (record { player = played.leg.player; queues = played.left }) played.leg.struck played.leg.said played.leg.part) were.seats
 
     are_so_far : AreShown seen medium.may_leave settings.checks struck_life before.before played.leg.player
-    are_so_far = gone_shown before.its before.before (left_in played.queues) before.run.player played.leg.player played.left were on_so_far few_gone seats_gone
+    are_so_far = gone_shown before.its before.before (left_in played.queues) before.run.player played.leg.player played.queues played.left were on_so_far few_gone seats_gone
 
     -- where no crash strikes its rest is played in the life in hand
     record Stayed : Type 0 where
       events : List Event
       grows : GrowsTo before events
       shown : Shows seen medium.may_leave (with_events before.its events) behind.player
+      unswept : StaysUnswept (AreAll IsNoTrim calls) before events behind.player
       counted : calls_in events ≤ calls_in before.its.events + length calls
       seats : HasFewSeats behind.player
       noted : NotesAll (with_events before.its events) before.before behind.player
@@ -327,6 +339,7 @@ module _ {D : Type 0} (seen : D → List ℕ) (medium : Medium D) (settings : Se
           events = on.later;
           grows = (on.since ++ gone.since, on.grown ∙ ap (λ (xs : List Event). on.since ++ xs) gone.grown ∙ sym (append_assoc on.since gone.since before.its.events));
           shown = on.shown;
+          unswept = λ none was. on.unswept (gone.no_trims (no_trims none)) (subst (λ (x : RunState D). SweepsNone struck_life x.player) (sym calm.0) (unswept_gone none was));
           counted = omega (arith, first_part, rest_part, most);
           seats =
               few_still played.between.player behind.player
@@ -340,7 +353,7 @@ module _ {D : Type 0} (seen : D → List ℕ) (medium : Medium D) (settings : Se
     abbrev its_crash : CrashTaken D
     its_crash = record { struck = record { player = played.leg.player; agrees = before.run.agrees }; behind = played.between; report = played.leg.reported }
 
-    group_ends : played.leg.struck ≡ true → Ended before behind over its_crash (length calls)
+    group_ends : played.leg.struck ≡ true → Ended (AreAll IsNoTrim calls) before behind over its_crash (length calls)
     group_ends struck = by_over over refl
       where
         same : RunState D
@@ -355,11 +368,11 @@ module _ {D : Type 0} (seen : D → List ℕ) (medium : Medium D) (settings : Se
         on : CrashOn last before.before its_crash over
         on = crash_on last before.before same played.between over played.leg.reported are_so_far crashed
 
-        by_over : (c : Bool) → over ≡ c → Ended before behind over its_crash (length calls)
+        by_over : (c : Bool) → over ≡ c → Ended (AreAll IsNoTrim calls) before behind over its_crash (length calls)
         by_over true e = record {
           its = on.next;
           lives = last ∷ before.before;
-          ends = (let gone = on_so_far.gone in record { events = gone.later; since = gone.since; grown = gone.grown; shown = gone.shown; report = on.report; refusal = on.refusal; lives = λ goes. refl });
+          ends = (let gone = on_so_far.gone in record { events = gone.later; since = gone.since; grown = gone.grown; shown = gone.shown; unswept = unswept_gone; next_unswept = λ goes. both_ways over goes e; report = on.report; refusal = on.refusal; lives = λ goes. refl });
           counted = λ goes. both_ways over goes e;
           agrees = λ goes. both_ways over goes e;
           shown = λ goes. both_ways over goes e;
@@ -384,13 +397,15 @@ module _ {D : Type 0} (seen : D → List ℕ) (medium : Medium D) (settings : Se
                 since = gone.since;
                 grown = gone.grown;
                 shown = gone.shown;
+                unswept = unswept_gone;
+                next_unswept = λ goes none. later.unswept (gone.no_trims (no_trims none)) (on.unswept e);
                 report = λ goes. kept_on last before.before on.next its_crash later.later (on.report goes);
                 refusal = on.refusal;
                 lives = λ goes. refl;
               };
               counted = λ goes. counted;
               agrees = λ goes. rest.2 ∙ (let report = on.report e in report.counted);
-              shown = λ goes. gone_shown on.next (last ∷ before.before) (left_in played.left) played.between.player behind.player rest.0 begins noted (omega (arith, counted, few))
+              shown = λ goes. gone_shown on.next (last ∷ before.before) (left_in played.left) played.between.player behind.player played.left rest.0 begins noted (omega (arith, counted, few))
                   (few_still played.between.player behind.player
                   (group_seats medium.engine (record { player = played.between.player; queues = played.left }) (record { player = behind.player; queues = rest.0 }) false played.rest rest.1) begins.seats);
             }
@@ -403,7 +418,7 @@ module _ {D : Type 0} (seen : D → List ℕ) (medium : Medium D) (settings : Se
       by_struck : (c : Bool) → played.leg.struck ≡ c → PieceOn (Group calls) before behind over text
       by_struck false none =
           let on = group_stays calls.items before behind over text were fit few played none in
-          stays (Group calls) before behind over text played were none on.events on.grows on.shown on.counted few on.seats on.noted on.agrees
+          stays (Group calls) before behind over text played were none on.events on.grows on.shown on.unswept on.counted few on.seats on.noted on.agrees
       by_struck true struck =
           of_ended (Group calls) before behind over text (length calls.items) played struck (group_ends calls.items before behind over text were fit few played struck) (omega arith) refl
   piece_on Finish before behind over text were fit few leg = by_struck leg.struck refl
@@ -411,7 +426,7 @@ module _ {D : Type 0} (seen : D → List ℕ) (medium : Medium D) (settings : Se
       same : RunState D
       same = record { player = leg.player; agrees = before.run.agrees }
 
-      on_so_far : HasNoted before.its before.before (length (rounds most_rounds (round_of before.run.player.seats))) before.run.player leg.player []
+      on_so_far : HasNoted before.its before.before (length (rounds most_rounds (round_of before.run.player.seats))) before.run.player leg.player [] []
       on_so_far = laws.finishes (NotesKept before.its before.before) before.its.bytes before.its.opened before.its.world before.its.events before.run.player leg.player leg.part.0 leg.said were.shown were.noted.life leg.part.1
 
       later : List Event
@@ -420,6 +435,9 @@ module _ {D : Type 0} (seen : D → List ℕ) (medium : Medium D) (settings : Se
       grows : GrowsTo before later
       grows = let gone = on_so_far.gone in (gone.since, gone.grown)
 
+      unswept_gone : StaysUnswept ⊤ before later leg.player
+      unswept_gone = let gone = on_so_far.gone in gone.unswept
+
       counted : calls_in later ≤ calls_in before.its.events + most_of_finish
       counted = let gone = on_so_far.gone in let so = gone.counted in let most = finish_counted before.run.player.seats were.seats in omega (arith, so, most)
 
@@ -427,24 +445,26 @@ module _ {D : Type 0} (seen : D → List ℕ) (medium : Medium D) (settings : Se
       seats = few_still before.run.player leg.player (finish_seats medium.engine (phase_shown before.run.player.world.now).0 before.run.player leg.player leg.part.0 leg.said leg.part.1) were.seats
 
       are_so_far : AreShown seen medium.may_leave settings.checks (with_events before.its later) before.before leg.player
-      are_so_far = gone_shown before.its before.before (length (rounds most_rounds (round_of before.run.player.seats))) before.run.player leg.player [] were on_so_far (omega (arith, counted, few)) seats
+      are_so_far = gone_shown before.its before.before (length (rounds most_rounds (round_of before.run.player.seats))) before.run.player leg.player [] [] were on_so_far (omega (arith, counted, few)) seats
 
       by_struck : (c : Bool) → leg.struck ≡ c → PieceOn Finish before behind over text
       by_struck false none =
           let calm = subst (λ (x : Bool). IsCrashedWhere x medium settings same behind over leg.reported) none leg.crashed in
           let are = subst (λ (x : RunState D). AreShown seen medium.may_leave settings.checks (with_events before.its later) before.before x.player) (sym calm.0) are_so_far in
-          stays Finish before behind over text leg were none later grows are.shown counted few are.seats are.noted (ap (λ (x : RunState D). x.agrees) calm.0)
+          stays Finish before behind over text leg were none later grows are.shown (λ no was. subst (λ (x : RunState D). SweepsNone (with_events before.its later) x.player) (sym calm.0) (unswept_gone no was)) counted few are.seats are.noted (ap (λ (x : RunState D). x.agrees) calm.0)
       by_struck true struck =
           let crashed = subst (λ (x : Bool). IsCrashedWhere x medium settings same behind over leg.reported) struck leg.crashed in
-          of_ended Finish before behind over text 0 leg struck (ended before later same behind over leg.reported were grows are_so_far.shown are_so_far.few are_so_far.seats are_so_far.noted crashed) (omega arith) refl
+          of_ended Finish before behind over text 0 leg struck (ended ⊤ before later same behind over leg.reported were grows are_so_far.shown unswept_gone are_so_far.few are_so_far.seats are_so_far.noted crashed) (omega arith) refl
   piece_on Crash before behind over text were fit few crashed =
-      of_ended Crash before behind over text 0 crashed refl (ended before before.its.events before.run behind over text were ([], refl) were.shown were.few were.seats were.noted crashed) (omega arith) refl
+      of_ended Crash before behind over text 0 crashed refl (ended ⊤ before before.its.events before.run behind over text were ([], refl) were.shown (λ none was. was) were.few were.seats were.noted crashed) (omega arith) refl
   piece_on (CrashAt count) before behind over text were fit few line =
-      stays (CrashAt count) before behind over text line were refl before.its.events ([], refl) (laws.arms _ _ before.its before.run.player behind.player line.armed were.shown) (omega arith) few
+      stays (CrashAt count) before behind over text line were refl before.its.events ([], refl) (laws.arms _ _ before.its before.run.player behind.player line.armed were.shown)
+      (λ none was. (was.0, (let same = laws.arms_noted _ _ before.run.player behind.player line.armed in same.sweeps) ∙ was.1)) (omega arith) few
       (few_still before.run.player behind.player (ap length (laws.seats _ _ before.run.player behind.player line.armed)) were.seats)
       (noted_armed settings.checks before.its before.before before.run.player behind.player were.noted (laws.arms_noted _ _ before.run.player behind.player line.armed)) line.keeps_agreeing
   piece_on (FailAt count) before behind over text were fit few line =
-      stays (FailAt count) before behind over text line were refl before.its.events ([], refl) (laws.arms _ _ before.its before.run.player behind.player line.armed were.shown) (omega arith) few
+      stays (FailAt count) before behind over text line were refl before.its.events ([], refl) (laws.arms _ _ before.its before.run.player behind.player line.armed were.shown)
+      (λ none was. (was.0, (let same = laws.arms_noted _ _ before.run.player behind.player line.armed in same.sweeps) ∙ was.1)) (omega arith) few
       (few_still before.run.player behind.player (ap length (laws.seats _ _ before.run.player behind.player line.armed)) were.seats)
       (noted_armed settings.checks before.its before.before before.run.player behind.player were.noted (laws.arms_noted _ _ before.run.player behind.player line.armed)) line.keeps_agreeing
 
@@ -468,7 +488,7 @@ module _ {D : Type 0} (seen : D → List ℕ) (medium : Medium D) (settings : Se
 
   crashes_end : CrashesEndLives seen medium.may_leave medium settings
   crashes_end before behind over text were crashed =
-      let end = ended before before.its.events before.run behind over text were ([], refl) were.shown were.few were.seats were.noted crashed in (end.its, end.lives, end.ends)
+      let end = ended ⊤ before before.its.events before.run behind over text were ([], refl) were.shown (λ none was. was) were.few were.seats were.noted crashed in (end.its, end.lives, end.ends)
 
   begin_shown : CreatedReachesFar → NewStoresAreShown seen medium.may_leave medium settings
   begin_shown far shape image opened device player created store holds begins =

@@ -75,7 +75,12 @@ noted_armed checks its before was is_now were same =
     }
 
 pub armed_notes : {D : Type 0} → ArmsKeepNotes (IsArmed {D = D})
-armed_notes {D} count waits before after armed = record { now = armed.now; history = ap (λ (x : PlayerState (Fuse D)). x.history) armed.same; keeps = ap (λ (x : PlayerState (Fuse D)). x.keeps_history) armed.same }
+armed_notes {D} count waits before after armed = record {
+  now = armed.now;
+  history = ap (λ (x : PlayerState (Fuse D)). x.history) armed.same;
+  keeps = ap (λ (x : PlayerState (Fuse D)). x.keeps_history) armed.same;
+  sweeps = ap (λ (x : PlayerState (Fuse D)). x.sweeps) armed.same;
+}
 
 -- ---- lives that begin
 module _ {D : Type 0} (checks : Bool) (image : List ℕ) (opened : Opened) (device : D) where

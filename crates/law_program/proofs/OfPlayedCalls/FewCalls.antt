@@ -9,7 +9,7 @@ use Rattle.law_order.specs.Below.fkv_opening.TheOpened.{Opened}
 use Rattle.fkv_runs.specs.Below.fkv_playing.Finishes.{calls_of_seat, calls_of_seats, most_rounds, round_of, rounds}
 use Rattle.fkv_runs.specs.Below.fkv_playing.Groups.{queues_behind}
 use Rattle.fkv_runs.specs.Below.fkv_playing.Players.{PlayerState}
-use Rattle.fkv_runs.specs.Below.fkv_playing.Queues.{AreQueuesOf, QueueState, given_up, held, held_by, is_of, queue_behind, rank_of, step_of}
+use Rattle.fkv_runs.specs.Below.fkv_playing.Queues.{AreQueuesOf, QueueState, held, held_by, is_of, queue_behind, rank_of, step_of}
 use Rattle.fkv_runs.specs.Below.fkv_playing.Seats.{SeatState}
 use Rattle.fkv_runs.specs.Below.fkv_playing.ActorCall.{ActorCall}
 use Rattle.fkv_runs.specs.Below.fkv_playing.ActorCall.TheVariants.{Commit, Session, Trim, Turn}

@@ -1,5 +1,5 @@
 -- A player keeps its seats: each piece leaves as many as a store has sessions.
-use Rattle.std.proofs.Common.{◌≡◌, ◌∙◌, ◌≤◌, ℕ, List, [], ◌∷◌, Bool, true, false, ap, arith, length, refl, replicate, take}
+use Rattle.std.proofs.Common.{◌≡◌, ◌∙◌, ℕ, List, [], ◌∷◌, Bool, true, false, ap, arith, length, refl, replicate, take}
 use Rattle.std.specs.Prelude.{Option, Some, None, slice_get}
 use Rattle.std.proofs.lemmas.List.{length-replicate, length-set}
 use Rattle.fkv_base.specs.declared.phases.Phase.{Phase}
@@ -12,7 +12,7 @@ use Rattle.fkv_map.specs.declared.history.HistoryEntry.{HistoryEntry}
 use Rattle.fkv_map.specs.declared.operations.Call.{Call}
 use Rattle.law_order.specs.Below.fkv_opening.TheOpened.{Opened}
 use Rattle.fkv_runs.specs.Below.fkv_playing.Beats.{IsBeat, asked_of, heard, seats_behind}
-use Rattle.fkv_runs.specs.Below.fkv_playing.Finishes.{IsFinish, IsFinishIn, IsPlayedAlone, most_rounds, round_of, rounds}
+use Rattle.fkv_runs.specs.Below.fkv_playing.Finishes.{IsFinishIn, IsPlayedAlone, most_rounds, round_of, rounds}
 use Rattle.fkv_runs.specs.Below.fkv_playing.Groups.{GroupState, IsBeatOf, IsGroup, IsPick, missing_session}
 use Rattle.fkv_runs.specs.Below.fkv_playing.InTurn.{InTurn}
 use Rattle.fkv_runs.specs.Below.fkv_playing.Players.{PlayerState, is_struck}

@@ -157,11 +157,16 @@ pub record ShowsBoth {D : Type 0} (seen : D → List ℕ) (may_leave : D → Lis
   pub shows : (run opening life).now ≡ world.now
   pub device : IsAfter (run opening life).past.opened (run opening life).past.calls (seen world.device) (may_leave world.device)
 
--- It shows them behind a beat.
-pub record IsLedTo {D : Type 0} (seen : D → List ℕ) (may_leave : D → List ℕ → Type 0) (its : ActorCall) (opening : World) (at : Stage) (life : List Event) (after : WorldModel D) : Type 0 where
+-- in the life the keeper has swept nothing, and turns don't sweep
+abbrev pub SweepsNothing : {D : Type 0} → World → List Event → PlayerState D → Type 0
+SweepsNothing opening life player = NeverSweeps opening life × (player.sweeps ≡ false)
+
+-- It shows them behind a beat. By any call but a trim nothing is swept still.
+pub record IsLedTo {D : Type 0} (seen : D → List ℕ) (may_leave : D → List ℕ → Type 0) (its : ActorCall) (opening : World) (at : Stage) (life : List Event) (before after : PlayerState D) : Type 0 where
   pub event : Event
   pub is_at : IsEventAt at its event
-  pub shows : ShowsBoth seen may_leave opening (event ∷ life) after
+  pub shows : ShowsBoth seen may_leave opening (event ∷ life) after.world
+  pub unswept : its ≢ Trim → SweepsNothing opening life before → SweepsNothing opening (event ∷ life) after
 
 -- The first event is the first beat's, and behind it its actor alone moves.
 pub record IsLedBy {D : Type 0} (seen : D → List ℕ) (may_leave : D → List ℕ → Type 0) (its : ActorCall) (opening : World) (at : Stage) (count : ℕ) (life : List Event) (after : WorldModel D) : Type 0 where
@@ -171,10 +176,6 @@ pub record IsLedBy {D : Type 0} (seen : D → List ℕ) (may_leave : D → List 
   pub are_moves : AreMovesOf its moves
   pub many : length moves ≡ count
   pub shows : ShowsBoth seen may_leave opening (moves ++ event ∷ life) after
-
--- in the life the keeper has swept nothing, and turns don't sweep
-abbrev pub SweepsNothing : {D : Type 0} → World → List Event → PlayerState D → Type 0
-SweepsNothing opening life player = NeverSweeps opening life × (player.sweeps ≡ false)
 
 -- What was told is the one answer that a life has had since.
 pub record IsOneAnswer (opening : World) (life later : List Event) (said : tells.Told) : Type 0 where
@@ -216,7 +217,7 @@ pub record IsToldLast {D : Type 0} (seen : D → List ℕ) (may_leave : D → Li
 
 module _ {D : Type 0} (seen : D → List ℕ) (may_leave : D → List ℕ → Type 0) (engine : events.Event → WorldModel D → WorldModel D → Option tells.Told → Bool → Type 0) (leads : LeadsLives seen may_leave engine) (telling : Telling) (its : ActorCall) where
   -- by a beat of any call but a trim the keeper sweeps nothing still
-  none_swept : (opening : World) → IsOpenedWorld opening → (at : Stage) (life : List Event) (before after : PlayerState D) (outcome : Outcome) (text : List ℕ) (event : Event) → (run opening life).now ≡ before.world.now
+  pub none_swept : (opening : World) → IsOpenedWorld opening → (at : Stage) (life : List Event) (before after : PlayerState D) (outcome : Outcome) (text : List ℕ) (event : Event) → (run opening life).now ≡ before.world.now
       → (run opening (event ∷ life)).now ≡ after.world.now → (may_sweep (event_of before.sweeps at its) ≡ false → BeginsNoSweep before.world.now.keeper after.world.now.keeper)
       → IsBeat engine telling its at before after outcome text → its ≢ Trim → SweepsNothing opening life before → SweepsNothing opening (event ∷ life) after
   none_swept opening opened at life before after outcome text event was is no_sweep beat plain swept = (
@@ -225,14 +226,16 @@ module _ {D : Type 0} (seen : D → List ℕ) (may_leave : D → List ℕ → Ty
   )
 
   pub one_on : (opening : World) → IsOpenedWorld opening → (at : Stage) (life : List Event) (before after : PlayerState D) (outcome : Outcome) (text : List ℕ) → ShowsBoth seen may_leave opening life before.world
-      → IsBeat engine telling its at before after outcome text → IsLedTo seen may_leave its opening at life after.world
+      → IsBeat engine telling its at before after outcome text → IsLedTo seen may_leave its opening at life before after
   one_on opening opened at life before after outcome text was beat =
       let led = leads (event_of before.sweeps at its) before.world after.world beat.its beat.broken beat.step in
       let on = led.leads opening life opened was.shows was.device in
+      let event : Event = took_place (event_of before.sweeps at its) led.granted led.done in
       record {
-        event = took_place (event_of before.sweeps at its) led.granted led.done;
+        event = event;
         is_at = took_at before.sweeps at its led.granted led.done;
         shows = record { shows = on.shows; device = on.device };
+        unswept = none_swept opening opened at life before after outcome text event was.shows on.shows led.no_sweep beat;
       }
 
   pub told_last : (opening : World) → IsOpenedWorld opening → (at : Stage) (count : ℕ) (life : List Event) (before after : PlayerState D) (outcome : Outcome) (text : List ℕ) → ShowsBoth seen may_leave opening life before.world → HasEnded outcome

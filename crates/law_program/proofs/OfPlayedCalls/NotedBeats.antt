@@ -43,12 +43,12 @@ use Rattle.law_order.specs.Prefix.Law.{history_so_far}
 use Rattle.law_order.proofs.OfRules.Beginning.{world_opens}
 use Rattle.law_order.specs.Below.law_refine.Calls.Calls.{effects_in_log}
 use Rattle.law_order.proofs.Below.law_world.OfRuns.Nothing.{in_hand as called_in_hand, no_session}
-use Rattle.law_program.specs.PlayedCalls.EachLine.{ItsNumbersFit, begun_by}
+use Rattle.law_program.specs.PlayedCalls.EachLine.{IsUnswept, ItsNumbersFit, begun_by}
 use Rattle.law_program.specs.PlayedCalls.Interleaved.{IsLifeShown}
 use Rattle.law_program.specs.PlayedCalls.Noted.{IsNoted}
 use Rattle.law_program.proofs.OfPlayedCalls.Beats.{unheard}
 use Rattle.law_program.proofs.OfPlayedCalls.Interleaved.{event_fits}
-use Rattle.law_program.proofs.OfPlayedCalls.Led.{IsEventAt, LeadsLives, took_at}
+use Rattle.law_program.proofs.OfPlayedCalls.Led.{IsEventAt, LeadsLives, none_swept, took_at}
 
 -- ---- histories, the oldest first
 abbrev in_order : List HistoryEntry → List HistoryEntry
@@ -255,6 +255,7 @@ module _ {D : Type 0} (seen : D → List ℕ) (may_leave : D → List ℕ → Ty
     pub shown : IsLifeShown seen may_leave bytes o first (event ∷ life) after
     pub keeps : after.keeps_history ≡ before.keeps_history
     pub noted : IsNoted kept bytes first (event ∷ life) after
+    pub unswept : call ≢ Trim → IsUnswept bytes first life before → IsUnswept bytes first (event ∷ life) after
     pub in_hand : outcome ≡ GoesOn → IsInHand after.world.now call
     pub others : (other : ℕ) → other ≢ rank_of call → slice_get after.world.now.sessions other ≡ slice_get before.world.now.sessions other
 
@@ -290,6 +291,7 @@ module _ {D : Type 0} (seen : D → List ℕ) (may_leave : D → List ℕ → Ty
               ∙ (append_assoc kept (history_so_far first bytes life) (listed (told_behind w.now behind.now event))
               ∙ ap (λ (x : List HistoryEntry). kept ++ x) (sym (grows law opens o first bytes event life w.now behind.now was.opening refl refl)))));
         };
+        unswept = none_swept seen may_leave engine leads telling call opening (world_opens o first bytes was.opening) at life before after outcome text event was.shows on.shows led.no_sweep beat;
         in_hand = λ goes.
             let none : beat.its ≡ None = none_told (is_struck before.waits beat.broken) beat.its (sym goes ∙ beat.ends) in
             let tells : IsTold false w.now behind.now event None

@@ -1,6 +1,6 @@
 -- A player notes a life by each group of calls, and by each finish.
 use Rattle.std.proofs.Common.{◌≡◌, ◌≢◌, ◌∙◌, ◌⊎◌, ◌≤◌, ◌<◌, ◌+◌, ℕ, zero, suc, List, [], ◌∷◌, ◌++◌, Bool, true, false, ap, append_assoc, arith, cond, inl, inr, length, map, refl, replicate, sym, subst, take}
-use Rattle.std.specs.Prelude.{Option, Some, None, filter, slice_get, slice_set}
+use Rattle.std.specs.Prelude.{⊤, Option, Some, None, filter, slice_get, slice_set}
 use Rattle.std.proofs.lemmas.Bool.Decides.{nat_tests}
 use Rattle.fkv_base.specs.declared.phases.Phase.{Phase}
 use Rattle.fkv_base.specs.declared.phases.Phase.TheVariants as phase
@@ -29,13 +29,13 @@ use Rattle.law_order.specs.Below.fkv_world.World.{Event, Now}
 use Rattle.law_answers.specs.Effects.Laws.{EventsTellTheirEffects}
 use Rattle.law_order.specs.Below.law_opening.Lives.Laws.{GuardOpens}
 use Rattle.law_order.specs.Tickets.Few.{calls_in}
-use Rattle.law_program.specs.PlayedCalls.EachLine.{ItsNumbersFit}
+use Rattle.law_program.specs.PlayedCalls.EachLine.{IsUnswept, ItsNumbersFit}
 use Rattle.law_program.specs.PlayedCalls.FewCalls.{left_in}
-use Rattle.law_program.specs.PlayedCalls.Interleaved.{AreFitting, IsLifeShown, QueuesFit}
+use Rattle.law_program.specs.PlayedCalls.Interleaved.{AreAll, IsLifeShown, IsNoTrim, QueuesAre, QueuesFit}
 use Rattle.law_program.specs.PlayedCalls.Noted.{AreIdle, AreOf, CallsMakeIdleQueues, FinishesAreNoted, GroupsAreNoted, IsNoted}
 use Rattle.law_program.proofs.OfPlayedCalls.EachLine.{taken_few}
 use Rattle.law_program.proofs.OfPlayedCalls.FewCalls.{begun_at, event_counted, left_given_up, pick_counted}
-use Rattle.law_program.proofs.OfPlayedCalls.Interleaved.{behind_fits, held_fits, queue_at, queues_left, queues_set, round_fits, rounds_fit, step_fits, take_fits}
+use Rattle.law_program.proofs.OfPlayedCalls.Interleaved.{FitsWhere, behind_is, finish_fits, held_is, queue_at, queues_left, queues_no_trims, queues_set, queues_still_fit, queues_where, step_is}
 use Rattle.law_program.proofs.OfPlayedCalls.Led.{LeadsLives}
 use Rattle.law_program.proofs.OfPlayedCalls.NotedBeats.{BeatIsNoted, IsInHand, IsReadyAt, beat_noted}
 
@@ -192,9 +192,13 @@ calls_idle calls queues are = record {
 
 -- ---- beat by beat
 module _ {D : Type 0} (seen : D → List ℕ) (may_leave : D → List ℕ → Type 0) (engine : events.Event → WorldModel D → WorldModel D → Option tells.Told → Bool → Type 0) (leads : LeadsLives seen may_leave engine)
-    (law : EventsTellTheirEffects) (opens : GuardOpens) (kept : List HistoryEntry) (bytes : List ℕ) (o : Opened) (first : Now) where
+    (law : EventsTellTheirEffects) (opens : GuardOpens) (kept : List HistoryEntry) (bytes : List ℕ) (o : Opened) (first : Now) (NoTrims Unswept : Type 0) where
+  -- where the calls have no trim, and the life was unswept as they began, it is so still
   abbrev Shown : List Event → PlayerState D → Type 0
-  Shown life player = IsLifeShown seen may_leave bytes o first life player
+  Shown life player = IsLifeShown seen may_leave bytes o first life player × (NoTrims → Unswept → IsUnswept bytes first life player)
+
+  abbrev Fits : ActorCall → Type 0
+  Fits call = FitsWhere NoTrims call
 
   abbrev Noted : List Event → PlayerState D → Type 0
   Noted life player = IsNoted kept bytes first life player
@@ -244,18 +248,18 @@ module _ {D : Type 0} (seen : D → List ℕ) (may_leave : D → List ℕ → Ty
     in_hand : outcome ≡ GoesOn → IsInHand after.world.now call
     others : (other : ℕ) → other ≢ rank_of call → slice_get after.world.now.sessions other ≡ slice_get before.world.now.sessions other
 
-  beat_on : (telling : Telling) (life : List Event) (call : ActorCall) (at : Stage) (before after : PlayerState D) (outcome : Outcome) (text : List ℕ) → Shown life before → Noted life before → IsReadyAt at before.world.now call → ItsNumbersFit call
+  beat_on : (telling : Telling) (life : List Event) (call : ActorCall) (at : Stage) (before after : PlayerState D) (outcome : Outcome) (text : List ℕ) → Shown life before → Noted life before → IsReadyAt at before.world.now call → Fits call
       → IsBeat engine telling call at before after outcome text → BeatOn life call at before after outcome
   beat_on telling life call at before after outcome text was noted ready fit beat =
       let its : BeatIsNoted seen may_leave engine leads law opens kept bytes o first life call at before after outcome
-      = beat_noted seen may_leave engine leads law opens kept bytes o first telling life call at before after outcome text was noted ready fit beat in
+      = beat_noted seen may_leave engine leads law opens kept bytes o first telling life call at before after outcome text was.0 noted ready fit.0 beat in
       record {
-        on = record { later = its.event ∷ life; since = its.event ∷ []; grown = refl; shown = its.shown; keeps = its.keeps; noted = its.noted; counted = event_counted at call its.event life its.is_at };
+        on = record { later = its.event ∷ life; since = its.event ∷ []; grown = refl; shown = (its.shown, λ none unswept. its.unswept (fit.1 none) (was.1 none unswept)); keeps = its.keeps; noted = its.noted; counted = event_counted at call its.event life its.is_at };
         in_hand = its.in_hand;
         others = its.others;
       }
 
-  beat_of_on : (life : List Event) (call : ActorCall) (at : Stage) (before after : PlayerState D) (outcome : Outcome) (text : List ℕ) (missing : Option ℕ) → Shown life before → Noted life before → IsReadyAt at before.world.now call → ItsNumbersFit call
+  beat_of_on : (life : List Event) (call : ActorCall) (at : Stage) (before after : PlayerState D) (outcome : Outcome) (text : List ℕ) (missing : Option ℕ) → Shown life before → Noted life before → IsReadyAt at before.world.now call → Fits call
       → IsBeatOf engine call at before after outcome text missing → BeatOn life call at before after outcome
   beat_of_on life call at before after outcome text (Some number) was noted ready fit refused = record {
     on = at_most life 0 (begun_at at) before after (omega arith) (still_on life before after refused.0 was noted);
@@ -268,21 +272,21 @@ module _ {D : Type 0} (seen : D → List ℕ) (may_leave : D → List ℕ → Ty
   record GoneOn (life : List Event) (to_begin : ℕ) (before after : GroupState D) : Type 0 where
     begun : ℕ
     on : IsOn life begun before.player after.player
-    fit : QueuesFit after.queues
+    fit : QueuesAre Fits after.queues
     minded : AreMinded after.queues after.player.world.now
     left : begun + left_in after.queues ≡ to_begin
 
-  pick_on : (life : List Event) (place : ℕ) (before after : GroupState D) (struck : Bool) (text : List ℕ) → Shown life before.player → Noted life before.player → QueuesFit before.queues → AreMinded before.queues before.player.world.now
+  pick_on : (life : List Event) (place : ℕ) (before after : GroupState D) (struck : Bool) (text : List ℕ) → Shown life before.player → Noted life before.player → QueuesAre Fits before.queues → AreMinded before.queues before.player.world.now
       → IsPick engine place before after struck text → GoneOn life (left_in before.queues) before after
   pick_on life place before after struck text was noted fit were pick =
       let queue : QueueState = pick.queue in
-      let its = queue_at before.queues place queue fit pick.stands in
+      let its = queue_at Fits before.queues place queue fit pick.stands in
       let step : IsItsStep queue.rank queue.hand queue.left pick.call pick.stage
       = its_step queue.rank queue.hand queue.left pick.call pick.stage pick.has_step (were.own place queue pick.stands) (λ call has. (were.hands place queue call pick.stands has).1) in
       let ready : IsReadyAt pick.stage before.player.world.now pick.call = ready_at pick.stage before.player.world.now pick.call (λ moves. (were.hands place queue pick.call pick.stands (step.in_hand moves)).0) in
       let beat : BeatOn life pick.call pick.stage before.player after.player pick.outcome
       = beat_of_on life pick.call pick.stage before.player after.player pick.outcome text (missing_session before.player.seats pick.call) was noted ready
-      (step_fits queue.hand queue.left pick.call pick.stage its.0 its.1 pick.has_step) pick.beat in
+      (step_is Fits queue.hand queue.left pick.call pick.stage its.0 its.1 pick.has_step) pick.beat in
       let new : QueueState = queue_behind pick.outcome (held queue) in
       let same_rank : new.rank ≡ queue.rank = behind_rank pick.outcome (held queue) ∙ step.same_rank in
       let counted = pick_counted before.queues place queue pick.call pick.stage pick.outcome pick.stands pick.has_step in
@@ -290,7 +294,7 @@ module _ {D : Type 0} (seen : D → List ℕ) (may_leave : D → List ℕ → Ty
       record {
         begun = begun_at pick.stage;
         on = beat.on;
-        fit = subst QueuesFit (sym pick.queues) (queues_set before.queues place new fit (behind_fits pick.outcome (held queue) (held_fits queue.rank queue.hand queue.left its.0 its.1)));
+        fit = subst (QueuesAre Fits) (sym pick.queues) (queues_set Fits before.queues place new fit (behind_is Fits pick.outcome (held queue) (held_is Fits queue.rank queue.hand queue.left its.0 its.1)));
         minded = subst (λ (x : List QueueState). AreMinded x after.player.world.now) (sym pick.queues)
             (minded_set before.queues place queue new before.player.world.now after.player.world.now were pick.stands same_rank
             (behind_own pick.outcome (held queue) step.own)
@@ -301,7 +305,7 @@ module _ {D : Type 0} (seen : D → List ℕ) (may_leave : D → List ℕ → Ty
         left = omega (arith, counted, queues);
       }
 
-  picks_on : (picks : List ℕ) (life : List Event) (before after : GroupState D) (struck : Bool) (text : List ℕ) → Shown life before.player → Noted life before.player → QueuesFit before.queues → AreMinded before.queues before.player.world.now
+  picks_on : (picks : List ℕ) (life : List Event) (before after : GroupState D) (struck : Bool) (text : List ℕ) → Shown life before.player → Noted life before.player → QueuesAre Fits before.queues → AreMinded before.queues before.player.world.now
       → InTurn (IsPick engine) false picks before after struck text → GoneOn life (left_in before.queues) before after
   picks_on [] life before after struck text was noted fit were played =
       subst (GoneOn life (left_in before.queues) before) (sym played.0) (record { begun = 0; on = still_on life before.player before.player refl was noted; fit = fit; minded = were; left = omega arith })
@@ -322,7 +326,7 @@ module _ {D : Type 0} (seen : D → List ℕ) (may_leave : D → List ℕ → Ty
       }
 
   -- ---- a finish
-  beats_gone : (telling : Telling) (count : ℕ) (life : List Event) (call : ActorCall) (at : Stage) (before after : PlayerState D) (outcome : Outcome) (text : List ℕ) → Shown life before → Noted life before → IsReadyAt at before.world.now call → ItsNumbersFit call
+  beats_gone : (telling : Telling) (count : ℕ) (life : List Event) (call : ActorCall) (at : Stage) (before after : PlayerState D) (outcome : Outcome) (text : List ℕ) → Shown life before → Noted life before → IsReadyAt at before.world.now call → Fits call
       → InTurn (IsBeat engine telling call) GoesOn (at ∷ replicate count stage.Moves) before after outcome text → IsOn life (begun_at at) before after
   beats_gone telling zero life call at before after outcome text was noted ready fit beat = (beat_on telling life call at before after outcome text was noted ready fit beat).on
   beats_gone telling (suc count) life call at before after outcome text was noted ready fit beats =
@@ -331,7 +335,7 @@ module _ {D : Type 0} (seen : D → List ℕ) (may_leave : D → List ℕ → Ty
       at_most life (begun_at at + 0) (begun_at at) before after (omega arith)
       (joined life (begun_at at) 0 before beats.0 after one (beats_gone telling count one.later call stage.Moves beats.0 after outcome beats.2 one.shown one.noted (beat.in_hand refl) fit beats.4))
 
-  calls_gone : (calls : List ActorCall) (life : List Event) (before after : PlayerState D) (outcome : Outcome) (text : List ℕ) → Shown life before → Noted life before → AreFitting calls
+  calls_gone : (calls : List ActorCall) (life : List Event) (before after : PlayerState D) (outcome : Outcome) (text : List ℕ) → Shown life before → Noted life before → AreAll Fits calls
       → InTurn (IsPlayedAlone engine Finished) Answered calls before after outcome text → IsOn life (length calls) before after
   calls_gone [] life before after outcome text was noted fit played = still_on life before after played.0 was noted
   calls_gone (call ∷ []) life before after outcome text was noted fit played = beats_gone Finished played.moves life call stage.Begins before after outcome text was noted tt fit.0 played.beats
@@ -348,14 +352,15 @@ module _ {D : Type 0} (seen : D → List ℕ) (may_leave : D → List ℕ → Ty
   finish_gone other life before after outcome text was noted finish =
       at_most life (length (take finish.count (rounds most_rounds (round_of before.seats)))) (length (rounds most_rounds (round_of before.seats))) before after (taken_few finish.count (rounds most_rounds (round_of before.seats)))
       (calls_gone (take finish.count (rounds most_rounds (round_of before.seats))) life before after outcome finish.said was noted
-      (take_fits finish.count (rounds most_rounds (round_of before.seats)) (rounds_fit most_rounds (round_of before.seats) (round_fits before.seats))) finish.calls)
+      (finish_fits NoTrims finish.count before.seats) finish.calls)
 
 -- ---- the laws
 module _ {D : Type 0} (seen : D → List ℕ) (may_leave : D → List ℕ → Type 0) (engine : events.Event → WorldModel D → WorldModel D → Option tells.Told → Bool → Type 0) (leads : LeadsLives seen may_leave engine)
     (law : EventsTellTheirEffects) (opens : GuardOpens) where
   pub groups_noted : GroupsAreNoted seen may_leave engine
   groups_noted kept bytes o first life before after queues left struck text was noted fit idle group =
-      let gone = picks_on seen may_leave engine leads law opens kept bytes o first group.picks life (record { player = before; queues = queues }) (record { player = after; queues = group.last }) struck text was noted fit
+      let gone = picks_on seen may_leave engine leads law opens kept bytes o first (QueuesAre IsNoTrim queues) (IsUnswept bytes first life before) group.picks life (record { player = before; queues = queues }) (record { player = after; queues = group.last }) struck text
+      (was, λ none unswept. unswept) noted (queues_where (QueuesAre IsNoTrim queues) queues fit (λ none. none))
       (idle_minded queues before.world.now idle) group.played in
       let on = gone.on in
       let counted = on.counted in
@@ -367,9 +372,11 @@ module _ {D : Type 0} (seen : D → List ℕ) (may_leave : D → List ℕ → Ty
           later = on.later;
           since = on.since;
           grown = on.grown;
-          shown = on.shown;
-          fit = subst QueuesFit (sym group.queues) (queues_left struck group.last gone.fit);
+          shown = on.shown.0;
+          fit = subst QueuesFit (sym group.queues) (queues_left ItsNumbersFit struck group.last (queues_still_fit (QueuesAre IsNoTrim queues) group.last gone.fit));
           counted = omega (arith, counted, fewer, behind, given);
+          no_trims = λ none. subst (QueuesAre IsNoTrim) (sym group.queues) (queues_left IsNoTrim struck group.last (queues_no_trims (QueuesAre IsNoTrim queues) group.last gone.fit none));
+          unswept = on.shown.1;
         };
         keeps = on.keeps;
         noted = on.noted;
@@ -378,6 +385,6 @@ module _ {D : Type 0} (seen : D → List ℕ) (may_leave : D → List ℕ → Ty
 
   pub finishes_noted : FinishesAreNoted seen may_leave engine
   finishes_noted kept bytes o first life before after outcome text was noted finish =
-      let on = finish_gone seen may_leave engine leads law opens kept bytes o first (phase_shown before.world.now).0 life before after outcome text was noted finish in
+      let on = finish_gone seen may_leave engine leads law opens kept bytes o first ⊤ (IsUnswept bytes first life before) (phase_shown before.world.now).0 life before after outcome text (was, λ none unswept. unswept) noted finish in
       let counted = on.counted in
-      record { gone = record { later = on.later; since = on.since; grown = on.grown; shown = on.shown; fit = tt; counted = omega (arith, counted) }; keeps = on.keeps; noted = on.noted; idle = no_queues }
+      record { gone = record { later = on.later; since = on.since; grown = on.grown; shown = on.shown.0; fit = tt; counted = omega (arith, counted); no_trims = λ none. tt; unswept = λ none. on.shown.1 tt }; keeps = on.keeps; noted = on.noted; idle = no_queues }

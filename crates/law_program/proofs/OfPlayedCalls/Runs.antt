@@ -1,6 +1,6 @@
 -- A run goes on piece by piece, in the life in hand or behind a crash in the next one.
 use Rattle.std.proofs.Common.{◌≡◌, ◌∙◌, ◌⊎◌, ◌+◌, ◌-◌, ◌^◌, ◌<◌, ◌≤◌, ℕ, zero, suc, List, [], ◌∷◌, ◌++◌, Bool, true, false, ap, arith, inl, inr, length, map, refl, sym, subst, take}
-use Rattle.std.specs.Prelude.{Option, Some, None, slice_get}
+use Rattle.std.specs.Prelude.{⊤, Option, Some, None, slice_get}
 use Rattle.std.proofs.lemmas.List.{append-nil}
 use Rattle.fkv_epoch.proofs.Shown.{none_some, some_same}
 use Rattle.fkv_runs.specs.Below.fkv_playing.Finishes.{most_rounds, round_of, rounds}
@@ -22,15 +22,16 @@ use Rattle.fkv_runs.specs.declared.settings.Settings.{Settings}
 use Rattle.fkv_runs.specs.Below.fkv_playing.Waits.{Waits}
 use Rattle.law_order.specs.Below.fkv_world.World.{Event}
 use Rattle.law_order.specs.Tickets.Few.{calls_in}
-use Rattle.law_program.specs.PlayedCalls.EachLine.{EachLineGoesOn, IsFinishInLife, IsLineInLife, IsPlayedInLife, IsRefusedLine, ItsNumbersFit}
+use Rattle.law_program.specs.PlayedCalls.EachLine.{EachLineGoesOn, IsFinishInLife, IsLineInLife, IsPlayedInLife, IsRefusedLine, IsUnswept, ItsNumbersFit}
 use Rattle.law_program.specs.PlayedCalls.FewCalls.{ArmsKeepSeats, HasFewSeats, begun_in, left_in, most_of_finish}
 use Rattle.law_program.specs.PlayedCalls.Lives.{CrashesGoOn}
-use Rattle.law_program.specs.PlayedCalls.Interleaved.{AreFitting, FinishesGoOn, FittingCallsMakeQueues, GroupsGoOn, HasGoneOn, IsLifeShown, QuietLivesAreShown}
+use Rattle.law_program.specs.PlayedCalls.Interleaved.{AreAll, AreFitting, FinishesGoOn, FittingCallsMakeQueues, GroupsGoOn, HasGoneOn, IsLifeShown, IsNoTrim, QuietLivesAreShown}
 use Rattle.law_program.specs.PlayedCalls.Runs.{ArmsInLife, DueIsReported, IsPieceInLives, IsPlain, IsReported, IsShown, LifeInHand, RunsGoOn}
 use Rattle.law_program.proofs.OfPlayedCalls.Calm.{unstruck_group}
 use Rattle.law_program.proofs.OfPlayedCalls.EachLine.{begun_counted, taken_few}
 use Rattle.law_program.proofs.OfPlayedCalls.FewCalls.{all_counted, alone_counted, finish_counted}
 use Rattle.law_program.proofs.OfPlayedCalls.FewSeats.{piece_seats}
+use Rattle.law_program.proofs.OfPlayedCalls.Interleaved.{queues_all}
 use Rattle.law_program.proofs.OfPlayedCalls.OneCall.{EndsSilently, HasOneCall, first_call, none_played, struck_silent}
 
 -- ---- the queues that a crash gives up
@@ -66,10 +67,10 @@ module _ {D : Type 0} (seen : D → List ℕ) (may_leave : D → List ℕ → Ty
     (arms : ArmsInLife seen may_leave medium.armed) (groups : GroupsGoOn seen may_leave medium.engine) (finishes : FinishesGoOn seen may_leave medium.engine) (quiet : QuietLivesAreShown seen may_leave)
     (fitting : FittingCallsMakeQueues) (leaves : (device : D) (image : List ℕ) → medium.may_leave device image → may_leave device image) (arms_seats : ArmsKeepSeats medium.armed) where
   -- ---- a crash is reported
-  record IsCrashSeen (its : LifeInHand) (after : PlayerState D) (over : Bool) (text : List ℕ) : Type 0 where
+  record IsCrashSeen (NoTrim : Type 0) (its : LifeInHand) (before after : PlayerState D) (over : Bool) (text : List ℕ) : Type 0 where
     next : LifeInHand
     begun : over ≡ false → calls_in next.events ≡ 0
-    crash : IsReported seen may_leave medium settings its next after over text
+    crash : IsReported seen may_leave medium settings NoTrim its next before after over text
 
   abbrev ShowsStruck : LifeInHand → List Event → PlayerState D → Type 0
   ShowsStruck its events player = IsLifeShown seen may_leave its.bytes its.opened its.first events player
@@ -77,17 +78,21 @@ module _ {D : Type 0} (seen : D → List ℕ) (may_leave : D → List ℕ → Ty
   still_shown : (its : LifeInHand) (player : PlayerState D) → IsShown seen may_leave its player → ShowsStruck its its.events player
   still_shown its player shown = (quiet its.bytes its.opened its.first its.events player shown).0
 
-  crash_seen : (its : LifeInHand) (events since : List Event) (before after : RunState D) (over : Bool) (text : List ℕ) → events ≡ since ++ its.events → ShowsStruck its events before.player → IsCrashed medium settings before after over text → IsCrashSeen its after.player over text
-  crash_seen its events since before after over text grown shown crashed = by_over over refl
+  abbrev StaysUnswept : Type 0 → LifeInHand → PlayerState D → List Event → PlayerState D → Type 0
+  StaysUnswept NoTrim its was events player = NoTrim → IsUnswept its.bytes its.first its.events was → IsUnswept its.bytes its.first events player
+
+  crash_seen : (NoTrim : Type 0) (its : LifeInHand) (was : PlayerState D) (events since : List Event) (before after : RunState D) (over : Bool) (text : List ℕ) → events ≡ since ++ its.events → ShowsStruck its events before.player
+      → StaysUnswept NoTrim its was events before.player → IsCrashed medium settings before after over text → IsCrashSeen NoTrim its was after.player over text
+  crash_seen NoTrim its was events since before after over text grown shown unswept crashed = by_over over refl
     where
       left : may_leave before.player.world.device (medium.image before.player.world.device settings.torn)
       left = leaves before.player.world.device (medium.image before.player.world.device settings.torn) crashed.left
 
-      by_over : (c : Bool) → over ≡ c → IsCrashSeen its after.player over text
+      by_over : (c : Bool) → over ≡ c → IsCrashSeen NoTrim its was after.player over text
       by_over true e = record {
         next = its;
         begun = λ goes. both_ways over goes e;
-        crash = record { struck = before.player; events = events; since = since; grown = grown; shown = shown; left = left; goes_on = λ goes. both_ways over goes e; ends = λ stops. crashed.refusal stops };
+        crash = record { struck = before.player; events = events; since = since; grown = grown; shown = shown; unswept = unswept; left = left; goes_on = λ goes. both_ways over goes e; ends = λ stops. crashed.refusal stops };
       }
       by_over false e =
           let crash = crashed.crash e in
@@ -95,7 +100,7 @@ module _ {D : Type 0} (seen : D → List ℕ) (may_leave : D → List ℕ → Ty
           record {
             next = record { bytes = medium.image before.player.world.device settings.torn; opened = report.opened; first = after.player.world.now; events = [] };
             begun = λ goes. refl;
-            crash = record { struck = before.player; events = events; since = since; grown = grown; shown = shown; left = left; goes_on = λ goes. (crash.0, report, refl); ends = λ stops. both_ways over e stops };
+            crash = record { struck = before.player; events = events; since = since; grown = grown; shown = shown; unswept = unswept; left = left; goes_on = λ goes. (crash.0, report, refl); ends = λ stops. both_ways over e stops };
           }
 
   -- ---- a group of one call
@@ -120,7 +125,7 @@ module _ {D : Type 0} (seen : D → List ℕ) (may_leave : D → List ℕ → Ty
       by_line goes (inr line) = record { goes_on = goes; events = line.later; says = inr line.played; shown = line.played.goes_on; counted = alone_counted one its.events line.later line.played.alone }
 
   group_struck : (items : List ActorCall) (one : ActorCall) → items ≡ one ∷ [] → ItsNumbersFit one → (its : LifeInHand) (before after : RunState D) (over : Bool) (text : List ℕ) → IsShown seen may_leave its before.player
-      → (played : IsGroupPlayed medium settings items before after over text) → played.leg.struck ≡ true → IsCrashSeen its after.player over text
+      → (played : IsGroupPlayed medium settings items before after over text) → played.leg.struck ≡ true → IsCrashSeen (AreAll IsNoTrim items) its before.player after.player over text
   group_struck items one is fit its before after over text shown played struck = by_over over refl
     where
       part : IsGroup medium.engine (record { player = before.player; queues = played.queues }) (record { player = played.leg.player; queues = played.left }) true played.leg.said
@@ -139,16 +144,19 @@ module _ {D : Type 0} (seen : D → List ℕ) (may_leave : D → List ℕ → Ty
       crashed = subst (λ (x : Bool). IsCrashedWhere x medium settings (record before { player = played.leg.player }) played.between over played.leg.reported) struck played.leg.crashed
 
       -- the life goes on to the crash
-      gone : HasGoneOn seen may_leave its.bytes its.opened its.first its.events (left_in played.queues) played.leg.player played.left
+      gone : HasGoneOn seen may_leave its.bytes its.opened its.first its.events (left_in played.queues) before.player played.leg.player played.queues played.left
       gone =
           groups its.bytes its.opened its.first its.events before.player played.leg.player played.queues played.left true played.leg.said (still_shown its before.player shown)
           (fitting items played.queues (subst AreFitting (sym is) (fit, tt)) played.are_queues) part
+
+      unswept : StaysUnswept (AreAll IsNoTrim items) its before.player gone.later played.leg.player
+      unswept none = gone.unswept (queues_all IsNoTrim items played.queues none played.are_queues)
 
       says : played.rest ≡ [] → text ≡ played.leg.reported
       says none =
           played.says ∙ (ap (λ (x : List ℕ). played.first ++ x) none ∙ (append-nil played.first ∙ (played.leg.says ∙ ap (λ (x : List ℕ). x ++ played.leg.reported) ends.silent)))
 
-      by_over : (c : Bool) → over ≡ c → IsCrashSeen its after.player over text
+      by_over : (c : Bool) → over ≡ c → IsCrashSeen (AreAll IsNoTrim items) its before.player after.player over text
       by_over true e = record {
         next = its;
         begun = λ goes. both_ways over goes e;
@@ -158,6 +166,7 @@ module _ {D : Type 0} (seen : D → List ℕ) (may_leave : D → List ℕ → Ty
           since = gone.since;
           grown = gone.grown;
           shown = gone.shown;
+          unswept = unswept;
           left = leaves played.leg.player.world.device (medium.image played.leg.player.world.device settings.torn) crashed.left;
           goes_on = λ goes. both_ways over goes e;
           ends = λ stops. subst (IsRefusal (medium.image played.leg.player.world.device settings.torn)) (sym (says (played.ends e))) (crashed.refusal e);
@@ -166,13 +175,13 @@ module _ {D : Type 0} (seen : D → List ℕ) (may_leave : D → List ℕ → Ty
       by_over false e =
           let behind = played.goes_on e in
           let stays = none_played medium.engine behind.1.picks (record { player = played.between.player; queues = played.left }) (record { player = after.player; queues = behind.1.last }) played.rest nobody behind.1.played in
-          let there = crash_seen its gone.later gone.since (record before { player = played.leg.player }) played.between over played.leg.reported gone.grown gone.shown crashed in
+          let there = crash_seen (AreAll IsNoTrim items) its before.player gone.later gone.since (record before { player = played.leg.player }) played.between over played.leg.reported gone.grown gone.shown unswept crashed in
           record {
             next = there.next;
             begun = there.begun;
             crash =
-                subst (IsReported seen may_leave medium settings its there.next after.player over) (sym (says stays.1))
-                (subst (λ (x : PlayerState D). IsReported seen may_leave medium settings its there.next x over played.leg.reported) (sym (ap (λ (x : GroupState D). x.player) stays.0)) there.crash);
+                subst (IsReported seen may_leave medium settings (AreAll IsNoTrim items) its there.next before.player after.player over) (sym (says stays.1))
+                (subst (λ (x : PlayerState D). IsReported seen may_leave medium settings (AreAll IsNoTrim items) its there.next before.player x over played.leg.reported) (sym (ap (λ (x : GroupState D). x.player) stays.0)) there.crash);
           }
 
   -- ---- a piece
@@ -215,7 +224,7 @@ module _ {D : Type 0} (seen : D → List ℕ) (may_leave : D → List ℕ → Ty
       let crashed = subst (λ (x : Bool). IsCrashedWhere x medium settings (record before { player = leg.player }) after over leg.reported) struck leg.crashed in
       let strikes : is_struck_by leg.part.0 ≡ true = sym (same_struck leg.part.0) ∙ (sym leg.part.2 ∙ struck) in
       let gone = finishes its.bytes its.opened its.first its.events before.player leg.player leg.part.0 leg.said (still_shown its before.player shown) leg.part.1 in
-      let there = crash_seen its gone.later gone.since (record before { player = leg.player }) after over leg.reported gone.grown gone.shown crashed in
+      let there = crash_seen ⊤ its before.player gone.later gone.since (record before { player = leg.player }) after over leg.reported gone.grown gone.shown gone.unswept crashed in
       record {
         next = there.next;
         says =
@@ -257,7 +266,7 @@ module _ {D : Type 0} (seen : D → List ℕ) (may_leave : D → List ℕ → Ty
       by_struck false none = finish_unstruck its before after over text shown few seats leg none
       by_struck true struck = finish_struck its before after over text shown few seats leg struck
   piece_goes_on Crash its before after over text shown plain few seats crashed =
-      let there = crash_seen its its.events [] before after over text refl (still_shown its before.player shown) crashed in
+      let there = crash_seen ⊤ its before.player its.events [] before after over text refl (still_shown its before.player shown) (λ none unswept. unswept) crashed in
       record { next = there.next; says = inr (record { said = []; reported = text; up_to = refl; crash = there.crash; says = refl }); counted = λ goes. let none = there.begun goes in omega (arith, none) }
   piece_goes_on (CrashAt count) its before after over text shown plain few seats line =
       let still = prepared (CrashAt count) its before after _ _ over text shown line in
@@ -281,7 +290,7 @@ module _ {D : Type 0} (seen : D → List ℕ) (may_leave : D → List ℕ → Ty
       let crash = ends.crash.goes_on refl in subst (λ (x : LifeInHand). IsShown seen may_leave x after.player) (sym crash.2) crash.1.begins
 
   due_reported : (its : LifeInHand) (last : RunState D) → IsShown seen may_leave its last.player → DueIsReported seen may_leave medium settings its last
-  due_reported its last shown after over text crashed = let there = crash_seen its its.events [] last after over text refl (still_shown its last.player shown) crashed in (there.next, there.crash)
+  due_reported its last shown after over text crashed = let there = crash_seen ⊤ its last.player its.events [] last after over text refl (still_shown its last.player shown) (λ none unswept. unswept) crashed in (there.next, there.crash)
 
   pub runs_go_on : RunsGoOn seen may_leave medium settings
   runs_go_on [] its before after over text shown plain seats few played =

@@ -1,5 +1,5 @@
 -- A read that was called alone, and was told that it has to wait: nothing has taken effect in its call, and its session has it.
-use Rattle.std.proofs.Common.{◌≡◌, ◌∙◌, ℕ, zero, suc, ◌+◌, ◌≤◌, List, [], ◌∷◌, Bool, true, false, ap, arith, inl, inr, refl, sym, subst}
+use Rattle.std.proofs.Common.{◌≡◌, ◌∙◌, ℕ, zero, suc, ◌+◌, ◌≤◌, List, [], ◌∷◌, Bool, true, false, ap, arith, inl, inr, refl, subst}
 use Rattle.std.specs.Prelude.{◌==◌, if◌then◌else◌, Some, slice_get}
 use Rattle.std.proofs.lemmas.Bool.Decides.{nat_tests}
 use Rattle.fkv_base.specs.declared.numbers.Key.{Key}
@@ -11,9 +11,9 @@ use Rattle.law_order.specs.Below.fkv_pending.PendingRequest.{PendingRequest}
 use Rattle.law_order.specs.Below.fkv_pending.RequestName.{RequestName}
 use Rattle.law_order.specs.Below.fkv_pending.RequestName.TheVariants.{Read, Update}
 use Rattle.law_order.specs.Below.fkv_pending.Ticket.{Ticket}
-use Rattle.law_order.specs.Below.fkv_session.Accounts.{AreAccountedFor, left_pending, names_of, number_of, polled}
+use Rattle.law_order.specs.Below.fkv_session.Accounts.{AreAccountedFor, names_of, number_of}
 use Rattle.law_order.specs.Below.fkv_session.SessionRun.{Telling, in_hand, telling}
-use Rattle.law_order.specs.Below.fkv_session.Sessions.{SessionState, is_busy}
+use Rattle.law_order.specs.Below.fkv_session.Sessions.{is_busy}
 use Rattle.law_order.specs.Below.fkv_session.Finished.{Finished}
 use Rattle.law_order.specs.Below.fkv_session.Told.{Told}
 use Rattle.law_order.specs.Below.fkv_session.Told.TheVariants as told

@@ -1,10 +1,9 @@
 -- Where turns don't sweep, the keeper sweeps nothing: a step begins no sweep then, and an event of a session leaves the keeper as it is.
-use Rattle.std.proofs.Common.{◌≡◌, ◌∙◌, ℕ, zero, suc, List, [], ◌∷◌, ◌++◌, replicate, ap, refl, sym, subst, false}
+use Rattle.std.proofs.Common.{◌≡◌, ◌∙◌, ℕ, zero, suc, List, [], ◌∷◌, ◌++◌, replicate, ap, refl, sym, false}
 use Rattle.law_order.specs.Below.fkv_core.Unswept.{NeverSweeps}
 use Rattle.law_order.specs.Below.fkv_core.Worlds.{BeginsNoSweep}
 use Rattle.fkv_core.proofs.Shown.{unswept_idle}
 use Rattle.law_order.specs.Below.fkv_keeper.Keeping.{KeeperState}
-use Rattle.law_order.specs.Below.fkv_keeper.TheKeeping.TheVariants.{Sweeps}
 use Rattle.fkv_map.specs.declared.operations.Call.{Call}
 use Rattle.law_order.specs.Below.fkv_world.Actors.{is_of_keeper}
 use Rattle.law_order.specs.Below.fkv_world.Opened.{IsOpenedWorld}

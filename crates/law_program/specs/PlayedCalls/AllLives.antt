@@ -21,8 +21,9 @@ use Rattle.law_order.specs.OneHistory.EachLife.{Life}
 use Rattle.law_order.specs.Prefix.Law.{AreLives, BeginsBehind, BeginsWithKept, first_of, kept_of_all, map_of}
 use Rattle.law_order.specs.Tickets.Few.{HasFewCalls}
 use Rattle.law_program.specs.PlayedCalls.CrashReports.{IsReportOfKept}
+use Rattle.law_program.specs.PlayedCalls.EachLine.{IsUnswept}
 use Rattle.law_program.specs.PlayedCalls.FewCalls.{HasFewSeats, HasFewWith}
-use Rattle.law_program.specs.PlayedCalls.Interleaved.{AreFitting, IsLifeShown}
+use Rattle.law_program.specs.PlayedCalls.Interleaved.{AreFitting, HasNoTrim, IsLifeShown}
 use Rattle.law_program.specs.PlayedCalls.Noted.{AreNoted}
 
 -- ---- the lives of a run
@@ -52,6 +53,10 @@ PieceFits other = ⊤
 abbrev pub PiecesFit : List Piece → Type 0
 PiecesFit [] = ⊤
 PiecesFit (piece ∷ later) = PieceFits piece × PiecesFit later
+
+-- in this life the keeper has swept nothing, and turns don't sweep
+abbrev pub SweepsNone : {D : Type 0} → Life → PlayerState D → Type 0
+SweepsNone its player = IsUnswept its.bytes its.world its.events player
 
 -- a crash: the run as it strikes, the run behind its report, and the report
 pub record CrashTaken (D : Type 0) : Type 0 where
@@ -92,27 +97,33 @@ module _ {D : Type 0} (seen : D → List ℕ) (may_leave : D → List ℕ → Ty
       pub all : BeginsWithKept next (last ∷ before)
 
     -- The life in hand has gone on from its events to the crash, and ends there. The report is as said, and no image is refused but by the device.
-    pub record EndsLife (before after : RunInLives D) (over : Bool) (crash : CrashTaken D) : Type 0 where
+    pub record EndsLife (NoTrim : Type 0) (before after : RunInLives D) (over : Bool) (crash : CrashTaken D) : Type 0 where
       pub events : List Event
       pub since : List Event
       pub grown : events ≡ since ++ before.its.events
       pub shown : Shows (with_events before.its events) crash.struck.player
+      -- where no call is a trim, an unswept life stays so up to the crash
+      pub unswept : NoTrim → SweepsNone before.its before.run.player → SweepsNone (with_events before.its events) crash.struck.player
+      -- and the next life is unswept, behind what is left of the calls too
+      pub next_unswept : over ≡ false → NoTrim → SweepsNone after.its after.run.player
       pub report : over ≡ false → ReportsAllKept (with_events before.its events) before.before after.its crash
       pub refusal : over ≡ true → crash.report ≡ last_refusal Device
       pub lives : over ≡ false → after.before ≡ with_events before.its events ∷ before.before
 
     -- or the life goes on from its events
-    pub record StaysInLife (before after : RunInLives D) : Type 0 where
+    pub record StaysInLife (NoTrim : Type 0) (before after : RunInLives D) : Type 0 where
       pub events : List Event
       pub since : List Event
       pub grown : events ≡ since ++ before.its.events
       pub same : after.its ≡ with_events before.its events
       pub lives : after.before ≡ before.before
       pub shown : Shows after.its after.run.player
+      -- where no call is a trim, an unswept life stays so
+      pub unswept : NoTrim → SweepsNone before.its before.run.player → SweepsNone after.its after.run.player
 
-    abbrev pub EndsLifeWhere : Bool → RunInLives D → RunInLives D → Bool → CrashTaken D → Type 0
-    EndsLifeWhere true before after over crash = EndsLife before after over crash
-    EndsLifeWhere false before after over crash = StaysInLife before after
+    abbrev pub EndsLifeWhere : Bool → Type 0 → RunInLives D → RunInLives D → Bool → CrashTaken D → Type 0
+    EndsLifeWhere true NoTrim before after over crash = EndsLife NoTrim before after over crash
+    EndsLifeWhere false NoTrim before after over crash = StaysInLife NoTrim before after
 
     -- ---- a piece, as it is played
     -- whether a crash strikes in it
@@ -132,7 +143,7 @@ module _ {D : Type 0} (seen : D → List ℕ) (may_leave : D → List ℕ → Ty
     abbrev pub IsPieceOverLives : Piece → RunInLives D → RunInLives D → Bool → List ℕ → Type 0
     IsPieceOverLives piece before after over text =
         (played : IsPiece medium settings piece before.run after.run over text)
-        × EndsLifeWhere (struck_in piece before.run after.run over text played) before after over (crash_in piece before.run after.run over text played)
+        × EndsLifeWhere (struck_in piece before.run after.run over text played) (HasNoTrim piece) before after over (crash_in piece before.run after.run over text played)
 
     -- ---- a run
     -- Its pieces have led to these lives, and no check of them has differed.
@@ -152,7 +163,7 @@ module _ {D : Type 0} (seen : D → List ℕ) (may_leave : D → List ℕ → Ty
     -- And so is a crash that is taken then.
     abbrev pub CrashEndsLives : RunInLives D → RunState D → Bool → List ℕ → Type 0
     CrashEndsLives before behind over text =
-        (next : Life) × (lives : List Life) × EndsLife before (record { its = next; before = lives; run = behind }) over (record { struck = before.run; behind = behind; report = text })
+        (next : Life) × (lives : List Life) × EndsLife ⊤ before (record { its = next; before = lives; run = behind }) over (record { struck = before.run; behind = behind; report = text })
 
     abbrev pub CrashesEndLives : Type 0
     CrashesEndLives =

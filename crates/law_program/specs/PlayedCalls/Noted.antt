@@ -49,8 +49,8 @@ CallsMakeIdleQueues = (calls : List ActorCall) (queues : List QueueState) → Ar
 
 -- ---- beats
 -- The life has gone on, and the player has noted it. No call is left in hand.
-pub record HasNotedOn {D : Type 0} (seen : D → List ℕ) (may_leave : D → List ℕ → Type 0) (kept : List HistoryEntry) (bytes : List ℕ) (o : Opened) (first : Now) (life : List Event) (to_begin : ℕ) (before after : PlayerState D) (left : List QueueState) : Type 0 where
-  pub gone : HasGoneOn seen may_leave bytes o first life to_begin after left
+pub record HasNotedOn {D : Type 0} (seen : D → List ℕ) (may_leave : D → List ℕ → Type 0) (kept : List HistoryEntry) (bytes : List ℕ) (o : Opened) (first : Now) (life : List Event) (to_begin : ℕ) (before after : PlayerState D) (queues left : List QueueState) : Type 0 where
+  pub gone : HasGoneOn seen may_leave bytes o first life to_begin before after queues left
   pub keeps : after.keeps_history ≡ before.keeps_history
   pub noted : IsNoted kept bytes first gone.later after
   pub idle : AreIdle left
@@ -61,20 +61,21 @@ GroupsAreNoted {D} seen may_leave engine =
     (kept : List HistoryEntry) (bytes : List ℕ) (o : Opened) (first : Now) (life : List Event) (before after : PlayerState D) (queues left : List QueueState) (struck : Bool) (text : List ℕ)
     → IsLifeShown seen may_leave bytes o first life before → IsNoted kept bytes first life before → QueuesFit queues → AreIdle queues
     → IsGroup engine (record { player = before; queues = queues }) (record { player = after; queues = left }) struck text
-    → HasNotedOn seen may_leave kept bytes o first life (left_in queues) before after left
+    → HasNotedOn seen may_leave kept bytes o first life (left_in queues) before after queues left
 
 -- and by each finish
 abbrev pub FinishesAreNoted : {D : Type 0} → (D → List ℕ) → (D → List ℕ → Type 0) → (events.Event → WorldModel D → WorldModel D → Option tells.Told → Bool → Type 0) → Type 0
 FinishesAreNoted {D} seen may_leave engine =
     (kept : List HistoryEntry) (bytes : List ℕ) (o : Opened) (first : Now) (life : List Event) (before after : PlayerState D) (outcome : Outcome) (text : List ℕ)
     → IsLifeShown seen may_leave bytes o first life before → IsNoted kept bytes first life before → IsFinish engine before after outcome text
-    → HasNotedOn seen may_leave kept bytes o first life (length (rounds most_rounds (round_of before.seats))) before after []
+    → HasNotedOn seen may_leave kept bytes o first life (length (rounds most_rounds (round_of before.seats))) before after [] []
 
--- a line that fails a device, or crashes it, changes nothing of it
+-- a line that fails a device, or crashes it, changes nothing of it, nor whether turns sweep
 pub record KeepsNotes {D : Type 0} (before after : PlayerState D) : Type 0 where
   pub now : after.world.now ≡ before.world.now
   pub history : after.history ≡ before.history
   pub keeps : after.keeps_history ≡ before.keeps_history
+  pub sweeps : after.sweeps ≡ before.sweeps
 
 abbrev pub ArmsKeepNotes : {D : Type 0} → (ℕ → Waits → PlayerState D → PlayerState D → Type 0) → Type 0
 ArmsKeepNotes {D} armed = (count : ℕ) (waits : Waits) (before after : PlayerState D) → armed count waits before after → KeepsNotes before after

@@ -13,9 +13,9 @@ use Rattle.fkv_runs.specs.declared.pieces.Piece.{Piece}
 use Rattle.fkv_runs.specs.declared.pieces.Piece.TheVariants.{Group, Finish}
 use Rattle.fkv_runs.specs.declared.settings.Settings.{Settings}
 use Rattle.law_order.specs.Below.fkv_world.World.{Event, Now}
-use Rattle.law_program.specs.PlayedCalls.EachLine.{IsFinishCutShort, IsFinishInLife, IsLifeOver, IsPlayedInLife, IsRefusedLine, ItsNumbersFit}
+use Rattle.law_program.specs.PlayedCalls.EachLine.{IsFinishCutShort, IsFinishInLife, IsLifeOver, IsPlayedInLife, IsRefusedLine, IsUnswept, ItsNumbersFit}
 use Rattle.law_program.specs.PlayedCalls.FewCalls.{HasFewSeats, HasFewWith}
-use Rattle.law_program.specs.PlayedCalls.Interleaved.{IsLifeShown}
+use Rattle.law_program.specs.PlayedCalls.Interleaved.{HasNoTrim, IsLifeShown}
 use Rattle.law_program.specs.PlayedCalls.Lives.{IsNextLife}
 
 -- the life in hand: the bytes with which it began, the store that they hold, its first world, and its events so far
@@ -68,12 +68,14 @@ module _ {D : Type 0} (seen : D → List ℕ) (may_leave : D → List ℕ → Ty
   module _ (medium : Medium D) (settings : Settings) where
     -- The life in hand has gone on to the crash, and shows the player as that strikes, whatever call is in hand. The image is one that a crash may leave of its
     -- device. The report is of the store that the image holds, and the next life begins with it; or the run ends with a refusal.
-    pub record IsReported (its next : LifeInHand) (after : PlayerState D) (over : Bool) (text : List ℕ) : Type 0 where
+    pub record IsReported (NoTrim : Type 0) (its next : LifeInHand) (before after : PlayerState D) (over : Bool) (text : List ℕ) : Type 0 where
       pub struck : PlayerState D
       pub events : List Event
       pub since : List Event
       pub grown : events ≡ since ++ its.events
       pub shown : IsLifeShown seen may_leave its.bytes its.opened its.first events struck
+      -- where no call is a trim, an unswept life stays so up to the crash
+      pub unswept : NoTrim → IsUnswept its.bytes its.first its.events before → IsUnswept its.bytes its.first events struck
       pub left : may_leave struck.world.device (medium.image struck.world.device settings.torn)
       pub goes_on : over ≡ false → (agrees : Bool) × (report : IsNextLife seen may_leave medium.holds (medium.image struck.world.device settings.torn) settings.checks agrees after text)
           × (next ≡ record { bytes = medium.image struck.world.device settings.torn; opened = report.opened; first = after.world.now; events = [] })
@@ -83,7 +85,7 @@ module _ {D : Type 0} (seen : D → List ℕ) (may_leave : D → List ℕ → Ty
       pub said : List ℕ
       pub reported : List ℕ
       pub up_to : SaysUpTo piece its before.player said
-      pub crash : IsReported its next after.player over reported
+      pub crash : IsReported (HasNoTrim piece) its next before.player after.player over reported
       pub says : text ≡ said ++ reported
 
     abbrev pub IsPieceInLives : Piece → LifeInHand → LifeInHand → RunState D → RunState D → Bool → List ℕ → Type 0
@@ -91,7 +93,7 @@ module _ {D : Type 0} (seen : D → List ℕ) (may_leave : D → List ℕ → Ty
 
     -- a crash that still is to come behind the last piece is reported so, of the life in hand
     abbrev pub DueIsReported : LifeInHand → RunState D → Type 0
-    DueIsReported its last = (after : RunState D) (over : Bool) (text : List ℕ) → IsCrashed medium settings last after over text → (next : LifeInHand) × IsReported its next after.player over text
+    DueIsReported its last = (after : RunState D) (over : Bool) (text : List ℕ) → IsCrashed medium settings last after over text → (next : LifeInHand) × IsReported ⊤ its next last.player after.player over text
 
     -- one behind the other
     abbrev pub ArePlayedInLives : List Piece → LifeInHand → RunState D → RunState D → Bool → List ℕ → Type 0

@@ -1,5 +1,5 @@
 -- The law, by those of noted calls, of lives and of prefixes.
-use Rattle.law_program.proofs.OfPlayedCalls.AllLives.{ByLaws, all_lives}
+use Rattle.law_program.proofs.OfPlayedCalls.AllLives.{all_lives}
 use Rattle.law_program.proofs.OfPlayedCalls.NewStores.{new_is_empty}
 use Rattle.law_program.proofs.all_lives.law_all_lives.Goals as goal
 
