@@ -9,6 +9,7 @@ use Rattle.law_order.specs.Below.fkv_creating.Created.{IsCreated}
 use Rattle.fkv_disk.specs.Calls.{MayLeave, ReadsAs}
 use Rattle.fkv_disk.specs.Fuses.{fuse_device, fuse_state}
 use Rattle.fkv_disk.specs.Fuse.{FuseLeaves}
+use Rattle.fkv_disk.specs.declared.fuses.Fuse.{Fuse}
 use Rattle.fkv_disk.specs.declared.fuses.FuseState.{FuseState}
 use Rattle.fkv_runs.specs.Below.fkv_playing.Finishes.{most_rounds, round_of, rounds}
 use Rattle.fkv_map.specs.History.{content, kept}
@@ -514,6 +515,7 @@ arming_shown {D} seen may_leave count waits its before after armed shown =
       opening = shown.opening;
       fits = shown.fits;
       shows = shown.shows ∙ sym armed.now;
+      begins = λ none. ap (λ (x : PlayerState (Fuse D)). x.sweeps) armed.same ∙ shown.begins none;
       device = record {
         reads = subst (λ (x : D). ReadsAs (run (beginning its.world its.bytes) its.events).past.opened (run (beginning its.world its.bytes) its.events).past.calls (seen x)) (sym armed.device) device.reads;
         leaves = λ image left. device.leaves image

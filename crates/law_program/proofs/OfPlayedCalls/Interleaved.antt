@@ -218,7 +218,7 @@ module _ {D : Type 0} (seen : D → List ℕ) (may_leave : D → List ℕ → Ty
         since = led.event ∷ [];
         grown = refl;
         shown = (
-          record { store = now.store; opening = now.opening; fits = (event_fits at call led.event fit.0 led.is_at, now.fits); shows = shows.shows; device = shows.device },
+          record { store = now.store; opening = now.opening; fits = (event_fits at call led.event fit.0 led.is_at, now.fits); shows = shows.shows; device = shows.device; begins = λ none. cc },
           λ none unswept. led.unswept (fit.1 none) (was.1 none unswept),
         );
         counted = event_counted at call led.event life led.is_at;
@@ -333,4 +333,4 @@ groups_go_on seen may_leave engine leads bytes o first life before after queues 
 pub quiet_shown : {D : Type 0} (seen : D → List ℕ) (may_leave : D → List ℕ → Type 0) → QuietLivesAreShown seen may_leave
 quiet_shown seen may_leave bytes o first life player over =
     let quiet = over.quiet in
-    (record { store = quiet.store; opening = quiet.opening; fits = quiet.fits; shows = quiet.shows; device = over.device }, quiet.few)
+    (record { store = quiet.store; opening = quiet.opening; fits = quiet.fits; shows = quiet.shows; device = over.device; begins = over.begins }, quiet.few)

@@ -276,7 +276,7 @@ module _ {D : Type 0} (seen : D → List ℕ) (may_leave : D → List ℕ → Ty
       record {
         event = event;
         is_at = is;
-        shown = record { store = was.store; opening = was.opening; fits = (event_fits at call event fit is, was.fits); shows = on.shows; device = on.device };
+        shown = record { store = was.store; opening = was.opening; fits = (event_fits at call event fit is, was.fits); shows = on.shows; device = on.device; begins = λ none. cc };
         keeps = keeps;
         noted = record {
           goes_on = ap (λ (x : Now). x.crashed) (sym on.shows) ∙ (ap (λ (x : World). x.now.crashed) same ∙ happens_alive at call event w is alive);

@@ -1,5 +1,5 @@
 -- A life goes on by whatever beats of calls, interleaved ones too.
-use Rattle.std.specs.Prelude.{◌≡◌, ◌≢◌, ◌≤◌, ◌+◌, ⊤, ℕ, Bool, List, [], ◌∷◌, ◌++◌, length, Option, Some, None}
+use Rattle.std.specs.Prelude.{◌≡◌, ◌≢◌, ◌≤◌, ◌+◌, ⊤, ℕ, Bool, false, List, [], ◌∷◌, ◌++◌, length, Option, Some, None}
 use Rattle.law_order.specs.Below.fkv_core.Openings.{IsOpeningWorld, beginning}
 use Rattle.law_order.specs.Below.fkv_core.Worlds.{WorldModel}
 use Rattle.law_order.specs.Below.fkv_core.Event as events
@@ -23,13 +23,14 @@ use Rattle.law_order.specs.Tickets.Few.{HasFewCalls, calls_in}
 use Rattle.law_program.specs.PlayedCalls.EachLine.{IsLifeOver, IsUnswept, ItsNumbersFit}
 use Rattle.law_program.specs.PlayedCalls.FewCalls.{left_in}
 
--- A life of a store that these bytes hold shows the player's world and its device, whatever calls are in hand.
+-- A life of a store that these bytes hold shows the player's world and its device, whatever calls are in hand. As it begins, turns don't sweep.
 pub record IsLifeShown {D : Type 0} (seen : D → List ℕ) (may_leave : D → List ℕ → Type 0) (bytes : List ℕ) (o : Opened) (first : Now) (life : List Event) (player : PlayerState D) : Type 0 where
   pub store : IsStoreOf bytes o
   pub opening : IsOpeningWorld o first
   pub fits : CallsFit life
   pub shows : (run (beginning first bytes) life).now ≡ player.world.now
   pub device : IsAfter (run (beginning first bytes) life).past.opened (run (beginning first bytes) life).past.calls (seen player.world.device) (may_leave player.world.device)
+  pub begins : life ≡ [] → player.sweeps ≡ false
 
 -- so does one in which no call is in hand
 abbrev pub QuietLivesAreShown : {D : Type 0} → (D → List ℕ) → (D → List ℕ → Type 0) → Type 0
