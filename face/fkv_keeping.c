@@ -19,6 +19,8 @@ enum {
      */
     HASTE_US = 500,
     HASTE_TURN_US = 20,
+    /* A turn of a full commit that takes so long has copied a part of the index. */
+    COPY_TURN_US = 40,
     /* So long a commit waits for turns that sweep the log's front, behind the one before. */
     SWEEPS_US = 10000,
     /* While no session is joined, which is told at once. */
@@ -266,6 +268,14 @@ static void tell_untrimmed(fkv_file *file, int why) {
     pthread_mutex_lock(&file->lock);
 }
 
+/*
+ * Whether the turn that began then has copied a part of the index. The next one copies more, so no rest comes between: until the copy is done each
+ * key's first update goes the long way.
+ */
+static bool has_copied(const struct run *run, struct timespec began) {
+    return run->file->in_hand && run->is_full && run->written == 0 && fkv_since(began) >= COPY_TURN_US;
+}
+
 /* A turn, and what it has come to. The file's lock is held, but while the turn goes on. */
 static void go_on(struct run *run) {
     fkv_file *file = run->file;
@@ -286,6 +296,7 @@ static void go_on(struct run *run) {
     pthread_mutex_unlock(&file->lock);
     if (begins) tell_progress(run, &turn);
     tell_turn_fn *tell = commits ? tell_progress : NULL;
+    struct timespec began = fkv_now();
     int32_t result = goes_on ? fkv_make_turn(file, &turn, tell, run) : sweeps ? fkv_sweep_turn(file, &turn, tell, run) : fkv_serve_turn(file, &turn, tell, run);
     if (sweeps && result == FKV_OVER) fkv_note_swept(file, &turn);
     bool is_finished = result == FKV_OVER && turn.turned.finished;
@@ -294,7 +305,7 @@ static void go_on(struct run *run) {
     run->written += turn.written;
     run->copied += turn.copied;
     /* What was let go on does so in the next turn. Who waits for a read makes its turns, and would only find this thread in the way. */
-    run->has_called = goes_on || (sweeps && result == FKV_OVER && file->trimmer.has_more) || fkv_gives_back(file) || (turn.has_called && (turn.written > 0 || commits || !is_helped));
+    run->has_called = goes_on || has_copied(run, began) || (sweeps && result == FKV_OVER && file->trimmer.has_more) || fkv_gives_back(file) || (turn.has_called && (turn.written > 0 || commits || !is_helped));
     pthread_mutex_lock(&file->lock);
     if (is_finished) file->in_hand = false;
     fkv_end_turn(file, &turn, result);
