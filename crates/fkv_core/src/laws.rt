@@ -21,8 +21,8 @@ pub fn law_crash_has_crashed()
     ensures crashed { (n : Now) (read : List ℕ) (granted done : Bool) → (happens_now n read (took_place Crash granted done)).crashed ≡ true }
 {}
 
-/// Where the keeper sweeps nothing in a life, its log begins where it did as the store was opened. So it is of each life that the steps of a world lead on, if none
-/// of them is a `SweepMove`: the others begin no sweep.
+/// Where the keeper sweeps nothing in a life, its log begins where it did as the store was opened. So it is of each life that the steps of a world lead
+/// on without a `SweepMove`: the others begin no sweep.
 pub fn law_unswept()
     ensures { UnsweptLivesKeepBegin }
 {}
