@@ -46,6 +46,15 @@ copy_step_ask base LoadsLink = Load (base + bucket_slots)
 abbrev pub copy_ask : Copying → Ask (Unit {0})
 copy_ask c = copy_step_ask c.base c.step
 
+-- the place of the word that each state loads, if it loads one
+unfoldable pub step_word_due : ℕ → CopyStep → Option ℕ
+step_word_due base Ended = None
+step_word_due base (LoadsSlot slot) = Some (base + slot)
+step_word_due base LoadsLink = Some (base + bucket_slots)
+
+abbrev pub copy_word_due : Copying → Option ℕ
+copy_word_due c = step_word_due c.base c.step
+
 -- behind the last slot comes the link
 abbrev pub slot_after : ℕ → CopyStep
 slot_after slot = if nat_lt (slot + 1) bucket_slots then LoadsSlot (slot + 1) else LoadsLink

@@ -4,7 +4,7 @@ ghost use Rattle.fkv_base.specs.declared.faults.Fault.TheVariants.{Memory};
 ghost use Rattle.fkv_index.specs.Slots.{bucket_slots};
 ghost use Rattle.fkv_index.specs.Counted.{IsCounted};
 ghost use Rattle.fkv_checkpoint.specs.Triples.{copied_list, all_bytes};
-ghost use Rattle.fkv_checkpoint.specs.Copying.{copy_begun, bucket_entered, copy_ask, slot_after, link_led, copy_next, slot_copied, copied_at, copy_after, copy_asks_left, copy_rests, is_parted, IsCopyingInRange};
+ghost use Rattle.fkv_checkpoint.specs.Copying.{copy_begun, bucket_entered, copy_ask, slot_after, link_led, copy_next, slot_copied, copied_at, copy_after, copy_asks_left, copy_rests, copy_word_due, is_parted, IsCopyingInRange};
 
 use crate::triple_buffers::TripleBuffer;
 use fkv_base::Fault;
@@ -111,6 +111,7 @@ impl IndexCopy {
     }
 
     /// Goes on with the reply to its ask. At its end it stays where it is.
+    #[inline]
     pub fn drive(&mut self, reply: u64) -> Ask<()>
         ensures next { self.new ≡ copy_after self.old reply }
         ensures ask { result ≡ copy_ask (copy_next self.old.places self.old.copying reply) }
@@ -124,6 +125,7 @@ impl IndexCopy {
     }
 
     /// What it asks now.
+    #[inline]
     #[tactic(auto, unfolding(crate::specs::Copying::copy_step_ask, crate::specs::Copying::step_asks_left))]
     pub fn ask(&self) -> Ask<()>
         ensures ask { result ≡ copy_ask self.now.copying }
@@ -134,6 +136,20 @@ impl IndexCopy {
             CopyStep::Ended => Ask::Done(()),
             CopyStep::LoadsSlot(slot) => Ask::Load(c.base + slot),
             CopyStep::LoadsLink => Ask::Load(c.base + BUCKET_SLOTS),
+        }
+    }
+
+    /// The place of the word that it loads, if it loads one.
+    #[inline(always)]
+    #[tactic(auto, unfolding(crate::specs::Copying::step_word_due))]
+    pub fn word_due(&self) -> Option<usize>
+        ensures { result ≡ copy_word_due self.now.copying }
+    {
+        let c = self.copying;
+        match c.step {
+            CopyStep::Ended => None,
+            CopyStep::LoadsSlot(slot) => Some(c.base + slot),
+            CopyStep::LoadsLink => Some(c.base + BUCKET_SLOTS),
         }
     }
 

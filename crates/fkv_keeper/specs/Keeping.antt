@@ -21,7 +21,7 @@ use Rattle.fkv_plane.specs.declared.places.Places.{Places}
 use Rattle.fkv_plane.specs.declared.places.SharedWord.TheVariants as one
 use Rattle.fkv_plane.specs.Passing.{passed}
 use Rattle.fkv_plane.specs.Places.{shared_place}
-use Rattle.fkv_checkpoint.specs.Copying.{Copier, copy_begun, copy_ask, copy_after, copy_rests}
+use Rattle.fkv_checkpoint.specs.Copying.{Copier, copy_begun, copy_ask, copy_after, copy_rests, copy_word_due}
 use Rattle.fkv_checkpoint.specs.Triples.{all_bytes}
 use Rattle.fkv_commit.specs.declared.commits.Commit.{Commit}
 use Rattle.fkv_base.specs.declared.commits.CommitKind.{CommitKind}
@@ -115,6 +115,11 @@ pub record KeeperModel : Type 0 where
 abbrev pub copy_asked : Option Copier → Ask (Unit {0})
 copy_asked None = Done tt
 copy_asked (Some m) = copy_ask m.copying
+
+-- the place of the word that it loads, where there is one
+abbrev pub copy_due : Option Copier → Option ℕ
+copy_due None = None
+copy_due (Some m) = copy_word_due m.copying
 
 -- whether the copy rests: the turn ends there, and a later one takes it up
 abbrev pub is_copy_resting : Option Copier → Bool
@@ -223,9 +228,10 @@ start_ledto s (Done (start.Refused why)) = ended s (CommitRefused why)
 start_ledto s (Done start.Idle) = ended s (CommitRefused fault.CommitRunning)
 start_ledto s ask = s
 
--- the place of the word that its flush loads of a record, or that its sweep loads, if it loads one
+-- the place of the word that its flush loads of a record, or that its copy of the index or its sweep loads, if it loads one
 abbrev pub word_due_at : Places → KeeperState → Keeping → Option ℕ
 word_due_at p s Maintains = maintain_word_due p s.maintain
+word_due_at p s Copies = copy_due s.copy
 word_due_at p s Sweeps = sweep_word_due s.sweep
 word_due_at p s step = None
 

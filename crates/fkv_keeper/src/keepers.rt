@@ -368,19 +368,21 @@ impl Keeper {
         device_passed(ask, KeeperTold::Turned(false, self.is_drain_full))
     }
 
-    /// The place of the word that its flush loads of a record, or that its sweep loads, if it loads one.
+    /// The place of the word that its flush loads of a record, or that its copy of the index or its sweep loads, if it loads one.
     #[inline(always)]
     pub fn word_due(&self) -> Option<usize>
         ensures { result ≡ keeper_word_due self.now.places self.now.state }
     {
         match self.step {
             Keeping::Maintains => self.maintain.word_due(),
+            Keeping::Copies => self.copy_word_due(),
             Keeping::Sweeps => self.sweep.word_due(),
             _ => None,
         }
     }
 
-    /// Goes on with the word that was due, as `go_on` does, and doesn't tell what it asks. A flush loads three words of each record, and a sweep some more.
+    /// Goes on with the word that was due, as `go_on` does, and doesn't tell what it asks. A flush loads three words of each record, a sweep some more, and a
+    /// copy eight of each bucket.
     #[inline(always)]
     #[tactic(auto, using(crate::proofs::GoesOn::word_goes_on, crate::proofs::GoesOn::led_through), unfolding(crate::specs::Keeping::keeping_next))]
     pub fn keep(&mut self, word: u64)
@@ -389,6 +391,10 @@ impl Keeper {
     {
         match self.step {
             Keeping::Maintains => self.maintain.keep(word),
+            Keeping::Copies => {
+                let ask = copy_driven(&mut self.copy, word);
+                self.after_copy(ask);
+            }
             Keeping::Sweeps => {
                 self.sweep.keep(word);
                 if self.sweep.is_through() {

@@ -5,7 +5,7 @@ ghost use Rattle.fkv_disk.specs.Asks.{asked_call, first_asked};
 ghost use Rattle.fkv_manifest.specs.Committing.{commit_answer};
 ghost use Rattle.fkv_manifest.specs.Devices.{next_made};
 ghost use Rattle.fkv_manifest.specs.Made.{with_call};
-ghost use Rattle.fkv_keeper.specs.Keeping.{device_passed, end_told, write_asked, copy_asked, copy_driven, copy_told, is_copy_resting, points_known, ended, turned, turned_full, start_ledto, maintain_ledto, broken, granted_for, must_rest, parts_begun, serves_alone, phase_ledto, part_begun, rested, writes_taken_up, sweeps_next, sweep_ledto, sweep_passed, sweep_set, may_set, begin_next, copies_next, copies, enter_ledto, copy_ledto, seek_ledto, wait_ledto, writes_begun, gate_writes_of, write_ledto, finish_ledto, finished, no_writes, checkpoint_used, triples_written, lost_left};
+ghost use Rattle.fkv_keeper.specs.Keeping.{device_passed, end_told, write_asked, copy_asked, copy_driven, copy_told, copy_due, is_copy_resting, points_known, ended, turned, turned_full, start_ledto, maintain_ledto, broken, granted_for, must_rest, parts_begun, serves_alone, phase_ledto, part_begun, rested, writes_taken_up, sweeps_next, sweep_ledto, sweep_passed, sweep_set, may_set, begin_next, copies_next, copies, enter_ledto, copy_ledto, seek_ledto, wait_ledto, writes_begun, gate_writes_of, write_ledto, finish_ledto, finished, no_writes, checkpoint_used, triples_written, lost_left};
 
 use crate::answers::KeeperTold;
 use crate::keepers::{Keeper, Keeping};
@@ -32,6 +32,7 @@ pub(crate) fn no_writes(alloc: Global) -> CommitWrites
 }
 
 /// Drives the copy with the reply to its ask, where there is one. Where it then rests nothing more is asked in this turn.
+#[inline]
 pub(crate) fn copy_driven(copy: &mut Option<IndexCopy>, reply: u64) -> Ask<()>
     ensures next { copy.new ≡ copy_driven copy.old reply }
     ensures ask { result ≡ copy_told copy.new }
@@ -106,6 +107,17 @@ impl Keeper {
         match &self.copy {
             Some(copy) => copy.ask(),
             None => Ask::Done(()),
+        }
+    }
+
+    /// The place of the word that the copy loads, where there is one.
+    #[inline]
+    pub(crate) fn copy_word_due(&self) -> Option<usize>
+        ensures { result ≡ copy_due self.now.state.copy }
+    {
+        match &self.copy {
+            Some(copy) => copy.word_due(),
+            None => None,
         }
     }
 
