@@ -65,14 +65,23 @@ static uint64_t leaving(const fkv_shape *shape, const fkv_offsets *at, uint64_t 
     return opened > shape->frames ? least((opened - shape->frames) * shape->page, at->safe_read_only) : 0;
 }
 
-/* So far it has to have come, so that turns go on in other threads too, and users take what room there is. */
+/* So far it goes without rests, while no commit waits for sessions. */
 static uint64_t wanted(const fkv_shape *shape, const fkv_offsets *at) { return leaving(shape, at, records_ahead(shape) / 4 * 3); }
+
+/*
+ * So far it has to have come, so that turns go on in other threads too, and users take what room there is. A record is read-only for so many
+ * appended ones before it leaves memory as there are read-only pages but one. It may use half of them.
+ */
+static uint64_t needed(const fkv_shape *shape, const fkv_offsets *at) {
+    uint64_t read_only = shape->frames - least(shape->frames, shape->mutable_pages + 1);
+    return leaving(shape, at, least(records_ahead(shape) / 4 * 3, read_only * shape->page / 2));
+}
 
 bool fkv_awaits_warmer(fkv_file *file) {
     uint64_t warmed = atomic_load_explicit(&file->warmed, memory_order_relaxed);
     fkv_offsets at;
     if (warmed == UINT64_MAX || fkv_hint_store(&file->store, &at) < 0) return false;
-    return most(warmed, at.head) < wanted(&file->shape, &at);
+    return most(warmed, at.head) < needed(&file->shape, &at);
 }
 
 /* ---- Its session ---------------------------------------------------------------------------------------------------------------- */
@@ -190,11 +199,11 @@ static uint64_t thread_us(void) {
     return (uint64_t)time.tv_sec * 1000000 + (uint64_t)time.tv_nsec / 1000;
 }
 
-/* The same, without a rest. Users let it go first meanwhile. */
-static void hurry(fkv_file *file, uint64_t to) {
+/* The same, without a rest. If it is behind, users let it go first meanwhile. */
+static void hurry(fkv_file *file, uint64_t to, bool is_behind) {
     uint64_t begun = thread_us();
     file->warmer.rests_until = (struct timespec){0, 0};
-    atomic_store(&file->is_behind, !file->warmer.is_crowded);
+    if (is_behind) atomic_store(&file->is_behind, !file->warmer.is_crowded);
     do go_over(file, to, HURRY);
     while (may_keep(file) && file->warmer.next < to && thread_us() - begun < HURRY_US);
 }
@@ -280,11 +289,12 @@ static void work(fkv_file *file, const fkv_offsets *at, uint64_t ahead) {
 static void step(fkv_file *file, const fkv_offsets *at, bool has_time) {
     struct warmer *its = &file->warmer;
     const fkv_shape *shape = &file->shape;
-    uint64_t late = wanted(shape, at), ahead = leaving(shape, at, records_ahead(shape));
+    uint64_t least_far = needed(shape, at), ahead = leaving(shape, at, records_ahead(shape));
+    uint64_t late = has_time ? wanted(shape, at) : least_far;
     its->next = most(its->next, at->head);
     /* (before something is appended nothing leaves memory) */
     if (at->tail == its->begun) ahead = late = 0;
-    if (its->next < late) hurry(file, late);
+    if (its->next < late) hurry(file, late, its->next < least_far);
     else if (has_time) work(file, at, ahead);
     its->has_more = its->next < late || (has_time && (its->next < ahead || has_found(file, at)));
 }
@@ -303,6 +313,6 @@ void fkv_warm(fkv_file *file, bool has_time) {
     bool is_stuck = its->is_awake && fkv_since(its->waits) >= STUCK_US;
     bool is_awaited = goes_on && its->is_on && at.tail != its->begun && !its->is_crowded && !is_stuck;
     atomic_store_explicit(&file->warmed, is_awaited ? its->next : UINT64_MAX, memory_order_relaxed);
-    bool is_behind = is_awaited && its->next < wanted(&file->shape, &at);
+    bool is_behind = is_awaited && its->next < needed(&file->shape, &at);
     if (is_behind != atomic_load_explicit(&file->is_behind, memory_order_relaxed)) atomic_store(&file->is_behind, is_behind);
 }
