@@ -402,7 +402,7 @@ module _ {K : Type 0} (at : K → World) where
       let behind : ended_by_device k1.state.step ≡ false = ap (λ (s : KeeperState). ended_by_device s.step) replied.state ∙ next_none k.shape k.places k.state _ granted on in
       settled_none me1 me' k1 k' ask is behind settled ∙ sym (asks_none k.shape k.places k.state on)
 
--- a record's word that the flush loads
+-- a word that a flush, a copy or a sweep loads
 pub word_none : (k k' : KeeperModel) (place word : ℕ) → keeper_word_due k.places k.state ≡ Some place → k' ≡ record k { state = keeper_next k.shape k.places k.state word false } → ended_by_device k'.state.step ≡ ended_by_device k.state.step
 word_none k k' place word due is =
     let on : is_done (keeper_ask k.shape k.places k.state) ≡ false = ap is_done (due_asks k.shape k.places k.state place due) in

@@ -279,7 +279,7 @@ fn step<D: Device>(
     settle(words, seat, machine, next)
 }
 
-/// Loads the record's word that the flush is at: one step of the keeper, which asks for no memory and moves no action.
+/// Loads the word that a flush, a copy of the index or a sweep is at: one step of the keeper, which asks for no memory and moves no action.
 #[inline(always)]
 fn load_word<D: Device>(
     words: &Words<D>,
@@ -305,7 +305,7 @@ fn load_word<D: Device>(
     machine.keep(word);
 }
 
-/// Loads the words of records that the flush is at, up to the write of their part. The machine tells each place, and isn't asked between two of them.
+/// Loads such words, as long as one is due. The machine tells each place, and isn't asked between two of them.
 fn load_words<D: Device>(words: &Words<D>, seat: &mut Place<D>, machine: &mut fkv_keeper::Keeper)
     requires table { (seat.old.table_id ≡ words.now.table_id) × said.IsTableOf (said.opening_of D.seen words.now.key) words.now.table_id }
     requires keeping { said.IsKeeping (said.opening_of D.seen) words.now.key seat.old.me machine.old }
