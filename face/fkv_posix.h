@@ -86,7 +86,7 @@ typedef struct {
     uint64_t keys;                   /* keys that it will have; 65,536 */
     uint64_t sessions;               /* threads that use it at once, at most 31; 8. A turn takes 0.1 microseconds for each */
     uint64_t memory_bytes;           /* memory that it may take once it is open, at most; as its keys want: some 250 bytes for each */
-    uint64_t updates_between_commits; /* keys that are updated between two commits; all of them. The page and the log go by it */
+    uint64_t updates_between_commits; /* keys that are updated between two commits; all of them. The page goes by it */
     uint64_t log_bytes;              /* as in fkv_keeping, which goes before it; of fkv_open_or_make */
 } fkv_wish;
 
@@ -94,7 +94,7 @@ typedef struct {
 typedef struct {
     uint64_t memory_bytes;  /* while it is open, with the copy that a full commit makes */
     uint64_t opening_bytes; /* about: at the height of an opening, where all these keys are there. The file's bytes come on top */
-    uint64_t file_bytes;    /* of its file, at most. It grows as the log does: 24 bytes a record */
+    uint64_t file_bytes;    /* of its file, at most. It grows as the log does: 24 bytes a record. What is given back of it takes none (fkv_start) */
     uint64_t keys;          /* that fit, all but surely: by buckets, overflow buckets, and one spare of these for each session but one */
     uint64_t records;       /* that calls may append in all the store's life. Others are left to polls (fkv_shape) */
 } fkv_size;
@@ -104,7 +104,7 @@ typedef struct {
  *
  * Two rules make a store fast. Memory holds all records between two touches of a key: a key's first update after a commit appends a record,
  * so a key that is touched at random wants memory for several records of each key. With less memory each touch reads the file first. And
- * the index has buckets for all keys: seven fit each, and the overflow buckets take the rest.
+ * the index has buckets for all keys: seven fit each, and the overflow buckets take the rest. The log has 2^30 pages, the most that there may be.
  * 0; -FKV_BAD_SHAPE: there are more keys or sessions than a store may be asked for, or memory is too small for the index.
  */
 int32_t fkv_shape_for(const fkv_wish *wish, fkv_shape *shape);

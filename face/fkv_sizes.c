@@ -20,7 +20,6 @@ enum {
     MOST_PAGE = 65536,
     MOST_FRAMES = 4096,
     MOST_BUCKET_BITS = 24,
-    USUAL_DISK_PAGES = 65536,
     RECORD_SIZE = 24,
     /* Words of a store: of its own, of a session, of a bucket, of a record. */
     STORE_WORDS = 24,
@@ -130,6 +129,7 @@ int32_t fkv_shape_for(const fkv_wish *wish, fkv_shape *shape) {
     uint64_t updated = wish->updates_between_commits ? least(wish->updates_between_commits, keys) : keys;
     uint64_t records = RECORDS_A_KEY * power_for(least(keys, UINT64_C(1) << 32));
     shape->sessions = wish->sessions ? wish->sessions : USUAL_SESSIONS;
+    /* What is given back of the log's front are bytes and not addresses. So the log has as many as there may be. */
     shape->page = MOST_PAGE, shape->disk_pages = MOST_DISK_PAGES;
     if (shape->sessions > FKV_MOST_JOINED) return -FKV_BAD_SHAPE;
     shape_index(shape, keys);
@@ -141,9 +141,6 @@ int32_t fkv_shape_for(const fkv_wish *wish, fkv_shape *shape) {
         records /= 2;
         shape_memory(shape, records, updated);
     }
-    /* There is room for so many commits as a specified store takes. Each may take a record for each of these keys, and others race for some. */
-    uint64_t pages = 2 * (updated * FKV_MOST_COMMITS / shape->page + 1);
-    shape->disk_pages = least(most(power_for(pages), USUAL_DISK_PAGES), MOST_DISK_PAGES);
     return 0;
 }
 

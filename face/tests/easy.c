@@ -16,7 +16,8 @@
 #include <time.h>
 #include <unistd.h>
 
-enum { OWN_KEYS = 8, WORKERS = 3, MOST_SECONDS = 240, PATH_ROOM = 500 };
+/* The log of a specified store has so many pages at most. */
+enum { OWN_KEYS = 8, WORKERS = 3, MOST_SECONDS = 240, PATH_ROOM = 500, SPECIFIED_PAGES = 65536 };
 
 static const char *folder;
 static atomic_bool syncs_fail, syncs_are_left_out;
@@ -203,11 +204,13 @@ static void note_stopped(void *its, int32_t fault) { atomic_store((atomic_int *)
 static void spent(void) {
     atomic_int stopped = 0;
     fkv_keeping keeping = {.log_commits = 100, .stopped = note_stopped, .user = &stopped};
+    fkv_shape shape;
     fkv_stats stats;
     uint64_t value, ticket;
     syncs_are_left_out = true;
-    open_at("spent", &(fkv_wish){.keys = 10, .sessions = 1}, NULL);
-    WANTS("closing a new store", fkv_close_file(file), 0);
+    WANTS("a shape", fkv_shape_for(&(fkv_wish){.keys = 10, .sessions = 1}, &shape), 0);
+    shape.disk_pages = SPECIFIED_PAGES;
+    WANTS("making a file", fkv_make_file(path_of("spent"), &shape), 0);
     specify("spent");
     open_at("spent", NULL, &keeping);
     fkv_session *session = joined(0);
@@ -409,6 +412,7 @@ static void sizes(void) {
     }
     WANTS("a shape of nothing", fkv_shape_for(NULL, &shape), 0);
     WANTS("its sessions", shape.sessions, 8);
+    WANTS("its pages on the disk", shape.disk_pages, UINT64_C(1) << 30);
     WANTS("its size", fkv_size_of(&shape, &size), 0);
     WANTS("its keys", size.keys >= 65536, true);
     WANTS("a shape of little memory", fkv_shape_for(&(fkv_wish){.keys = 100000, .memory_bytes = 16 << 20}, &shape), 0);
