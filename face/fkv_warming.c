@@ -11,6 +11,8 @@ enum {
     LEAST_FRAMES = 4,
     /* It works so far ahead of what leaves memory: one page of so many in memory, as far as these are read-only by then. */
     AHEAD = 4,
+    /* Users give way to it no later than so many records before what it hasn't come to leaves memory, as far as it works ahead at all. */
+    LEAST_MARGIN = 32768,
     /* It looks at so many records in a row, and keeps what it wants of them at once. */
     SLICE = FKV_MOST_PENDING,
     /* A record that it keeps takes it as long as so many more that it looks at. */
@@ -70,11 +72,13 @@ static uint64_t wanted(const fkv_shape *shape, const fkv_offsets *at) { return l
 
 /*
  * So far it has to have come, so that turns go on in other threads too, and users take what room there is. A record is read-only for so many
- * appended ones before it leaves memory as there are read-only pages but one. It may use half of them.
+ * appended ones before it leaves memory as there are read-only pages but one, or for more where a commit has made it so. It may use half of
+ * them. But of few it uses none: nobody gives way while the thread is in a call of the file, and users fill a page or two meanwhile.
  */
 static uint64_t needed(const fkv_shape *shape, const fkv_offsets *at) {
     uint64_t read_only = shape->frames - least(shape->frames, shape->mutable_pages + 1);
-    return leaving(shape, at, least(records_ahead(shape) / 4 * 3, read_only * shape->page / 2));
+    uint64_t margin = most(read_only * shape->page / 2, LEAST_MARGIN);
+    return leaving(shape, at, least(records_ahead(shape) / 4 * 3, margin));
 }
 
 bool fkv_awaits_warmer(fkv_file *file) {
@@ -199,13 +203,20 @@ static uint64_t thread_us(void) {
     return (uint64_t)time.tv_sec * 1000000 + (uint64_t)time.tv_nsec / 1000;
 }
 
-/* The same, without a rest. If it is behind, users let it go first meanwhile. */
-static void hurry(fkv_file *file, uint64_t to, bool is_behind) {
+/* Has users let it go first, or no more. */
+static void tell_behind(fkv_file *file, bool is_behind) {
+    if (is_behind != atomic_load_explicit(&file->is_behind, memory_order_relaxed)) atomic_store(&file->is_behind, is_behind);
+}
+
+/* The same, without a rest. Users let it go first meanwhile, until it has come so far as it has to. */
+static void hurry(fkv_file *file, uint64_t to, uint64_t least_far) {
+    const struct warmer *its = &file->warmer;
     uint64_t begun = thread_us();
     file->warmer.rests_until = (struct timespec){0, 0};
-    if (is_behind) atomic_store(&file->is_behind, !file->warmer.is_crowded);
-    do go_over(file, to, HURRY);
-    while (may_keep(file) && file->warmer.next < to && thread_us() - begun < HURRY_US);
+    do {
+        tell_behind(file, its->next < least_far && !its->is_crowded);
+        go_over(file, to, HURRY);
+    } while (may_keep(file) && its->next < to && thread_us() - begun < HURRY_US);
 }
 
 /* ---- Keys that reads have found ------------------------------------------------------------------------------------------------- */
@@ -294,7 +305,7 @@ static void step(fkv_file *file, const fkv_offsets *at, bool has_time) {
     its->next = most(its->next, at->head);
     /* (before something is appended nothing leaves memory) */
     if (at->tail == its->begun) ahead = late = 0;
-    if (its->next < late) hurry(file, late, its->next < least_far);
+    if (its->next < late) hurry(file, late, least_far);
     else if (has_time) work(file, at, ahead);
     its->has_more = its->next < late || (has_time && (its->next < ahead || has_found(file, at)));
 }
@@ -313,6 +324,5 @@ void fkv_warm(fkv_file *file, bool has_time) {
     bool is_stuck = its->is_awake && fkv_since(its->waits) >= STUCK_US;
     bool is_awaited = goes_on && its->is_on && at.tail != its->begun && !its->is_crowded && !is_stuck;
     atomic_store_explicit(&file->warmed, is_awaited ? its->next : UINT64_MAX, memory_order_relaxed);
-    bool is_behind = is_awaited && its->next < needed(&file->shape, &at);
-    if (is_behind != atomic_load_explicit(&file->is_behind, memory_order_relaxed)) atomic_store(&file->is_behind, is_behind);
+    tell_behind(file, is_awaited && its->next < needed(&file->shape, &at));
 }
