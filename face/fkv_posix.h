@@ -353,8 +353,9 @@ typedef struct {
  *           more than half of those that are there. So -FKV_LOG_FULL comes by an eighth of the log earlier at most. But for what a sweep wants nothing is kept
  *           any more where a sixteenth of that room is left, or 65,536 records if that is more. A renewal begins anew
  *   time    Half of the thread's at most, and none while a commit waits for sessions. If little time is left for what is about to leave memory,
- *           it works for it before each turn all the same, for 2 milliseconds at most. If half of that time is over, updates by calls of this
- *           header wait before they begin, for 0.2 seconds at most, and refresh their sessions meanwhile
+ *           it works for it before each turn all the same, for 2 milliseconds at most. If half of that time is over, or 32,768 records later
+ *           something would leave, updates by calls of this header wait before they begin, for 0.2 seconds at most, and refresh their sessions
+ *           meanwhile
  *
  * The log's front is given back if the log is longer than `log_bytes`, or where that is 0, than twice the records of all keys, or a megabyte if that is more. Then the
  * next commit is a full one, behind which the thread's turns go over the records of the front. The library's session keeps the keys that have
