@@ -357,17 +357,17 @@ typedef struct {
  *           something would leave, updates by calls of this header wait before they begin, for 0.2 seconds at most, and refresh their sessions
  *           meanwhile
  *
- * The log's front is given back if the log is longer than `log_bytes`, or where that is 0, than twice the records of all keys, or a megabyte if that is more. Then the
- * next commit is a full one, behind which the thread's turns go over the records of the front. The library's session keeps the keys that have
- * none further on: that makes new records. The log of a later commit begins behind the front, and once that is finished these bytes become a hole
- * of the file, which gets no shorter. With a longer log fewer keys are kept, and the thread works less.
+ * The log's front is given back if the log is longer than `log_bytes`, or where that is 0, than twice the records of all keys, or a megabyte if
+ * that is more. Then the next commit is a full one, behind which the thread's turns go over the records of the front. The library's session keeps
+ * the keys that have none further on: that makes new records. The log of a later commit begins behind the front, and once that is finished these
+ * bytes become a hole of the file, which gets no shorter. With a longer log fewer keys are kept, and the thread works less.
  *
  * That work is done between two commits, so one that is asked for may come 10 milliseconds later. One by the clock may come by `commit_ms` later if
- * the log is half as long again as it may be, and by four of them, a second at most, if it is twice as long. A key takes one record between two commits. So where no new keys come,
- * the log doesn't get much longer than that. If it can't be swept as fast as it grows, it goes on growing (fkv_stats), and loses nothing.
- * FKV_LOG_KEEPS gives nothing back. `untrimmed` is called once if it can't be: the store has no session for it, or the file system makes no holes; and with
- * EAGAIN once if the log is four times as long as it may be, as a full commit finds. The keys that are kept count to the library's share of the log, and
- * once that is spent no sweep goes on.
+ * the log is half as long again as it may be, by four of them if it is twice as long, and by eight, a second at most, if it is longer by half of
+ * that again. A key takes one record between two commits. So where no new keys come, the log doesn't get much longer than that. If it can't be
+ * swept as fast as it grows, it goes on growing (fkv_stats), and loses nothing. FKV_LOG_KEEPS gives nothing back. `untrimmed` is called once if it
+ * can't be: the store has no session for it, or the file system makes no holes; and with EAGAIN once if the log is four times as long as it may
+ * be, as a full commit finds. The keys that are kept count to the library's share of the log, and once that is spent no sweep goes on.
  *
  * If memory has no room for the newest records of all homes, more than three in four of those that leave it are such. Then pages are let go
  * as they are, until they are half at most. Of keys that share a home only the last updated is kept.

@@ -61,7 +61,9 @@ bool fkv_is_too_long(fkv_file *file) {
 uint64_t fkv_sweeps_us(fkv_file *file) {
     uint64_t limit = limit_of(file), length = length_from(file, file->trimmer.begin), commit_us = (uint64_t)file->keeping.commit_ms * 1000;
     if (!file->trimmer.is_on || length / 3 <= limit / 2) return 0;
-    return least(length / 2 > limit ? 4 * commit_us : commit_us, MOST_SWEEPS_US);
+    /* The longer the log, the more time has its sweep. */
+    uint64_t times = length / 5 > limit / 2 ? 8 : length / 2 > limit ? 4 : 1;
+    return least(times * commit_us, MOST_SWEEPS_US);
 }
 
 /* ---- Commits, and turns that sweep ---------------------------------------------------------------------------------------------- */

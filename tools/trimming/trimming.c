@@ -22,6 +22,7 @@
 #include <stdio.h>
 #include <stdlib.h>
 #include <string.h>
+#include <sys/resource.h>
 #include <time.h>
 #include <unistd.h>
 
@@ -35,11 +36,15 @@ struct sample {
     uint64_t at, kept;
 };
 
-/* `own` are those of the long calls that would be long too without the time for which the system had others run in the thread's place. */
+/*
+ * `own` are those of the long calls that would be long too without the time for which the system had others run in the thread's place. And the thread
+ * slept in them, or shortly before: who waits for another thread does. A call that took long though it never slept was held up by the machine.
+ */
 struct worker {
     uint64_t number, calls, longer, own_longer, kept_longer, longest, told;
     int schedstat;
     uint64_t delayed; /* nanoseconds for which it couldn't run, as it was when last looked at */
+    long slept;       /* how often it has slept by then */
 };
 
 static fkv_file *file;
@@ -135,18 +140,28 @@ static uint64_t delay_of(struct worker *its) {
     return since;
 }
 
+/* Whether the thread has slept since this was last asked. */
+static bool has_slept(struct worker *its) {
+    struct rusage usage;
+    if (getrusage(RUSAGE_THREAD, &usage)) exit(1);
+    bool slept = usage.ru_nvcsw != its->slept;
+    its->slept = usage.ru_nvcsw;
+    return slept;
+}
+
 static void note_call(struct worker *its, uint64_t from, uint64_t to) {
     uint64_t took = to - from, kept;
     its->calls++;
     if (took > its->longest) its->longest = took;
     if (took < LONG_NS) {
-        if (its->calls % LOOK == 0) (void)delay_of(its);
+        if (its->calls % LOOK == 0) (void)delay_of(its), (void)has_slept(its);
         return;
     }
     kept = atomic_load(&has_clock) ? kept_since(from) : 0;
     uint64_t delayed = delay_of(its);
+    bool slept = has_slept(its);
     its->longer++;
-    if (took < delayed + LONG_NS) return;
+    if (took < delayed + LONG_NS || !slept) return;
     its->own_longer++;
     its->kept_longer += kept >= LONG_NS;
 }
