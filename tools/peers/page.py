@@ -263,7 +263,7 @@ def alone(figures):
 
 def shared(figures):
     """Which cells of a table of both come from processes of their own."""
-    return " The peers' cells share a process; fkv's do so with 1,048,576 keys alone." if alone(figures) else ""
+    return " The peers' cells share a process; fkv's have their own." if alone(figures) else ""
 
 
 def beginning(figures):
