@@ -23,6 +23,8 @@ enum { BUCKET_BITS = 13, TAG_BITS = 15, HOMES = 1 << (BUCKET_BITS + TAG_BITS) };
 enum { SESSIONS_PLACE = 40, OVERFLOW_PLACE = 48, COMMIT_MS = 50, BLOCK = 64, ROUNDS = 20, CRASHES = 5, MOST_SECONDS = 280, TRIES = 3, PATH_ROOM = 500 };
 
 static const fkv_shape SHAPE = {BUCKET_BITS, PAGE, FRAMES, FRAMES * 3 / 4, SESSIONS, 8192, 4096};
+/* A commit alone makes a record read-only before its page is about to leave. */
+static const fkv_shape MUTABLE = {BUCKET_BITS, PAGE, FRAMES, FRAMES - 1, SESSIONS, 8192, 4096};
 /* Its log is soon full: it has room for four times as many records as the library leaves to users alone. */
 static const fkv_shape SHORT = {BUCKET_BITS, PAGE, FRAMES, FRAMES * 3 / 4, SESSIONS, 8192, 4 * 65536 / PAGE};
 static const char *folder;
@@ -237,10 +239,10 @@ static void *get(void *none) {
 }
 
 /* So many times as memory has records, records are appended while others are got. */
-static void turn_memory(bool no_warmer) {
+static void turn_memory(const fkv_shape *shape, bool no_warmer) {
     fkv_keeping keeping = {.commit_ms = COMMIT_MS, .log_commits = UINT32_MAX, .no_warmer = no_warmer, .unwarmed = note_unwarmed};
     pthread_t threads[2];
-    make("turns", &SHAPE);
+    make("turns", shape);
     open_at("turns", 0);
     told_unwarmed = 0;
     start(&keeping);
@@ -256,17 +258,31 @@ static void turn_memory(bool no_warmer) {
     WANTS("what is told", told_unwarmed, 0);
 }
 
-/* No get of what isn't updated waits, and all is as if nothing had been kept. */
-static void stays_warm(void) {
-    uint64_t points[FKV_MOST_SESSIONS], serial, other;
-    /* A machine that gives the keeper's thread no processor for long lets records go: one try of three has to be without. */
-    for (int tried = 1;; tried++) {
-        turn_memory(false);
-        if (waited == 0 || tried == TRIES) break;
+/*
+ * No get of what isn't updated waits. A machine that gives the keeper's thread no processor for long lets records go: two tries of three have to
+ * be without. The store of the last one stays open.
+ */
+static void turns_warm(const fkv_shape *shape) {
+    int tries[] = {0, 0};
+    for (;;) {
+        turn_memory(shape, false);
+        if (++tries[waited > 0] == TRIES / 2 + 1) break;
         close_store();
     }
-    fkv_stats stats = stats_now();
     WANTS("gets that had to wait", waited, 0);
+}
+
+/* So it is with pages of which all but one are mutable. */
+static void stays_warm_by_commits(void) {
+    turns_warm(&MUTABLE);
+    close_store();
+}
+
+/* None waits, and all is as if nothing had been kept. */
+static void stays_warm(void) {
+    uint64_t points[FKV_MOST_SESSIONS], serial, other;
+    turns_warm(&SHAPE);
+    fkv_stats stats = stats_now();
     WANTS("records that were read back", stats.cold_reads, 0);
     WANTS("whether records were kept", stats.kept > TURNS * KEYS / 4, true);
     WANTS("who is joined", stats.joined, 0);
@@ -294,7 +310,7 @@ static void stays_warm(void) {
 
 /* Without it gets wait, and a session's number stays. */
 static void goes_cold(void) {
-    turn_memory(true);
+    turn_memory(&SHAPE, true);
     WANTS("whether gets had to wait", waited > 0, true);
     WANTS("records that were kept", stats_now().kept, 0);
     wants_sessions(SESSIONS);
@@ -473,7 +489,7 @@ static void renewals(void) {
     fkv_shape more = SHAPE, fewer = SHAPE;
     uint64_t points[FKV_MOST_SESSIONS];
     more.sessions = SESSIONS + 3, fewer.sessions = 1;
-    turn_memory(false);
+    turn_memory(&SHAPE, false);
     WANTS("a commit", fkv_commit_and_wait(file, NULL), 0);
     fkv_last_commit(file, points);
     uint64_t point = points[0];
@@ -489,7 +505,7 @@ static void renewals(void) {
     WANTS("renewing it with fewer sessions", fkv_renew_here(file, &SHAPE, NULL), 0);
     wants_points(SESSIONS, point, 1);
     close_store();
-    turn_memory(false);
+    turn_memory(&SHAPE, false);
     WANTS("closing behind a commit", fkv_close_file(file), 0);
     unlink(path_of("renewed"));
     char from[PATH_ROOM];
@@ -540,6 +556,7 @@ int main(int count, char **words) {
     choose_keys();
     asked_for();
     older();
+    stays_warm_by_commits();
     stays_warm();
     found();
     idle();
