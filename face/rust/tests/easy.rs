@@ -90,7 +90,10 @@ fn a_session_reads_what_it_wrote_beside_commits() {
 #[test]
 fn the_last_commit_is_told() {
     let path = Path::new("spent");
-    drop(path.store(10));
+    // The log of a specified store has so many pages at most.
+    let wished = Shape::for_wish(&Wish::default().keys(10).sessions(3)).unwrap();
+    let shape = Shape { disk_pages: 65_536, ..wished };
+    Store::make(&path.0, &shape).unwrap();
     path.specify();
     let store = path.store(10);
     let (send, receive) = mpsc::channel();
