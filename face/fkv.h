@@ -56,7 +56,7 @@ const char *fkv_version(void);
 /*
  * The formats of files that this library opens, with a blank between two: "FKVSTOR1 FKVSTOR2". A store's file begins with the name of
  * its format, 8 bytes. The first is of specified stores, and the second of living ones, which alone this library makes. Of each, all
- * three kinds of commits' slots are read. Any other file is FKV_NOT_A_STORE. Never NULL.
+ * kinds of commits' slots are read. Any other file is FKV_NOT_A_STORE. Never NULL.
  */
 const char *fkv_formats(void);
 

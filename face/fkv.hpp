@@ -103,7 +103,7 @@ struct Keeping {
     std::function<void(std::int32_t fault)> stopped{}; /* once, as commits end for good, or the log is full: FKV_LOG_FULL */
     std::function<void()> unwarmed{};                  /* once, if memory can't be kept warm in this store */
     bool warms = true;                                 /* memory is kept warm, if it can be */
-    std::uint64_t log_bytes = 0;                       /* the log's front is given back if it is longer; 0: than twice the records of all keys */
+    std::uint64_t log_bytes = 0;                       /* the log's front is given back if it is longer; 0: than twice the records of all keys, or a megabyte */
     std::function<void(int why)> untrimmed{};          /* once, if it can't be: errno, or 0 where the store has no session for it; EAGAIN: if the log grows faster */
 };
 

@@ -354,7 +354,7 @@ typedef struct {
  *           any more where a sixteenth of that room is left, or 65,536 records if that is more. A renewal begins anew
  *   time    Half of the thread's at most, and none while a commit waits for sessions. If little time is left for what is about to leave memory,
  *           it works for it before each turn all the same, for 2 milliseconds at most. If half of that time is over, or 32,768 records later
- *           something would leave, updates by calls of this header wait before they begin, for 0.2 seconds at most, and refresh their sessions
+ *           something would leave, updates by calls of this header wait before they begin, for 3 milliseconds at most, and refresh their sessions
  *           meanwhile
  *
  * The log's front is given back if the log is longer than `log_bytes`, or where that is 0, than twice the records of all keys, or a megabyte if
@@ -363,8 +363,8 @@ typedef struct {
  * bytes become a hole of the file, which gets no shorter. With a longer log fewer keys are kept, and the thread works less.
  *
  * That work is done between two commits, so one that is asked for may come 10 milliseconds later. One by the clock may come by `commit_ms` later if
- * the log is half as long again as it may be, by four of them if it is twice as long, and by eight, a second at most, if it is longer by half of
- * that again. A key takes one record between two commits. So where no new keys come, the log doesn't get much longer than that. If it can't be
+ * the log is half as long again as it may be, by four of them if it is twice as long, and by sixteen, a second at most, if it is two and a half
+ * times as long. A key takes one record between two commits. So where no new keys come, the log doesn't get much longer than that. If it can't be
  * swept as fast as it grows, it goes on growing (fkv_stats), and loses nothing. FKV_LOG_KEEPS gives nothing back. `untrimmed` is called once if it
  * can't be: the store has no session for it, or the file system makes no holes; and with EAGAIN once if the log is four times as long as it may
  * be, as a full commit finds. The keys that are kept count to the library's share of the log, and once that is spent no sweep goes on.

@@ -15,7 +15,7 @@ enum {
     FACTOR = 2,
     LEAST_BYTES = 1 << 20,
     /* So many bytes are given back at once: others wait for the turn meanwhile. */
-    PIECE = 1 << 26,
+    PIECE = 1 << 22,
     /* So long a commit by the clock waits for turns that sweep, at most. */
     MOST_SWEEPS_US = 1000000,
     /* Most file systems give back blocks of so many bytes, or of fewer. */
@@ -62,7 +62,7 @@ uint64_t fkv_sweeps_us(fkv_file *file) {
     uint64_t limit = limit_of(file), length = length_from(file, file->trimmer.begin), commit_us = (uint64_t)file->keeping.commit_ms * 1000;
     if (!file->trimmer.is_on || length / 3 <= limit / 2) return 0;
     /* The longer the log, the more time has its sweep. */
-    uint64_t times = length / 5 > limit / 2 ? 8 : length / 2 > limit ? 4 : 1;
+    uint64_t times = length / 5 > limit / 2 ? 16 : length / 2 > limit ? 4 : 1;
     return least(times * commit_us, MOST_SWEEPS_US);
 }
 

@@ -16,8 +16,8 @@ enum {
     /* The clock is asked from so many polls on. */
     FIRST_POLLS = 8,
     PAUSES = 20,
-    /* An update lets the library's session go first, for so long at most. */
-    GIVES_WAY_US = 200000,
+    /* An update lets the library's session go first, for so long at most. It takes one record, and the next update lets it go first again. */
+    GIVES_WAY_US = 3000,
     /* Who waits for a commit that can't be finished, since an update waits for ever, is told so then. */
     STUCK_US = 1000000
 };

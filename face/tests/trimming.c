@@ -17,7 +17,7 @@
 #include <time.h>
 #include <unistd.h>
 
-enum { WORKERS = 3, KEYS = 3000, SELDOM = 64, MOVES = 2, LOG_BYTES = 1 << 19, MOST_SECONDS = 240, PATH_ROOM = 500, WAIT_NS = 2000000 };
+enum { WORKERS = 3, KEYS = 3000, SELDOM = 64, MOVES = 2, HOLDS = 8, LATE = 500, LOG_BYTES = 1 << 19, MOST_SECONDS = 240, PATH_ROOM = 500, WAIT_NS = 2000000 };
 enum { RECORD = 24, SLACK = 1 << 17, COLD_KEYS = 20000, REST_NS = 50000000 };
 
 /* Memory has a part of the log, so sweeps read the file too. */
@@ -102,6 +102,22 @@ static void wait_for_move(uint64_t begin) {
     while (stats_now().begin <= begin) nanosleep(&(struct timespec){0, WAIT_NS}, NULL);
 }
 
+/* What is given back lies below the begin of the newest finished commit, which is told shortly behind that. */
+static void wants_finished(void) {
+    int64_t given = atomic_load(&given_to);
+    for (int i = 0; i < LATE && given > place_of(stats_now().begin); i++) nanosleep(&(struct timespec){0, WAIT_NS}, NULL);
+    WANTS("whether a finished commit has let it go", given <= place_of(stats_now().begin), true);
+}
+
+/* A session that doesn't look holds the next commit up for a while, which may be the one that moves the begin. */
+static void hold_up(void) {
+    fkv_session *session;
+    WANTS("joining", fkv_join(file, FKV_ANY_SESSION, &session), 0);
+    nanosleep(&(struct timespec){0, REST_NS}, NULL);
+    wants_finished();
+    WANTS("leaving", fkv_leave(file, session), 0);
+}
+
 static void play(const char *name, uint32_t keys, uint32_t no_warmer) {
     fkv_keeping keeping = {.commit_ms = 5, .log_commits = 4, .log_bytes = LOG_BYTES, .untrimmed = note_untrimmed, .no_warmer = no_warmer};
     pthread_t threads[WORKERS];
@@ -112,6 +128,7 @@ static void play(const char *name, uint32_t keys, uint32_t no_warmer) {
     uint64_t first = stats_now().begin;
     for (int i = 0; i < WORKERS; i++) WANTS("starting a thread", pthread_create(&threads[i], NULL, add, counts[i]), 0);
     for (int i = 0; i < MOVES; i++) wait_for_move(stats_now().begin);
+    for (int i = 0; i < HOLDS; i++) hold_up();
     atomic_store(&ends, true);
     for (int i = 0; i < WORKERS; i++) pthread_join(threads[i], NULL);
     fkv_stats stats = stats_now();
@@ -173,6 +190,7 @@ static void refused(void) {
 static void all_wanted(void) {
     const fkv_shape shape = {12, 4096, 8, 4, 2, 2048, 0};
     fkv_session *session;
+    atomic_store(&given_to, 0);
     WANTS("making", fkv_make_file(path_of("cold"), &shape), 0);
     WANTS("opening", fkv_open_file(path_of("cold"), NULL, &file), 0);
     WANTS("starting the keeper", fkv_start(file, &(fkv_keeping){.commit_ms = 20, .log_bytes = COLD_KEYS / 2 * RECORD}), 0);
@@ -210,20 +228,20 @@ static void alone(void) {
     WANTS("why", atomic_load(&why_untrimmed), 0);
 }
 
-/* A log that may have no record is too long at once. */
-static void too_long(void) {
+/* A log that may have no record is too long at once. What the keeper is told goes before what was wished for. */
+static void too_long(uint64_t wished, uint64_t log_bytes, bool is_told) {
     fkv_session *session;
     atomic_store(&untold, 0);
-    WANTS("opening", fkv_open_file(path_of("store"), NULL, &file), 0);
-    WANTS("starting the keeper", fkv_start(file, &(fkv_keeping){.log_bytes = 1, .untrimmed = note_untrimmed}), 0);
+    WANTS("opening", fkv_open_or_make(path_of("store"), &(fkv_wish){.log_bytes = wished}, &file), 0);
+    WANTS("starting the keeper", fkv_start(file, &(fkv_keeping){.log_bytes = log_bytes, .untrimmed = note_untrimmed}), 0);
     WANTS("joining", fkv_join(file, FKV_ANY_SESSION, &session), 0);
     WANTS("a put", fkv_put(file, session, 1, 1, NULL), FKV_DONE);
     WANTS("a commit", fkv_commit_and_wait(file, session), 0);
     WANTS("another commit", fkv_commit_and_wait(file, session), 0);
     WANTS("leaving", fkv_leave(file, session), 0);
     WANTS("closing", fkv_close_file(file), 0);
-    WANTS("whether it was told", atomic_load(&untold) > 0, true);
-    WANTS("why", atomic_load(&why_untrimmed), EAGAIN);
+    WANTS("whether it was told", atomic_load(&untold) > 0, is_told);
+    if (is_told) WANTS("why", atomic_load(&why_untrimmed), EAGAIN);
 }
 
 int main(int count, char **words) {
@@ -235,7 +253,9 @@ int main(int count, char **words) {
     play("store", FKV_SPREAD, 1);
     renew();
     keeps();
-    too_long();
+    too_long(0, 1, true);
+    too_long(1, 0, true);
+    too_long(1, FKV_LOG_KEEPS, false);
     refused();
     memset(counts, 0, sizeof counts);
     WANTS("making another", fkv_make_file(path_of("spread"), &SHAPE), 0);

@@ -11,6 +11,7 @@
  */
 #define _GNU_SOURCE
 #include "fkv_posix.h"
+#include "held_up.h"
 
 #include <errno.h>
 #include <fcntl.h>
@@ -28,23 +29,20 @@
 
 enum { WORKERS = 4, KEYS = 65536, COMMIT_MS = 50, LINE = 200, RECORD = 24, LOG_COMMITS = 1000000 };
 
-/* A call is long from here on. */
-enum { LONG_NS = 5000000, SAMPLE_NS = 500000, SAMPLES = 1 << 13, LOOK = 1 << 12, PIECE = 1 << 16 };
+enum { SAMPLE_NS = 500000, SAMPLES = 1 << 13, PIECE = 1 << 16 };
 
 /* When, and how long the keeper's thread had run by its own clock. */
 struct sample {
     uint64_t at, kept;
 };
 
-/*
- * `own` are those of the long calls that would be long too without the time for which the system had others run in the thread's place. And the thread
- * slept in them, or shortly before: who waits for another thread does. A call that took long though it never slept was held up by the machine.
- */
+/* `own` are those of the long calls that are long by themselves, and `by_keeper` those of them in which the keeper's thread ran so long. */
 struct worker {
-    uint64_t number, calls, longer, own_longer, kept_longer, longest, told;
+    uint64_t number, calls, longer, own, by_keeper, longest, told;
     int schedstat;
     uint64_t delayed; /* nanoseconds for which it couldn't run, as it was when last looked at */
     long slept;       /* how often it has slept by then */
+    struct calls held, waited; /* calls that the machine held up, and long ones that it didn't hold up alone */
 };
 
 static fkv_file *file;
@@ -52,6 +50,7 @@ static atomic_bool ends, has_clock, is_told;
 static clockid_t keeper_clock;
 static struct sample samples[SAMPLES];
 static _Atomic uint64_t sampled;
+static struct thefts thefts;
 static atomic_int why_untrimmed;
 static uint64_t seed;
 
@@ -127,7 +126,7 @@ static uint64_t draw(uint64_t *random) {
     return *random;
 }
 
-/* For how long the thread could run and hadn't a processor, since this was last asked. The call that is noted is the last but LOOK at most. */
+/* For how long the thread could run and hadn't a processor, since this was last asked. */
 static uint64_t delay_of(struct worker *its) {
     char text[LINE];
     unsigned long ran, delayed;
@@ -149,21 +148,33 @@ static bool has_slept(struct worker *its) {
     return slept;
 }
 
-static void note_call(struct worker *its, uint64_t from, uint64_t to) {
-    uint64_t took = to - from, kept;
-    its->calls++;
+static void look_at(struct worker *its, uint64_t from, uint64_t to) {
+    uint64_t took = to - from, delayed = delay_of(its);
+    struct call call = {from, to, has_slept(its) ? fewer(delayed, took) : took, 0};
     if (took > its->longest) its->longest = took;
-    if (took < LONG_NS) {
-        if (its->calls % LOOK == 0) (void)delay_of(its), (void)has_slept(its);
-        return;
-    }
-    kept = atomic_load(&has_clock) ? kept_since(from) : 0;
-    uint64_t delayed = delay_of(its);
-    bool slept = has_slept(its);
+    if (call.held >= HELD_NS) keep_call(&its->held, call);
+    if (took < LONG_NS) return;
     its->longer++;
-    if (took < delayed + LONG_NS || !slept) return;
-    its->own_longer++;
-    its->kept_longer += kept >= LONG_NS;
+    if (took - call.held < LONG_NS) return;
+    call.kept = atomic_load(&has_clock) ? kept_since(from) : 0;
+    if (keep_call(&its->waited, call)) return;
+    its->own++;
+    its->by_keeper += call.kept >= LONG_NS;
+}
+
+/* Which of its long calls are so by themselves. */
+static void judge(struct worker *workers, struct worker *its) {
+    for (size_t i = 0; i < its->waited.count; i++) {
+        const struct call *call = &its->waited.its[i];
+        uint64_t most = 0;
+        for (int j = 0; j < WORKERS; j++) {
+            uint64_t held = &workers[j] == its ? 0 : held_meanwhile(&workers[j].held, call);
+            if (held > most) most = held;
+        }
+        if (call->to - call->from < call->held + most + LONG_NS || was_stolen(&thefts, call)) continue;
+        its->own++;
+        its->by_keeper += call->kept >= LONG_NS;
+    }
 }
 
 static void tell_durable(struct worker *its, fkv_session *session, uint64_t serial) {
@@ -179,7 +190,7 @@ static void *work(void *it) {
     fkv_session *session;
     fkv_update update;
     its->schedstat = open("/proc/thread-self/schedstat", O_RDONLY);
-    (void)delay_of(its);
+    (void)delay_of(its), (void)has_slept(its);
     must(fkv_join(file, its->number, &session), "join");
     must(fkv_durable(session, &its->told), "durable");
     uint64_t from = ns_of(CLOCK_MONOTONIC);
@@ -187,7 +198,8 @@ static void *work(void *it) {
         must(fkv_increment(file, session, draw(&random) % KEYS, 1, &update), "increment");
         must(fkv_tick(file, session), "tick");
         uint64_t to = ns_of(CLOCK_MONOTONIC);
-        note_call(its, from, to);
+        its->calls++;
+        if (to - from >= LOOKED_AT_NS) look_at(its, from, to);
         from = to;
         if (atomic_load_explicit(&is_told, memory_order_relaxed) && its->calls % 64 == 0) tell_durable(its, session, update.serial);
     }
@@ -262,7 +274,8 @@ static void begin_workers(struct worker *workers, pthread_t *threads) {
 
 /* Tells the rate, the long calls, and how the log and the file have grown. */
 static void measure(long seconds) {
-    struct worker workers[WORKERS] = {0}, all = {0};
+    static struct worker workers[WORKERS];
+    static struct worker all;
     pthread_t threads[WORKERS];
     fkv_stats first, now;
     uint64_t most_disk = 0, begun = ns_of(CLOCK_MONOTONIC), until = begun + (uint64_t)seconds * 1000000000u;
@@ -271,6 +284,7 @@ static void measure(long seconds) {
     for (uint64_t i = 0; ns_of(CLOCK_MONOTONIC) < until; i++) {
         rest(SAMPLE_NS);
         if (atomic_load(&has_clock)) take_sample();
+        if (i % 8 == 0) look_for_theft(&thefts, ns_of(CLOCK_MONOTONIC));
         if (i % 64) continue;
         must(fkv_stats_of(file, &now), "stats");
         if (now.disk_bytes > most_disk) most_disk = now.disk_bytes;
@@ -279,17 +293,18 @@ static void measure(long seconds) {
     atomic_store(&ends, true);
     for (int i = 0; i < WORKERS; i++) pthread_join(threads[i], NULL);
     for (int i = 0; i < WORKERS; i++) {
-        all.calls += workers[i].calls, all.longer += workers[i].longer, all.own_longer += workers[i].own_longer, all.kept_longer += workers[i].kept_longer;
+        judge(workers, &workers[i]);
+        all.calls += workers[i].calls, all.longer += workers[i].longer, all.own += workers[i].own, all.by_keeper += workers[i].by_keeper;
         if (workers[i].longest > all.longest) all.longest = workers[i].longest;
     }
     must(fkv_stats_of(file, &now), "stats");
-    say("calls %lu ns %lu long %lu own %lu by-keeper %lu longest-us %lu\n", all.calls, took, all.longer, all.own_longer, all.kept_longer, all.longest / 1000);
+    say("calls %lu ns %lu long %lu own %lu by-keeper %lu longest-us %lu\n", all.calls, took, all.longer, all.own, all.by_keeper, all.longest / 1000);
     say("commits %lu begin %lu tail %lu swept %lu kept %lu disk %lu keeper-ns %lu untrimmed %d\n", now.commits - first.commits, now.begin, now.tail - first.tail,
         now.swept, now.kept, most_disk, kept, atomic_load(&why_untrimmed));
 }
 
 static void live(void) {
-    struct worker workers[WORKERS] = {0};
+    static struct worker workers[WORKERS];
     pthread_t threads[WORKERS];
     atomic_store(&is_told, true);
     begin_workers(workers, threads);
