@@ -9,11 +9,11 @@ C = [os.environ.get("CC", "cc"), "-std=c11", "-O2", "-Wall", "-Wextra", "-pedant
 KEYS = 65536
 LIVE_BYTES = KEYS * 24
 MEASURED = re.compile(
-    r"^calls (\d+) ns (\d+) long (\d+) own (\d+) by-keeper (\d+) longest-us (\d+)\n"
+    r"^calls (\d+) ns (\d+) long (\d+) own (\d+) by-keeper (\d+) left-out (\d+) thefts (\d+) longest-us (\d+)\n"
     r"commits (\d+) begin (\d+) tail (\d+) swept (\d+) kept (\d+) disk (\d+) keeper-ns (\d+) untrimmed (-?\d+)\n"
     r"opened .*\nsum (\d+) agrees\n$"
 )
-NAMES = ("calls", "ns", "long", "own", "by_keeper", "longest_us", "commits", "begin", "tail", "swept", "kept", "disk", "keeper_ns", "untrimmed", "sum")
+NAMES = ("calls", "ns", "long", "own", "by_keeper", "left_out", "thefts", "longest_us", "commits", "begin", "tail", "swept", "kept", "disk", "keeper_ns", "untrimmed", "sum")
 
 
 def built(library, room, headers=f"{HERE}/../../face"):

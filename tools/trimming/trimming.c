@@ -36,9 +36,12 @@ struct sample {
     uint64_t at, kept;
 };
 
-/* `own` are those of the long calls that are long by themselves, and `by_keeper` those of them in which the keeper's thread ran so long. */
+/*
+ * `own` are those of the long calls that are long by themselves, and `by_keeper` those of them in which the keeper's thread ran so long. `left_out`
+ * are those that slept and had a processor, in which another session was held up, or the host took a processor away.
+ */
 struct worker {
-    uint64_t number, calls, longer, own, by_keeper, longest, told;
+    uint64_t number, calls, longer, own, by_keeper, left_out, longest, told;
     int schedstat;
     uint64_t delayed; /* nanoseconds for which it couldn't run, as it was when last looked at */
     long slept;       /* how often it has slept by then */
@@ -171,7 +174,10 @@ static void judge(struct worker *workers, struct worker *its) {
             uint64_t held = &workers[j] == its ? 0 : held_meanwhile(&workers[j].held, call);
             if (held > most) most = held;
         }
-        if (call->to - call->from < call->held + most + LONG_NS || was_stolen(&thefts, call)) continue;
+        if (call->to - call->from < call->held + most + LONG_NS || was_stolen(&thefts, call)) {
+            its->left_out++;
+            continue;
+        }
         its->own++;
         its->by_keeper += call->kept >= LONG_NS;
     }
@@ -295,10 +301,12 @@ static void measure(long seconds) {
     for (int i = 0; i < WORKERS; i++) {
         judge(workers, &workers[i]);
         all.calls += workers[i].calls, all.longer += workers[i].longer, all.own += workers[i].own, all.by_keeper += workers[i].by_keeper;
+        all.left_out += workers[i].left_out;
         if (workers[i].longest > all.longest) all.longest = workers[i].longest;
     }
     must(fkv_stats_of(file, &now), "stats");
-    say("calls %lu ns %lu long %lu own %lu by-keeper %lu longest-us %lu\n", all.calls, took, all.longer, all.own, all.by_keeper, all.longest / 1000);
+    say("calls %lu ns %lu long %lu own %lu by-keeper %lu left-out %lu thefts %zu longest-us %lu\n", all.calls, took, all.longer, all.own, all.by_keeper, all.left_out,
+        thefts.count, all.longest / 1000);
     say("commits %lu begin %lu tail %lu swept %lu kept %lu disk %lu keeper-ns %lu untrimmed %d\n", now.commits - first.commits, now.begin, now.tail - first.tail,
         now.swept, now.kept, most_disk, kept, atomic_load(&why_untrimmed));
 }
